@@ -44,28 +44,28 @@ with_literal l cubes = map (λ c. l ∷ c) cubes
 
 -- ---- prime implicants
 
--- The prime implicants of a function of truth values, from those where the first feature is in, those where it is out,
--- and those of the function that is true where both are.
+-- The prime implicants of a function of truth values. They come from those of three functions: the first feature in,
+-- the first feature out, and both of these true.
 abbrev pub merged : ℕ → List Cube → List Cube → List Cube → List Cube
 merged x ins outs shared =
     with_literal record { feature = x; value = true } (unshared ins shared)
     ++ (with_literal record { feature = x; value = false } (unshared outs shared) ++ shared)
 
--- The prime implicants of a truth function of features, whose row of values is in the features' order: first those that
--- need the first feature in, then those that need it out, then those that do without it.
+-- The prime implicants of a truth function of features; its rows of values are in the features' order. First come those
+-- that need the first feature in, then those that need it out, then those that do without it.
 abbrev pub implicants : List ℕ → (List Bool → Bool) → List Cube
 implicants [] f = if f [] then [] ∷ [] else []
 implicants (x ∷ xs) f =
     merged x (implicants xs (λ row. f (true ∷ row))) (implicants xs (λ row. f (false ∷ row)))
     (implicants xs (λ row. f (true ∷ row) && f (false ∷ row)))
 
--- a set, and the features of a list in where the row has true
+-- a set, with the features of a list in where the row has true
 abbrev pub set_with : List ℕ → List Bool → List Bool → List Bool
 set_with [] row set = set
 set_with (x ∷ xs) [] set = set
 set_with (x ∷ xs) (b ∷ row) set = set_with xs row (if b then slice_set set x true else set)
 
--- the truth of a guard where features have the values of a row, and all others are out
+-- the truth of a guard if features have the values of a row, and all others are out
 abbrev pub row_truth : ℕ → List ℕ → Formula → List Bool → Bool
 row_truth n xs g row = truth (set_with xs row (replicate n false)) g
 
@@ -78,13 +78,13 @@ prime_implicants n g = implicants (named_below n g) (row_truth n (named_below n 
 abbrev pub literal_formula : Literal → Formula
 literal_formula l = if l.value then feature l.feature else negation (feature l.feature)
 
--- the `and` of parts: the part itself where it is one
+-- the `and` of parts: the part itself if it is one
 abbrev pub and_of : Parts → Formula
 and_of no_parts = always
 and_of (part g no_parts) = g
 and_of (part g (part h gs)) = all (part g (part h gs))
 
--- the `or` of parts, likewise
+-- the `or` of parts: the part itself if it is one
 abbrev pub or_of : Parts → Formula
 or_of no_parts = never
 or_of (part g no_parts) = g

@@ -1,5 +1,5 @@
--- Guards whose three-valued value is known as early as it can be: that a supervaluation has (van Fraassen, Singular
--- Terms, Truth-Value Gaps, and Free Logic, 1966).
+-- Guards with a three-valued value that is known as early as it can be, as that of a supervaluation is (van Fraassen,
+-- Singular Terms, Truth-Value Gaps, and Free Logic, 1966).
 use Rattle.std.specs.Prelude.{◌≡◌, ℕ, ◌<◌, List, length, Bool, slice_index_or}
 use Rattle.vpg_guards.specs.declared.tri.Tri.{Tri}
 use Rattle.vpg_guards.specs.Formula.{Formula}
@@ -10,6 +10,6 @@ use Rattle.vpg_blake.specs.Blake.{IsCertain, tri_of}
 abbrev pub IsSharp : Formula → Type 0
 IsSharp g = (known : List Tri) (b : Bool) → IsCertain known g b → kleene known g ≡ tri_of b
 
--- no number stands twice
+-- no number occurs twice
 abbrev pub AreDifferent : List ℕ → Type 0
 AreDifferent xs = (i j : ℕ) → i < j → j < length xs → slice_index_or xs i 0 ≡ slice_index_or xs j 0 → ⊥

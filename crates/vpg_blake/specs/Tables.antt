@@ -1,4 +1,4 @@
--- The steps of the work on truth tables, as functions on lists: what private contracts name. This project's own.
+-- The steps of the work on truth tables, as functions on lists, for private contracts. This project's own.
 use Rattle.std.specs.Prelude.{ℕ, List, [], ◌∷◌, ◌++◌, Bool, true, false, ◌&&◌, ◌/◌, map, zip, take, drop, length, if◌then◌else◌, slice_index_or, slice_set}
 use Rattle.vpg_guards.specs.Formula.{Formula, truth}
 use Rattle.vpg_blake.specs.Blake.{Cube, merged}
@@ -8,7 +8,7 @@ abbrev pub table_from : Formula → List ℕ → List Bool → List Bool
 table_from g [] set = truth set g ∷ []
 table_from g (x ∷ xs) set = table_from g xs (slice_set set x true) ++ table_from g xs set
 
--- the rows in which both tables are true
+-- the rows that are true in both tables
 abbrev pub both_true : List Bool → List Bool → List Bool
 both_true with without = map (λ p. p.0 && p.1) (zip with without)
 

@@ -13,14 +13,14 @@ use crate::table::{named_features, push_rows};
 use std::alloc::{AllocError, Global};
 use vpg_guards::Guard;
 
-/// The most features that a guard may name to be brought into Blake's form, as the work grows with 3 to their number.
+/// The greatest number of features in a guard that is brought into Blake's form. The work grows with 3 to their number.
 pub const MOST_NAMED: usize = 6;
 
-/// The most prime implicants that Blake's form may have: a form that is longer would serve no reader, and be slow in
-/// each evaluation.
+/// The greatest number of prime implicants in Blake's form. A longer form would serve no reader, and be slow in each
+/// evaluation.
 pub const MOST_IMPLICANTS: usize = 64;
 
-/// The `or` of the guard's prime implicants, unless the guard names too many features or has too many of them.
+/// Returns the `or` of the guard's prime implicants, unless the guard names too many features or has too many of them.
 fn short_form(alloc: Global, guard: &Guard, features: usize) -> Result<Option<Guard>, AllocError>
     requires { IsBelow features (formula_of guard.now) }
     ensures { IfOk result (λ made. MatchOption made (IsShort features (formula_of guard.now) → ⊥)
@@ -40,12 +40,11 @@ fn short_form(alloc: Global, guard: &Guard, features: usize) -> Result<Option<Gu
     Ok(Some(disjunction(alloc, &cubes)?))
 }
 
-/// Returns Blake's form of a guard over so many features: the `or` of its prime implicants. A guard that names more
-/// than `MOST_NAMED` features, or has more than `MOST_IMPLICANTS` prime implicants, is returned as it is.
+/// Returns Blake's form of a guard over this many features: the `or` of its prime implicants. A guard is returned
+/// unchanged if it names more than `MOST_NAMED` features, or has more than `MOST_IMPLICANTS` prime implicants.
 ///
-/// The implicants come in a fixed order: those that need the first of the features in, those that need it out, those
-/// that do without it, and so on by the next features. A guard that is always true becomes `true`, one that never is
-/// `false`.
+/// The implicants come in a fixed order: those that need the first feature in, those that need it out, those that do
+/// without it, and so on by the next features. A guard that is always true becomes `true`, one that never is `false`.
 pub fn blake_form(alloc: Global, guard: Guard, features: usize) -> Result<Guard, AllocError>
     requires { IsReadable features (formula_of guard) }
 

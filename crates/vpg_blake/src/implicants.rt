@@ -6,7 +6,7 @@ ghost use Rattle.vpg_blake.specs.Tables.{both_true, table_implicants};
 use crate::literal::Literal;
 use std::alloc::{AllocError, Global};
 
-/// The rows in which both tables are true.
+/// Returns the rows that are true in both tables.
 fn both_hold(alloc: Global, with: &[bool], without: &[bool]) -> Result<Vec<bool>, AllocError>
     ensures { IfOk result (λ v. v.items ≡ both_true with.now without.now) }
 {
@@ -50,8 +50,8 @@ fn push_others(
     Ok(())
 }
 
-/// The prime implicants of a table's rows, by splitting on the first feature: those that need it in, those that need it
-/// out, and those that do without it, which are the prime implicants of the rows that are true either way.
+/// Returns the prime implicants of a table's rows, by splitting on the first feature. First come those that need it in,
+/// then those that need it out. Those that do without it are the prime implicants of the rows that are true either way.
 pub(crate) fn implicants(
     alloc: Global,
     features: &[u16],
@@ -71,7 +71,7 @@ pub(crate) fn implicants(
     };
     let feature = *first;
     let (with, without) = table.split_at(table.len() / 2);
-    // The feature is of no account here, so the three tables below are one.
+    // The feature does not matter here, so the three tables below are one.
     if with == without {
         return implicants(alloc, rest, with);
     }

@@ -7,7 +7,7 @@ use crate::literal::Literal;
 use std::alloc::{AllocError, Global};
 use vpg_guards::{Guard, Guards};
 
-/// A literal as a guard.
+/// Returns a literal as a guard.
 fn literal_guard(alloc: Global, literal: &Literal) -> Result<Guard, AllocError>
     ensures { IfOk result (λ g. formula_of g ≡ literal_formula literal.now) }
 {
@@ -19,7 +19,7 @@ fn literal_guard(alloc: Global, literal: &Literal) -> Result<Guard, AllocError>
     }
 }
 
-/// The `and` of guards: the guard itself where it is one, `true` where there is none.
+/// Returns the `and` of guards: the guard itself if it is one, `true` if there is none.
 fn all_of(mut parts: Vec<Guard>) -> Guard
     ensures { formula_of result ≡ and_of (formulas_of parts.items) }
 {
@@ -32,7 +32,7 @@ fn all_of(mut parts: Vec<Guard>) -> Guard
     }
 }
 
-/// The `or` of guards: the guard itself where it is one, `false` where there is none.
+/// Returns the `or` of guards: the guard itself if it is one, `false` if there is none.
 fn any_of(mut parts: Vec<Guard>) -> Guard
     ensures { formula_of result ≡ or_of (formulas_of parts.items) }
 {
@@ -45,7 +45,7 @@ fn any_of(mut parts: Vec<Guard>) -> Guard
     }
 }
 
-/// A cube as a guard.
+/// Returns a cube as a guard.
 fn cube_guard(alloc: Global, cube: &[Literal]) -> Result<Guard, AllocError>
     ensures { IfOk result (λ g. formula_of g ≡ cube_formula cube.now) }
 {
@@ -56,7 +56,7 @@ fn cube_guard(alloc: Global, cube: &[Literal]) -> Result<Guard, AllocError>
     Ok(all_of(parts))
 }
 
-/// The `or` of cubes as a guard.
+/// Returns the `or` of cubes as a guard.
 pub(crate) fn disjunction(alloc: Global, cubes: &[Vec<Literal>]) -> Result<Guard, AllocError>
     ensures { IfOk result (λ g. formula_of g ≡ disjunction (cubes_in cubes.now)) }
 {

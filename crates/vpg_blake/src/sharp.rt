@@ -1,4 +1,4 @@
-//! Guards whose three-valued value is known as early as it can be.
+//! Guards with a three-valued value that is known as early as it can be.
 ghost use Rattle.std.specs.Prelude.{◌≡◌, ◌↔◌, IsTrue, List, Bool, IfOk};
 ghost use Rattle.vpg_guards.specs.Formula.{truth, named};
 ghost use Rattle.vpg_guards.specs.View.{formula_of};
@@ -10,7 +10,7 @@ use crate::form::blake_form;
 use std::alloc::{AllocError, Global};
 use vpg_guards::Guard;
 
-/// Whether no number stands twice.
+/// Whether no number occurs twice.
 fn are_different(numbers: &[u16]) -> bool
     ensures { IsTrue result ↔ AreDifferent numbers.now }
 {
@@ -22,10 +22,10 @@ fn are_different(numbers: &[u16]) -> bool
     true
 }
 
-/// Returns the guard in a form whose three-valued value is known wherever all products that agree with what is known
-/// agree on the guard.
+/// Returns the guard in a form with a three-valued value that is known wherever all products that agree with what is
+/// known agree on the guard.
 ///
-/// A guard that names no feature twice has this form already, and is returned as it is. Any other is returned in
+/// A guard that names no feature twice has this form already, and is returned unchanged. Any other is returned in
 /// Blake's form, unless that would be too long (`blake_form`).
 pub fn sharp_form(alloc: Global, guard: Guard, features: usize) -> Result<Guard, AllocError>
     requires { IsReadable features (formula_of guard) }

@@ -8,7 +8,7 @@ ghost use Rattle.vpg_blake.specs.Tables.{table_from};
 use std::alloc::{AllocError, Global};
 use vpg_guards::Guard;
 
-/// The feature of this number, where it is one of these.
+/// Returns the feature of this number, if it is one of these.
 fn find_feature(named: &[u16], feature: usize) -> Option<u16>
     ensures { result ≡ find (λ h. h == feature) named.now }
 {
@@ -20,7 +20,7 @@ fn find_feature(named: &[u16], feature: usize) -> Option<u16>
     None
 }
 
-/// The features that the guard names, ascending, each once; those from `features` on are left out.
+/// Returns the features that the guard names, ascending, each once; those from `features` on are left out.
 pub(crate) fn named_features(
     alloc: Global,
     guard: &Guard,
@@ -39,7 +39,7 @@ pub(crate) fn named_features(
     Ok(ascending)
 }
 
-/// A copy of the set, with a feature in.
+/// Returns a copy of the set, with a feature in.
 fn with_feature(alloc: Global, set: &[bool], feature: u16) -> Result<Vec<bool>, AllocError>
     requires { feature < length set.now }
     ensures { IfOk result (λ v. v.items ≡ slice_set set.now feature true) }
@@ -49,8 +49,8 @@ fn with_feature(alloc: Global, set: &[bool], feature: u16) -> Result<Vec<bool>, 
     Ok(with)
 }
 
-/// Adds the truth of the guard for each choice of the features, those with the first feature in before those with it
-/// out; the other features are as in the set, and so are these where a choice has them out.
+/// Adds the truth of the guard for each choice of the features; those with the first feature in come first. The other
+/// features are as in the set, and so are chosen features that the choice has out.
 pub(crate) fn push_rows(
     alloc: Global,
     guard: &Guard,

@@ -1,11 +1,11 @@
--- What a lifter that shares its tables with nobody has done. This project's own.
+-- The work of a lifter that shares its tables with nobody. This project's own.
 use Rattle.std.specs.Prelude.{ℕ, ◌<◌, ◌≤◌, slice_index}
 use Rattle.vpg_hope.specs.Arena.{vertex_at}
 use Rattle.vpg_verdict.specs.declared.which.Which.{Which}
 use Rattle.vpg_measure.specs.Lifts.{lift_of, IsBelowTable}
 use Rattle.vpg_measure.specs.Orders.{HarvestView, IsHarvest, IsSameOrder, order_levels, order_arena, harvest_table}
 
--- two harvests of the same order, of which the second has no smaller value
+-- two harvests of the same order; the second has no smaller value
 pub record Rises (old new : HarvestView) : Type 0 where
   pub from : IsHarvest old
   pub to : IsHarvest new

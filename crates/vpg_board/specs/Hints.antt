@@ -2,6 +2,6 @@
 use Rattle.std.specs.Prelude.{ℕ, ◌<◌}
 use Rattle.vpg_verdict.specs.declared.which.Which.{Which}
 
--- a hint names a table and a vertex of a game of so many vertices
+-- a hint names a table and a vertex of a game of this many vertices
 abbrev pub IsHint : ℕ → Which × ℕ → Type 0
 IsHint n hint = hint.1 < n

@@ -1,4 +1,4 @@
--- What a lifter knows, and how each step changes it. This project's own.
+-- The knowledge of a lifter, and how each step changes it. This project's own.
 use Rattle.std.specs.Prelude.{ℕ, ◌+◌, ◌||◌, true, false, nat_lt, if◌then◌else◌, max, List, [], ◌∷◌, ◌++◌, slice_set}
 use Rattle.vpg_measure.specs.Orders.{OrderView}
 use Rattle.vpg_board.specs.declared.lifter.Lifter.{Lifter}
@@ -19,7 +19,7 @@ opener order =
 abbrev pub sees : Lifter → ℕ → ℕ → Lifter
 sees v place n = record v { seen = slice_set v.seen place n }
 
--- this claim number came, on a board of so many places: a claim, or an empty one where all places are gone
+-- this claim number came, on a board of this many places: a claim, or an empty one if all places are gone
 abbrev pub claims : ℕ → Lifter → ℕ → Lifter
 claims size v n = record v {
   claims = if nat_lt n size then v.claims ++ n ∷ [] else v.claims;
@@ -34,7 +34,7 @@ splits v = record v { splits = v.splits + 1 }
 abbrev pub newcomer : Lifter → Lifter
 newcomer v = record v { claims = []; empty = 0; splits = 0; stands = 1; opening = false }
 
--- a lifter takes in another
+-- one lifter merges another
 abbrev pub both : Lifter → Lifter → Lifter
 both v w = record v {
   seen = greater v.seen w.seen;
@@ -58,6 +58,6 @@ no_order = record {
   dual_room = [];
 }
 
--- a lifter that another took in
+-- a lifter that another merged
 abbrev pub spent : Lifter
 spent = record { order = no_order; seen = []; claims = []; empty = 0; splits = 0; stands = 0; opening = false }

@@ -1,4 +1,4 @@
--- What a lift has done after it has loaded some of the successors.
+-- The state of a lift that has loaded some of the successors.
 use Rattle.std.specs.Prelude.{ℕ, List, map, take, slice_index}
 use Rattle.vpg_game.specs.Levels.{top_of}
 use Rattle.vpg_hope.specs.Arena.{vertex_at}

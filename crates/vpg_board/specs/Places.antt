@@ -1,5 +1,5 @@
--- The measures of a board: both tables of an order, one behind the other. A place is a vertex of the first table, or a
--- vertex of the second behind all of the first. This project's own.
+-- The measures of a board: both tables of an order, one after the other. A place is a vertex of the hopeful table, or a
+-- vertex of the dual one after all of the hopeful one. This project's own.
 use Rattle.std.specs.Prelude.{◌≡◌, ℕ, ◌+◌, ◌-◌, ◌≤◌, nat_lt, if◌then◌else◌, List, ◌++◌, length, take, drop, slice_index}
 use Rattle.vpg_guards.specs.Known.{kleene}
 use Rattle.vpg_game.specs.Game.{graph_of}
@@ -10,15 +10,15 @@ use Rattle.vpg_measure.specs.Lifts.{lift_of}
 use Rattle.vpg_measure.specs.Orders.{OrderView, order_levels, order_arena}
 use Rattle.vpg_measure.specs.TwoGames.{IsProgressOf}
 
--- how many vertices the order's game has
+-- the number of vertices of the order's game
 abbrev pub vertices : OrderView → ℕ
 vertices order = length order.game.vertices
 
--- how many words two tables have
+-- the number of words of two tables
 abbrev pub places : OrderView → ℕ
 places order = vertices order + vertices order
 
--- the place of a vertex: the two tables stand one after the other
+-- the place of a vertex: the two tables come one after the other
 abbrev pub place_of : OrderView → Which → ℕ → ℕ
 place_of order Hopeful v = v
 place_of order Dual v = vertices order + v
@@ -48,6 +48,6 @@ pub record AreProgress (order : OrderView) (words : List ℕ) : Type 0 where
   pub each : (which : Which) →
       IsProgressOf (kleene order.known) which (graph_of order.game) (table_in order which words)
 
--- each value is at most the other's, where nothing stands for zero
+-- each value is at most the other's; a missing value counts as zero
 abbrev pub Below : List ℕ → List ℕ → Type 0
 Below t u = (k : ℕ) → slice_index t k ≤ slice_index u k

@@ -5,7 +5,7 @@ use Rattle.vpg_verdict.specs.declared.which.Which.{Which}
 use Rattle.vpg_verdict.specs.declared.which.Which.TheVariants.{Hopeful, Dual}
 use Rattle.vpg_board.specs.Rule.{times}
 
--- how many vertices there are, and for each of them those that keep an edge to it, in either game
+-- the number of vertices, and for each of them the vertices that keep an edge to it, in either game
 pub record PredecessorsView : Type 0 where
   pub vertices : ℕ
   pub hopeful : List (List ℕ)

@@ -1,4 +1,4 @@
--- What every run keeps, in two halves that share no word: the measures and the claims. This project's own.
+-- The invariant of every run, in two halves that share no word: the measures and the claims. This project's own.
 use Rattle.std.specs.Prelude.{◌≡◌, ℕ, ◌+◌, ◌-◌, ◌<◌, ◌≤◌, ◌&&◌, ◌==◌, nat_lt, false, if◌then◌else◌, List, [], ◌∷◌, length}
 use mathlib.Core.Option.{some}
 use lib.ListN.{get_elem?}
@@ -12,15 +12,15 @@ abbrev pub total : {A : Type 0} → (A → ℕ) → List A → ℕ
 total f [] = 0
 total f (x ∷ xs) = f x + total f xs
 
--- how often n stands in the list
+-- the number of times that n occurs in the list
 abbrev pub times : ℕ → List ℕ → ℕ
 times n xs = total (λ m. if m == n then 1 else 0) xs
 
--- one for the opening lifter, or the one that took it in
+-- one for the opening lifter, or for the one that merged it
 abbrev pub openings : Lifter → ℕ
 openings v = if v.opening then 1 else 0
 
--- what a lifter has seen is on or above the order's tables, and below the words
+-- the values that a lifter has seen are on or above the order's tables, and at most the words
 pub record HasSeen (order : OrderView) (measures : List ℕ) (v : Lifter) : Type 0 where
   pub order_is : v.order ≡ order
   pub wide : length v.seen ≡ places order
@@ -34,8 +34,8 @@ pub record MeasuresKept (order : OrderView) (b : BoardState) : Type 0 where
   pub under : (t : List ℕ) → AreProgress order t → Below b.measures t
   pub seen : (i : ℕ) (v : Lifter) → get_elem? b.lifters i ≡ some v → 0 < v.stands → HasSeen order b.measures v
 
--- what holds of the claims after any steps: each number below the claim number is claimed once where it is a place, and
--- no other; the empty claims are what the claim number exceeds the places by
+-- The invariant of the claims after any steps. Each number below the claim number is claimed once if it is a place, and
+-- no other number is. There are as many empty claims as the claim number exceeds the places by.
 pub record ClaimsCounted (order : OrderView) (b : BoardState) : Type 0 where
   pub each : (n : ℕ) →
       total (λ v. times n v.claims) b.lifters ≡ (if nat_lt n b.claimed && nat_lt n (places order) then 1 else 0)
@@ -50,8 +50,8 @@ pub record IsFair (v : Lifter) : Type 0 where
   pub bounded : v.empty ≤ v.stands
   pub later : v.opening ≡ false → v.splits ≡ 0
 
--- what holds of the claims after steps that seats may take: no seat has more empty claims than seats that it stands
--- for
+-- The invariant of the claims after steps that seats may take: no seat has more empty claims than seats that it stands
+-- for.
 pub record ClaimsKept (order : OrderView) (b : BoardState) : Type 0 where
   pub counted : ClaimsCounted order b
   pub limit : total (λ v. v.splits) b.lifters ≤ 63

@@ -5,13 +5,13 @@ use Rattle.vpg_board.specs.declared.lifter.Lifter.{Lifter}
 use Rattle.vpg_board.specs.Places.{places, values, lift_at}
 use Rattle.vpg_board.specs.Lifters.{opener, spent, sees, claims, splits, newcomer, both}
 
--- the claim number, the measures, and what each lifter knows
+-- the claim number, the measures, and the knowledge of each lifter
 pub record BoardState : Type 0 where
   pub claimed : ℕ
   pub measures : List ℕ
   pub lifters : List Lifter
 
--- a step: the lifter's number, and the place, or the number of the lifter that it takes in
+-- a step: the lifter's number, and the place, or the number of the lifter that it merges
 pub data Move : Type 0 where
   load : ℕ → ℕ → Move
   raise : ℕ → ℕ → Move
@@ -22,7 +22,7 @@ pub data Move : Type 0 where
 abbrev pub lifter : BoardState → ℕ → Lifter
 lifter b i = slice_index_or b.lifters i spent
 
--- the lifter is there, and no other took it in
+-- the lifter is there, and no other merged it
 abbrev pub IsHere : BoardState → ℕ → Type 0
 IsHere b i = (i < length b.lifters) × (0 < (lifter b i).stands)
 
@@ -30,7 +30,7 @@ abbrev pub opened : OrderView → BoardState
 opened order = record { claimed = 0; measures = values order; lifters = opener order ∷ [] }
 
 module _ (order : OrderView) where
-  -- what a raise leaves in the word: the greater of it and the lift of what the lifter has seen
+  -- the word after a raise: the greater of it and the lift of the values that the lifter has seen
   abbrev pub raised_to : BoardState → ℕ → ℕ → ℕ
   raised_to b i p = max (slice_index b.measures p) (lift_at order (lifter b i).seen p)
 
@@ -43,7 +43,7 @@ module _ (order : OrderView) where
   after b (split i) = record b { lifters = slice_set b.lifters i (splits (lifter b i)) ++ newcomer (lifter b i) ∷ [] }
   after b (join i j) = record b { lifters = slice_set (slice_set b.lifters i (both (lifter b i) (lifter b j))) j spent }
 
-  -- a step is of lifters that are there, at a place of the board; none takes in itself
+  -- a step is of lifters that are there, at a place of the board; none merges itself
   abbrev pub IsStep : BoardState → Move → Type 0
   IsStep b (load i p) = IsHere b i × (p < places order)
   IsStep b (raise i p) = IsHere b i × (p < places order)
@@ -51,7 +51,7 @@ module _ (order : OrderView) where
   IsStep b (split i) = IsHere b i
   IsStep b (join i j) = IsHere b i × IsHere b j × (j ≢ i)
 
-  -- a seat claims until it found none left; the opening one, or the one that took it in, splits, 63 times
+  -- A seat claims until it found none left. The opening seat, or the one that merged it, splits, at most 63 times.
   abbrev pub May : BoardState → Move → Type 0
   May b (load i p) = IsStep b (load i p)
   May b (raise i p) = IsStep b (raise i p)

@@ -8,27 +8,27 @@ use Rattle.vpg_board.specs.Lifters.{opener}
 use Rattle.vpg_board.specs.Rule.{times}
 use Rattle.vpg_board.specs.Taken.{IsOnBoard}
 
--- which board it is, and the order that it is of
+-- the name of the board, and its order
 pub record BoardView : Type 0 where
   pub table : TableId
   pub order : OrderView
 
--- the board that the seat belongs to, and what it knows
+-- the board that the seat belongs to, and the seat's knowledge
 pub record SeatView : Type 0 where
   pub board : BoardView
   pub lifter : Lifter
 
--- the seat that a new board begins with
+-- the opening seat of a new board
 abbrev pub opening_seat : BoardView → SeatView
 opening_seat board = record { board = board; lifter = opener board.order }
 
--- nothing changed but what was seen, and that is no less
+-- only the seen values changed, and none fell
 pub record SeesMore (v w : Lifter) : Type 0 where
   pub same : w ≡ record v { seen = w.seen }
   pub wide : length w.seen ≡ length v.seen
   pub more : Below v.seen w.seen
 
--- what was seen is on or above the order's tables, and below every pair of progress tables
+-- the seen values are on or above the order's tables, and below every pair of progress tables
 pub record IsSafe (v : Lifter) : Type 0 where
   pub wide : length v.seen ≡ places v.order
   pub over : Below (values v.order) v.seen
@@ -42,15 +42,15 @@ AreOnce claims = (n : ℕ) → times n claims ≤ 1
 abbrev pub AreAll : OrderView → List ℕ → Type 0
 AreAll order claims = (n : ℕ) → times n claims ≡ (if nat_lt n (places order) then 1 else 0)
 
--- the seat that is left where it took in all that were split
+-- the seat has merged all that were split
 abbrev pub StandsForAll : Lifter → Type 0
 StandsForAll v = (v.opening ≡ true) × (v.stands ≡ 1 + v.splits)
 
--- where the seat that is left of all found none left, its claims are all places
+-- if the seat has merged all others and found none left, its claims are all places
 abbrev pub HasAllAtEnd : Lifter → Type 0
 HasAllAtEnd v = StandsForAll v → 0 < v.empty → AreAll v.order v.claims
 
--- what holds of the claims of every seat
+-- the invariant of the claims of every seat
 pub record AreSeatClaims (v : Lifter) : Type 0 where
   pub once : AreOnce v.claims
   pub below : (n : ℕ) → places v.order ≤ n → times n v.claims ≡ 0
@@ -58,7 +58,7 @@ pub record AreSeatClaims (v : Lifter) : Type 0 where
   pub few : v.splits ≤ 63
   pub all : HasAllAtEnd v
 
--- what the fields of a seat keep
+-- the invariant of the fields of a seat
 pub record IsSeat (table : TableId) (v : Lifter) (opening : Bool) (count : ℕ) (done : Bool) : Type 0 where
   pub words : table.words ≡ places v.order + 1
   pub stands : 0 < v.stands

@@ -14,7 +14,7 @@ use std::alloc::Global;
 use vpg_measure::{Harvest, Order};
 use vpg_verdict::Which;
 
-// Lifts a vertex, and where it was raised hints at those that keep an edge to it.
+// Lifts a vertex, and after a raise hints at the vertices that keep an edge to it.
 fn raise_and_hint<J: Vertices>(
     harvest: &mut Harvest,
     predecessors: &Predecessors,
@@ -53,7 +53,7 @@ fn raise_hinted<J: Vertices, G: Gate>(
     }
 }
 
-// Claims the vertices of one table in file order, and lifts what it claims, and what it is hinted at.
+// Claims the vertices of one table in file order, and lifts each of them and the hinted vertices.
 fn raise_table<J: Vertices, G: Gate>(
     harvest: &mut Harvest,
     gate: &G,

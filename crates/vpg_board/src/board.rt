@@ -23,7 +23,7 @@ use vpg_verdict::Which;
 
 /// An order whose two tables several seats raise at once.
 ///
-/// Contracts see which board it is, and its order. A seat goes to its own board: that is a condition of each call.
+/// Contracts see which board it is, and its order. Each call requires that the seat is of this board.
 pub struct Board {
     pub(crate) order: Order,
     vertices: u32,
@@ -45,7 +45,7 @@ impl Model for Board {
     ghost invariant = { AreBoardFields };
 }
 
-// The claim word, and behind it the values of both tables.
+// The claim word, and after it the values of both tables.
 fn words_of(alloc: Global, order: &Order) -> Result<Vec<u64>, AllocError>
     ensures { IfOk result (λ words. words.items ≡ 0 ∷ values order.now) }
 {
@@ -58,7 +58,7 @@ fn words_of(alloc: Global, order: &Order) -> Result<Vec<u64>, AllocError>
     Ok(words)
 }
 
-// So many of the words, from one on.
+// This many of the words, from one on.
 fn copy_words(
     alloc: Global,
     closed: &Closed<(), Global>,
@@ -94,8 +94,8 @@ fn copy_tables(
 }
 
 impl Board {
-    /// A board of the order, and its opening seat, which has seen the order's tables. Out of memory the order
-    /// comes back.
+    /// Returns a board of the order, and its opening seat, which has seen the order's tables. The only error is a lack
+    /// of memory; then the order comes back.
     pub fn open(alloc: Global, order: Order) -> Result<(Board, Seat), Order>
         ensures order { IfOk result (λ opened. opened.0.order ≡ order) }
         ensures is_order { IfOk result (λ opened. IsOrder opened.0.order) }
@@ -131,8 +131,8 @@ impl Board {
         ))
     }
 
-    /// A new seat, which has seen what this one has and has no claims. The opening seat alone splits, or one that took
-    /// it in, and it splits 63 times: any other call is refused and changes nothing.
+    /// Returns a new seat, which has seen what this one has and has no claims. Only the opening seat, or a seat that
+    /// merged it, splits, and at most 63 times. Any other call is refused and changes nothing.
     pub fn split(&self, seat: &mut Seat) -> Result<Seat, TooManyLifters>
         requires { seat.old.board ≡ self.now }
         ensures board { seat.new.board ≡ seat.old.board }
@@ -158,8 +158,8 @@ impl Board {
         })
     }
 
-    /// The next vertex that no seat has claimed: those of the hopeful table, then those of the dual, in file order over
-    /// all seats. A seat that got `None`, or took in one that did, gets `None` without a step.
+    /// Returns the next vertex that no seat has claimed: those of the hopeful table, then those of the dual, in file
+    /// order over all seats. A seat that got `None`, or merged one that did, gets `None` without a step.
     pub fn claim(&self, seat: &mut Seat) -> Option<(Which, u32)>
         requires { seat.old.board ≡ self.now }
         ensures board { seat.new.board ≡ seat.old.board }
@@ -174,10 +174,10 @@ impl Board {
             (0 < seat.new.lifter.empty)) }
         ensures still_none { 0 < seat.old.lifter.empty → (result ≡ None) × (seat.new ≡ seat.old) }
 
-        // It is the step `claim` on a board that some run reached.
+        // The call is the step `claim` on a board that some run reached.
         ensures step { seat.old.lifter.empty ≡ 0 → Takes claim seat.old.lifter seat.new.lifter }
 
-        // Once none was left and this seat stands for all, its claims are all vertices of both tables, each once.
+        // Once none is left and this seat stands for all, its claims are all vertices of both tables, each once.
         ensures all { HasAllAtEnd seat.new.lifter }
     {
         if seat.done {
@@ -189,8 +189,8 @@ impl Board {
         claimed
     }
 
-    /// Loads the word and the kept successors of a vertex, and raises the word to the lift of what the seat has then
-    /// seen, by one `fetch_max`, unless what it loaded there was as much. True where the word was raised.
+    /// Loads the word and the kept successors of a vertex, and raises the word to the lift of the values seen then, by
+    /// one `fetch_max`. The raise is left out if the word was already that great. Returns whether the word was raised.
     pub fn lift(&self, seat: &mut Seat, which: Which, v: u32) -> bool
         requires board { seat.old.board ≡ self.now }
         requires vertex { v < vertices self.now.order }
@@ -198,8 +198,8 @@ impl Board {
         ensures seen { SeesMore seat.old.lifter seat.new.lifter }
         ensures safe { IsSafe seat.new.lifter }
 
-        // It loads the word and those of the kept successors, and raises the word once or not at all, each time on a
-        // board that some run reached.
+        // The call loads the word and those of the kept successors, and raises the word once or not at all, each time
+        // on a board that some run reached.
         ensures steps { (raises : Bool) ×
             TakesAll (lift_steps self.now.order which v raises) seat.old.lifter seat.new.lifter }
 
@@ -212,7 +212,7 @@ impl Board {
         self.raise(&mut seat.inner, which, v)
     }
 
-    /// Takes in another seat of this board, which is spent: what it saw, claimed and stood for.
+    /// Merges another seat of this board into `seat`: what it has seen, its claims, and the seats that it stands for.
     pub fn join(&self, seat: &mut Seat, other: Seat)
         requires board { seat.old.board ≡ self.now }
         requires other { other.board ≡ self.now }
@@ -236,8 +236,8 @@ impl Board {
         seat.done = seat.done || done;
     }
 
-    /// Ends the board: the harvest of its order, on or above all that the seat and those joined into it saw. For want
-    /// of memory the order comes back.
+    /// Ends the board, and returns the harvest of its order, on or above all that the seat and those merged into it
+    /// have seen. The only error is a lack of memory; then the order comes back.
     pub fn close(self, alloc: Global, seat: Seat) -> Result<Harvest, Order>
         requires { seat.board ≡ self }
         ensures order { IfOk result (λ harvest. IsSameOrder harvest.order self.order) }
@@ -295,7 +295,7 @@ impl Board {
         }
     }
 
-    // The lift of what the seat has seen, once it has loaded the kept successors.
+    // The lift of the values that the seat has seen, once it has loaded the kept successors.
     fn loaded_lift(&self, seat: &mut Inner, which: Which, v: u32) -> u64
         requires board { seat.old.table_id ≡ self.now.table }
         requires order { seat.old.me.0.order ≡ self.now.order }
@@ -326,7 +326,7 @@ impl Board {
         lift_to(shape, arena, v, best)
     }
 
-    // Most lifts raise nothing: so the word is loaded first, and written only where that is less.
+    // Most lifts raise nothing: so the word is loaded first, and written only if that is less.
     fn raise(&self, seat: &mut Inner, which: Which, v: u32) -> bool
         requires board { seat.old.table_id ≡ self.now.table }
         requires order { seat.old.me.0.order ≡ self.now.order }

@@ -1,4 +1,4 @@
-//! Hints: vertices that lifters hand to one another, since a vertex that they keep an edge to was raised.
+//! Hints: vertices that lifters pass to one another, since a vertex that they keep an edge to was raised.
 
 ghost use Rattle.std.specs.Prelude.{◌<◌, ℕ, All, IfSome, length};
 ghost use Rattle.vpg_board.specs.Hints.{IsHint};
@@ -11,13 +11,14 @@ use std::alloc::{AllocError, Global};
 use std::marker::{Brand, PhantomData};
 use vpg_verdict::Which;
 
-/// How many hints a lifter's own row has room for at first.
+/// The number of hints that a lifter's own row has room for at first.
 const FIRST_ROOM: usize = 64;
 
-/// How many hints a lifter keeps at most. Those past them are left out: the next sweep comes to their vertices anyway.
+/// The greatest number of hints that a lifter keeps. Further ones are left out: the next sweep comes to their vertices
+/// anyway.
 const MOST_HELD: u64 = 4096;
 
-/// How many vertices the game of a sweep has. Each sweep picks it.
+/// The number of vertices of a sweep's game. Each sweep picks it.
 pub(crate) trait Vertices {
     ghost vertices: { ℕ };
 }
@@ -53,15 +54,15 @@ pub(crate) type Own<J> = Worker<(Which, u32), Global, (), InGame<J>>;
 
 pub(crate) type Other<J> = Stealer<(Which, u32), Global, (), InGame<J>>;
 
-/// A lifter's own hints, and those of one other. Where there was no memory for them there are none.
+/// A lifter's own hints, and those of one other. If there was no memory for them, there are none.
 pub(crate) struct Hints<J: Vertices> {
     own: Option<Own<J>>,
-    // how many of its own there are at most
+    // the greatest number of its own that there may be
     held: u64,
     other: Option<Other<J>>,
 }
 
-// Not derived, so that letting one go is one call: a derived way would be proved anew at each exit that owns one.
+// Not derived: a derived `drop` would be proved again at each exit that owns such a value.
 impl<J: Vertices> Drop for Hints<J> {
     fn drop(self) {
         let Hints {
@@ -90,7 +91,7 @@ fn steal<J: Vertices>(other: &Other<J>) -> Option<(Which, u32)>
     }
 }
 
-// What one more lifter needs to take from the last of these.
+// The handle by which one more lifter takes from the last of these.
 fn from_last<J: Vertices>(crew: &[Hints<J>]) -> Option<Other<J>> {
     match crew.last() {
         Some(hints) => hints.for_another(),
@@ -98,8 +99,8 @@ fn from_last<J: Vertices>(crew: &[Hints<J>]) -> Option<Other<J>> {
     }
 }
 
-/// Hints for so many lifters, fewer where there is no memory: each takes from the one before it, and the first from the
-/// last.
+/// Returns hints for this many lifters, fewer if there is no memory. Each takes from the one before it, and the first
+/// from the last.
 pub(crate) fn hints_of<J: Vertices>(alloc: Global, lifters: u32) -> Vec<Hints<J>> {
     let mut crew = Vec::new(alloc);
     for _ in 0..lifters {
@@ -117,7 +118,7 @@ pub(crate) fn hints_of<J: Vertices>(alloc: Global, lifters: u32) -> Vec<Hints<J>
     crew
 }
 
-/// The next lifter's hints, or none where none are left.
+/// Returns the next lifter's hints, or none if none are left.
 pub(crate) fn next_hints<J: Vertices>(crew: &mut Vec<Hints<J>>) -> Hints<J> {
     match crew.pop() {
         Some(hints) => hints,
@@ -126,7 +127,7 @@ pub(crate) fn next_hints<J: Vertices>(crew: &mut Vec<Hints<J>>) -> Hints<J> {
 }
 
 impl<J: Vertices> Hints<J> {
-    /// No hints, and no room for any.
+    /// Returns hints with no room for any.
     pub(crate) fn none() -> Hints<J> {
         Hints {
             own: None,
@@ -135,7 +136,7 @@ impl<J: Vertices> Hints<J> {
         }
     }
 
-    /// Hints of its own, and those of another lifter.
+    /// Returns hints of its own, with those of another lifter.
     pub(crate) fn beside(alloc: Global, other: Option<Other<J>>) -> Hints<J> {
         Hints {
             own: Worker::lifo_as(alloc, FIRST_ROOM).ok(),
@@ -144,17 +145,17 @@ impl<J: Vertices> Hints<J> {
         }
     }
 
-    /// What another lifter needs to take from these.
+    /// Returns the handle by which another lifter takes from these.
     pub(crate) fn for_another(&self) -> Option<Other<J>> {
         self.own.as_ref()?.stealer().ok()
     }
 
-    /// From now on it takes from this one.
+    /// Takes from this other one from now on.
     pub(crate) fn take_from(&mut self, other: Option<Other<J>>) {
         self.other = other;
     }
 
-    // A vertex is worth a lift. Where there is no memory, or many are held, the hint is left out.
+    // Adds a hint at a vertex. If there is no memory, or many are held, the hint is left out.
     fn give(&mut self, which: Which, v: u32)
         requires { v < J.vertices }
     {
@@ -168,7 +169,7 @@ impl<J: Vertices> Hints<J> {
         }
     }
 
-    /// A vertex was raised: all that keep an edge to it are worth a lift.
+    /// Adds hints at all vertices that keep an edge to a raised vertex.
     pub(crate) fn give_all(&mut self, which: Which, edges: &Chains, v: u32)
         requires { LeadFrom J.vertices edges.now.edges.items }
     {
@@ -182,7 +183,7 @@ impl<J: Vertices> Hints<J> {
         }
     }
 
-    // The newest hint of its own. Where none is held it costs no step.
+    // The newest hint of its own. If none is held, it costs no step.
     fn take_own(&mut self) -> Option<(Which, u32)>
         ensures { IfSome result (IsHint J.vertices) }
     {
@@ -197,7 +198,7 @@ impl<J: Vertices> Hints<J> {
         hint
     }
 
-    /// The newest hint of its own, or else the oldest of the other's.
+    /// Returns the newest hint of its own, or else the oldest of the other's.
     pub(crate) fn take(&mut self) -> Option<(Which, u32)>
         ensures { IfSome result (IsHint J.vertices) }
     {

@@ -1,5 +1,5 @@
-//! What every run of a board keeps, and that its atomic steps are the steps of runs: each law is the contract of a
-//! function that does nothing.
+//! The invariants of every run of a board, and the law that its atomic steps are the steps of runs. Each function does
+//! nothing: its contract is the law.
 
 ghost use Rattle.std.specs.Prelude.{◌≡◌, ◌<◌, ◌-◌, ℕ, List, [], ◌∷◌, true};
 ghost use mathlib.Core.Option.{some};
@@ -13,35 +13,35 @@ ghost use Rattle.vpg_board.specs.Run.{Move, load, raise, claim, split, join, ran
 ghost use Rattle.vpg_board.specs.Rule.{MeasuresKept, ClaimsCounted, ClaimsKept};
 ghost use Rattle.vpg_board.specs.Steps.{IsBoard, Leads, after_load, after_raise, after_claim, after_split, after_join};
 
-/// Any steps of any lifters keep the measures: no word falls under what a seat has seen, and each stays below every
-/// progress table.
+/// Any steps of any lifters keep the measures: no word falls below a value that a seat has seen, and each stays below
+/// every progress table.
 pub fn every_run_keeps_the_measures()
     ensures { (order : OrderView) (run : List Move) → IsOrder order → IsRun order run →
         MeasuresKept order (ran order run) }
 {}
 
-/// Any steps of any lifters keep the counts: each place below the claim number is claimed by one seat, and no other
-/// number is a claim; the empty claims are those past the places; the seats stood for are one more than the splits.
+/// Any steps of any lifters keep the counts. Each place below the claim number is claimed by one seat, and no other
+/// number is a claim. The empty claims are those past the places, and the seats stood for are one more than the splits.
 pub fn every_run_keeps_the_counts()
     ensures { (order : OrderView) (run : List Move) → IsRun order run → ClaimsCounted order (ran order run) }
 {}
 
-/// Where lifters claim until they found none left, and the opening one alone splits, 63 times, none has more empty
-/// claims than it stands for.
+/// If lifters claim until they found none left, and only the opening one splits, at most 63 times, then none has more
+/// empty claims than it stands for.
 pub fn every_board_run_keeps_the_claims()
     ensures run { (order : OrderView) (run : List Move) → IsBoardRun order run → IsRun order run }
     ensures claims { (order : OrderView) (run : List Move) → IsBoardRun order run → ClaimsKept order (ran order run) }
 {}
 
-/// An atomic load of a measure is the step `load`: whatever board the words and seats show, they show the board after
-/// it then.
+/// An atomic load of a measure is the step `load`: if the words and seats show a board, they show the board after the
+/// step then.
 pub fn loads_are_steps()
     ensures { (order : OrderView) (s : State (Unit {0}) Lifter) (id word : ℕ) (v : Lifter) → IsBoard order s →
         get_elem? s.views id ≡ some v → 0 < v.stands
         → 0 < word → word - 1 < places order → Leads order (load id (word - 1)) s (after_load s id v word) }
 {}
 
-/// An atomic maximum of a measure and the lift of what the seat has seen is the step `raise`.
+/// An atomic maximum of a measure and the lift of the values that the seat has seen is the step `raise`.
 pub fn raises_are_steps()
     ensures { (order : OrderView) (s : State (Unit {0}) Lifter) (id word : ℕ) (v : Lifter) → IsBoard order s →
         get_elem? s.views id ≡ some v → 0 < v.stands
@@ -62,7 +62,7 @@ pub fn splits_are_steps()
         → v.opening ≡ true → v.splits < 63 → Leads order (split id) s (after_split s id v) }
 {}
 
-/// A seat that takes in another is the step `join`.
+/// A seat that merges another is the step `join`.
 pub fn joins_are_steps()
     ensures { (order : OrderView) (s : State (Unit {0}) Lifter) (id other : ℕ) (v w : Lifter) → IsBoard order s →
         get_elem? s.views id ≡ some v → 0 < v.stands
@@ -70,7 +70,7 @@ pub fn joins_are_steps()
         Leads order (join id other) s (after_join s id v other w) }
 {}
 
-/// What a step leads to shows a board that some run reached; so does an order's opening.
+/// The state after a step shows a board that some run reached; so does an order's opening.
 pub fn steps_stay_on_boards()
     ensures opening { (order : OrderView) → IsBoard order (opening (0 ∷ values order) [] (opener order)) }
     ensures steps { (order : OrderView) (m : Move) (s t : State (Unit {0}) Lifter) → Leads order m s t →

@@ -1,21 +1,21 @@
 //! Boards: several lifters raise the two tables of an order at once, on shared atomic words.
 //!
-//! A `Board` is opened on an order and gives its opening `Seat`. A seat is the right of one thread to step: it loads
-//! words, raises one to the lift of what it has seen, and claims places, each of which goes to one seat. The opening
-//! seat splits into up to 64 seats, which are joined again; the last one closes the board for a harvest. Whatever seats
-//! do, and in whatever order, each word stays below every progress table of the order's games: so a harvest may be
-//! committed at any later moment. `sweep` does all of this with as many threads as it is asked for; one lifter alone
-//! needs no board for it, and sweeps where there is no memory for one.
+//! A `Board` is opened on an order and returns its opening `Seat`. A seat is the right of one thread to step: it loads
+//! words, raises one to the lift of the values that it has seen, and claims places, each of which goes to one seat. The
+//! opening seat splits into up to 64 seats, which are joined again; the last one closes the board for a harvest.
+//! Whatever seats do, and in whatever order, each word stays below every progress table of the order's games. So a
+//! harvest may be committed at any later moment. `sweep` does all of this with as many threads as the caller asks for.
+//! One lifter alone needs no board for it, and sweeps if there is no memory for one.
 //!
-//! `claim` and `lift` neither wait nor take memory. The layers above use `sweep`, whose harvest is of the order handed
-//! in, on or above its tables and the lift of them at every vertex.
+//! `claim` and `lift` neither wait nor take memory. The layers above use `sweep`. Its harvest is of the given order, on
+//! or above its tables and the lift of them at every vertex.
 //!
-//! Definitions: `specs/Places` (both tables as one list of words, lifts on them), `specs/Lifters` and `specs/Run` (what
-//! a lifter knows, the steps, runs), `specs/Rule` (what every run keeps, in two halves), `specs/Taken` (which steps a
-//! lifter took), `specs/Seats` (boards and seats as callers see them), `specs/Steps` (what each atomic step leaves and
-//! tells), `specs/Worked` (what lifters have done in a sweep), `specs/Alone` (what one has done alone),
-//! `specs/Predecessors` (which vertices keep an edge to which), `specs/Chains` (how these are kept), `specs/Hints`
-//! (what a hint names). What holds of every run, and that the atomic steps are those of runs, stands in `laws`.
+//! Definitions: `specs/Places` (both tables as one list of words, lifts on them); `specs/Lifters` and `specs/Run` (the
+//! knowledge of a lifter, the steps, runs); `specs/Rule` (the invariant of every run, in two halves); `specs/Taken`
+//! (which steps a lifter took); `specs/Seats` (boards and seats as callers see them); `specs/Steps` (what each atomic
+//! step leaves and shows); `specs/Worked` (the work of lifters in a sweep); `specs/Alone` (the work of one alone);
+//! `specs/Predecessors` (which vertices keep an edge to which); `specs/Chains` (how these are kept); `specs/Hints` (the
+//! vertices that hints name). `laws` states the invariants of every run, and that the atomic steps are those of runs.
 #![tactic(auto)]
 
 mod alone;

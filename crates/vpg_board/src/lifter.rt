@@ -1,22 +1,22 @@
-//! What a lifter knows of its board.
+//! The knowledge of a lifter of a board.
 
 use std::collections::LinkedList;
 use vpg_measure::Order;
 
-/// What stands behind a seat in proofs: no value of it is ever made. `specs/Lifters` says what each step changes.
+/// A seat in proofs: no value of it is ever made. `specs/Lifters` says what each step changes.
 pub struct Lifter {
-    /// The order that its board is of.
+    /// The order of its board.
     pub order: Order,
-    /// The values of both tables that it has seen, one table behind the other.
+    /// The values of both tables that it has seen, one table after the other.
     pub seen: LinkedList<u64>,
     /// The places that it claimed, in the order of claiming.
     pub claims: LinkedList<u64>,
-    /// How often it claimed and none was left.
+    /// The number of claims when none was left.
     pub empty: u64,
-    /// How often it was split.
+    /// The number of times that it was split.
     pub splits: u64,
-    /// How many seats it stands for: itself, and those that it took in.
+    /// The number of seats that it stands for: itself, and those that it merged.
     pub stands: u64,
-    /// Whether it is the opening one, or took that in.
+    /// Whether it is the opening one, or merged that.
     pub opening: bool,
 }

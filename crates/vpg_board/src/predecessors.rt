@@ -18,12 +18,12 @@ use vpg_verdict::Which;
 pub(crate) struct Chains {
     // of each vertex one more than the place of the last edge to it, or 0
     last: Vec<u32>,
-    // where an edge comes from, and one more than the place of the edge before it that leads to the same vertex, or 0
+    // the source of an edge, and one more than the place of the edge before it that leads to the same vertex, or 0
     edges: Vec<(u32, u32)>,
     ghost linked: { AreLinked last.items edges.items },
 }
 
-// Not derived, so that letting one go is one call: a derived way would be proved anew at each exit that owns one.
+// Not derived: a derived `drop` would be proved again at each exit that owns such a value.
 impl Drop for Chains {
     fn drop(self) {
         let Chains { last: _, edges: _ } = self;
@@ -84,12 +84,12 @@ impl Chains {
         }
     }
 
-    /// How many edges there are.
+    /// Returns the number of edges.
     pub(crate) fn len(&self) -> usize {
         self.edges.len()
     }
 
-    /// One more than the place of the last edge to a vertex, or 0.
+    /// Returns one more than the place of the last edge to a vertex, or 0.
     pub(crate) fn last_to(&self, v: u32) -> u32
         ensures { result ≡ slice_index self.now.last.items v }
     {
@@ -99,7 +99,7 @@ impl Chains {
         }
     }
 
-    /// The edge before this place: where it comes from, and one more than the place of the edge before it that leads to
+    /// Returns the edge before this place: its source, and one more than the place of the edge before it that leads to
     /// the same vertex, or 0.
     pub(crate) fn edge_before(&self, place: u32) -> Option<(u32, u32)>
         ensures inside { (n : ℕ) → LeadFrom n self.now.edges.items → IfSome result (λ e. e.0 < n) }
@@ -114,11 +114,10 @@ impl Chains {
     }
 }
 
-/// Of each vertex of an order's two games those that keep an edge to it: along them the lifters of a sweep hint at what
-/// to lift next. They serve every order of the same games.
+/// For each vertex of an order's two games, the vertices that keep an edge to it. Along them the lifters of a sweep
+/// hint at the next lifts. They serve every order of the same games.
 ///
-/// Contracts see of how many vertices they are, and for each vertex a list of those that keep an edge to it, in either
-/// game.
+/// Contracts see the number of vertices, and for each vertex a list of those that keep an edge to it, in either game.
 #[derive(Drop)]
 pub struct Predecessors {
     vertices: u32,
@@ -142,10 +141,10 @@ impl Model for Predecessors {
 }
 
 impl Predecessors {
-    /// Those of an order's games.
+    /// Returns the predecessors in an order's games.
     pub fn of(alloc: Global, order: &Order) -> Result<Predecessors, AllocError>
         ensures vertices { IfOk result (λ predecessors. predecessors.vertices ≡ vertices order.now) }
-        // At each vertex each one is listed as often as it keeps an edge to it: none is missing, nothing else is there.
+        // Each vertex is listed as often as it keeps an edge: none is missing, nothing else is there.
         ensures edges { IfOk result (λ predecessors.
             (which : Which) → ArePredecessors (order_arena which order.now) (predecessors_in which predecessors)) }
     {
@@ -159,7 +158,7 @@ impl Predecessors {
         })
     }
 
-    /// None, for sweeps without hints.
+    /// Returns no predecessors, for sweeps without hints.
     pub fn none(alloc: Global, order: &Order) -> Predecessors
         ensures vertices { result.vertices ≡ vertices order.now }
         ensures edges { (which : Which) → predecessors_in which result ≡ [] }
@@ -171,7 +170,7 @@ impl Predecessors {
         }
     }
 
-    /// Those of an order's games, or none where there is no memory for them.
+    /// Returns the predecessors in an order's games, or none if there is no memory for them.
     pub fn of_or_none(alloc: Global, order: &Order) -> Predecessors
         ensures vertices { result.vertices ≡ vertices order.now }
         ensures edges { ((which : Which) → ArePredecessors (order_arena which order.now) (predecessors_in which result))
@@ -188,7 +187,7 @@ impl Predecessors {
         self.hopeful.len() == 0 && self.dual.len() == 0
     }
 
-    /// Those in either game.
+    /// Returns the predecessors in either game.
     pub(crate) fn in_game(&self, which: Which) -> &Chains
         ensures edges { lists_of result.now.last.items result.now.edges.items ≡ predecessors_in which self.now }
         ensures inside { LeadFrom self.now.vertices result.now.edges.items }

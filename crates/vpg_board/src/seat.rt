@@ -4,17 +4,17 @@ use crate::lifter::Lifter;
 use std::marker::Model;
 use thiserror::Error;
 
-/// There is no further seat to be split: this is not the opening seat, or it was split 63 times.
+/// The refusal of a further split: this is not the opening seat, or it was split 63 times.
 #[derive(Clone, Copy, Debug, PartialEq, Eq, Error)]
 #[error("TooManyLifters")]
 pub struct TooManyLifters;
 
-/// The seat as the shared words know it.
+/// The seat as the shared words have it.
 pub(crate) type Inner = atomic_table::Seat<(), Lifter>;
 
-/// The right of one thread to load, claim and raise on one board. It may go to another thread.
+/// The right of one thread to load, claim and raise on one board. It may be moved to another thread.
 ///
-/// Contracts see the board that it belongs to and what it knows, its lifter.
+/// Contracts see the board that it belongs to and its lifter, which is its knowledge.
 #[derive(Drop)]
 pub struct Seat {
     pub(crate) inner: Inner,

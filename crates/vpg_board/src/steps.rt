@@ -1,4 +1,4 @@
-//! The rule of the shared words, and what their steps tell.
+//! The rule of the shared words, and what their steps show.
 
 use crate::lifter::Lifter;
 use atomic_table::{Join, Play, Split, TableRule};

@@ -22,8 +22,8 @@ use std::thread::{Threads, join};
 use vpg_measure::{Harvest, Order};
 use vpg_verdict::Which;
 
-/// What each lifter of a sweep calls before each claim and after each lift, of a vertex that it claimed or was hinted
-/// at. Lifters are numbered from 1, which is the calling thread.
+/// The callback of each lifter of a sweep before each claim and after each lift, of a vertex that it claimed or was
+/// hinted at. Lifters are numbered from 1, which is the calling thread.
 pub trait Gate {
     fn before_claim(&self, lifter: u32);
 
@@ -40,10 +40,10 @@ impl Gate for OpenGate {
     fn after_lift(&self, _lifter: u32) {}
 }
 
-/// The most hinted lifts behind a claim: a setting that no clause counts.
+/// The greatest number of hinted lifts after a claim: a setting that no clause counts.
 pub(crate) const HINTED_LIFTS: usize = 16;
 
-// Lifts a vertex, and where it was raised hints at those that keep an edge to it.
+// Lifts a vertex, and after a raise hints at the vertices that keep an edge to it.
 fn lift_and_hint<J: Vertices>(
     board: &Board,
     seat: &mut Seat,
@@ -90,7 +90,7 @@ fn lift_hinted<J: Vertices, G: Gate>(
     }
 }
 
-// Claims until none is left, and lifts what it claims, and what it is hinted at.
+// Claims until none is left, and lifts the claimed and the hinted vertices.
 fn work<J: Vertices, G: Gate, R: Wait>(
     rt: &R,
     board: &Board,
@@ -119,7 +119,7 @@ fn work<J: Vertices, G: Gate, R: Wait>(
     unreachable!()
 }
 
-// A seat for one more lifter, where more are asked for and there may be one.
+// A seat for one more lifter, if more are asked for and there may be one.
 #[tactic(auto, using(crate::proofs::Working::works_split, crate::proofs::Working::works_newcomer))]
 fn split_off(board: &Board, seat: &mut Seat, lifters: u32) -> Option<Seat>
     requires { Works board.now seat.old }
@@ -136,7 +136,7 @@ fn split_off(board: &Board, seat: &mut Seat, lifters: u32) -> Option<Seat>
     board.split(seat).ok()
 }
 
-// As many lifters as are asked for, and the last one is the caller.
+// Works with as many lifters as are asked for; the last one is the caller.
 fn work_together<J: Vertices + Send + Sync, G: Gate + Sync, R: Threads + Wait + Sync>(
     rt: &R,
     board: &Board,
@@ -176,7 +176,7 @@ fn work_together<J: Vertices + Send + Sync, G: Gate + Sync, R: Threads + Wait + 
     mine
 }
 
-// The same, with hints of the game that is picked for J.
+// Works with as many lifters as are asked for, with hints of the game that is picked for J.
 fn work_with_hints<J: Vertices + Send + Sync, G: Gate + Sync, R: Threads + Wait + Sync>(
     rt: &R,
     alloc: Global,
@@ -197,7 +197,7 @@ fn work_with_hints<J: Vertices + Send + Sync, G: Gate + Sync, R: Threads + Wait 
     work_together(rt, board, gate, lifters, seat, predecessors, crew)
 }
 
-// The same on a board, by as many lifters as are asked for. For want of memory the order comes back.
+// Sweeps on a board, with as many lifters as are asked for. If memory runs out, the order comes back.
 fn sweep_on_board<G: Gate + Sync, R: Threads + Wait + Sync>(
     rt: &R,
     alloc: Global,
@@ -224,17 +224,17 @@ fn sweep_on_board<G: Gate + Sync, R: Threads + Wait + Sync>(
     board.close(alloc, seat)
 }
 
-/// Lifts each vertex of both tables of the order at least once, by 1 to 64 lifters at once: the calling thread is
-/// lifter 1, the others get threads of their own. Where the machine has no thread for one, the calling thread does its
+/// Lifts each vertex of both tables of the order at least once, by 1 to 64 lifters at once. The calling thread is
+/// lifter 1, the others get threads of their own. If the machine has no thread for one, the calling thread does its
 /// work. After a raise the lifter hints at the vertices that keep an edge to the raised one, for itself and for one
-/// other, and behind each claim it lifts at most 16 hinted vertices.
+/// other. After each claim it lifts at most 16 hinted vertices.
 ///
-/// It always brings a harvest. One lifter shares its tables with nobody: it raises them in the order's room, without a
-/// board. Several need memory for their board, at its opening and at its close. Where there is none the calling thread
-/// alone sweeps the order from its tables, and the gate is called again, if the close was refused. Where hints found
-/// none, they are left out.
+/// The call always returns a harvest. One lifter shares its tables with nobody: it raises them in the order's room,
+/// without a board. Several need memory for their board, at its opening and at its close. If there is none, the calling
+/// thread alone sweeps the order from its tables, and the gate is called again if the close was refused. Hints without
+/// memory are left out.
 ///
-/// A sweep whose harvest has no greater value than its order proves the order settled.
+/// A sweep proves the order settled if its harvest has no greater value than the order.
 pub fn sweep<G: Gate + Sync, R: Threads + Wait + Sync>(
     rt: &R,
     alloc: Global,
@@ -245,7 +245,7 @@ pub fn sweep<G: Gate + Sync, R: Threads + Wait + Sync>(
     requires lifters { (1 ≤ lifters) × (lifters ≤ 64) }
     ensures order { IsSameOrder result.order order }
 
-    // At every vertex of both tables it is on or above the lift of the order's table.
+    // At every vertex of both tables the harvest is on or above the lift of the order's table.
     ensures lifted { (which : Which) (v : ℕ) → v < vertices order →
         lift_of (order_levels which order) (order_table which order)
         (vertex_at (order_arena which order) v) ≤ slice_index (harvest_table which result) v }
@@ -254,7 +254,7 @@ pub fn sweep<G: Gate + Sync, R: Threads + Wait + Sync>(
     ensures above { (which : Which) → IsBelowTable (order_table which order) (harvest_table which result) }
     ensures harvest { IsHarvest result }
 
-    // A harvest that does not check has risen, in sum: so where nothing rose the order was settled.
+    // A harvest that does not check has risen, in sum: so if nothing rose, the order was settled.
     ensures moved { ¬ IsSettledHarvest result →
         sum order.hopeful + sum order.dual < sum result.hopeful + sum result.dual }
 {
@@ -262,7 +262,8 @@ pub fn sweep<G: Gate + Sync, R: Threads + Wait + Sync>(
     sweep_along(rt, alloc, order, lifters, gate, &predecessors)
 }
 
-/// The same, with hints along these predecessors: for many sweeps of one order and those that follow it.
+/// Sweeps the order as `sweep` does, with hints along these predecessors: for many sweeps of one order and its
+/// successors.
 pub fn sweep_along<G: Gate + Sync, R: Threads + Wait + Sync>(
     rt: &R,
     alloc: Global,
@@ -275,7 +276,7 @@ pub fn sweep_along<G: Gate + Sync, R: Threads + Wait + Sync>(
     requires lifters { (1 ≤ lifters) × (lifters ≤ 64) }
     ensures order { IsSameOrder result.order order }
 
-    // At every vertex of both tables it is on or above the lift of the order's table.
+    // At every vertex of both tables the harvest is on or above the lift of the order's table.
     ensures lifted { (which : Which) (v : ℕ) → v < vertices order →
         lift_of (order_levels which order) (order_table which order)
         (vertex_at (order_arena which order) v) ≤ slice_index (harvest_table which result) v }
@@ -284,7 +285,7 @@ pub fn sweep_along<G: Gate + Sync, R: Threads + Wait + Sync>(
     ensures above { (which : Which) → IsBelowTable (order_table which order) (harvest_table which result) }
     ensures harvest { IsHarvest result }
 
-    // A harvest that does not check has risen, in sum: so where nothing rose the order was settled.
+    // A harvest that does not check has risen, in sum: so if nothing rose, the order was settled.
     ensures moved { ¬ IsSettledHarvest result →
         sum order.hopeful + sum order.dual < sum result.hopeful + sum result.dual }
 {

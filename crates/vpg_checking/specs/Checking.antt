@@ -19,14 +19,14 @@ use Rattle.vpg_written.specs.Translations.{formula_at}
 abbrev pub entry_at : List Entry → ℕ → Entry
 entry_at entries n = slice_index_or entries n (record { name = []; formula = constant false })
 
--- What this entry says, behind those before it, holds at the first state of the product that has these features.
+-- This entry, after those before it, holds at the first state of the product with these features.
 abbrev pub EntryHoldsIn : NamedSystem → List Entry → ℕ → List Bool → Type 0
 EntryHoldsIn system entries n set =
     Holds system.actions (product_system (truth set) (system_of system)) (take n entries) (entry_at entries n).formula
     system.first
 
 -- The game is a model of each entry over these lines, at the vertex that is named for it. In each product Even wins
--- there exactly where what is written holds at the first state, and Odd exactly where it does not.
+-- there exactly if the entry holds at the first state, and Odd exactly if it does not.
 pub record IsModelOfEntries (lines : List Line) (system : NamedSystem) (entries : List Entry)
     (game : GuardedGame Guard) (roots : List ℕ) : Type 0 where
   pub count : length roots ≡ length entries
@@ -35,7 +35,7 @@ pub record IsModelOfEntries (lines : List Line) (system : NamedSystem) (entries 
   pub decided : (n : ℕ) → n < length entries → (set : List Bool) →
       IsDecided (EntryHoldsIn system entries n set) (product_game (truth set) game) (slice_index roots n)
 
--- The texts spell a system, with guards over features of these names, and requirements; the game is a model of these,
+-- The texts spell a system, with guards over features of these names, and requirements. The game is a model of these,
 -- and decides them, each at the vertex that is named for it.
 pub record IsModelOfTexts (names : List (List ℕ)) (lines : List Line) (system_text requirements_text : List ℕ)
     (game : GuardedGame Guard) (roots : List ℕ) : Type 0 where

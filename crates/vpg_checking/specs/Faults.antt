@@ -1,4 +1,4 @@
--- Why there is no game of a family: the system is looked at first, then the requirements, then how long they are, and
+-- Why there is no game of a family: first come faults of the system, then of the requirements, then their length, and
 -- then the game. This project's own.
 use Rattle.std.specs.Prelude.{◌≡◌, ◌≢◌, ℕ, ◌<◌, List, length, map, Bool}
 use Rattle.vpg_system.specs.SystemText.{NamedSystem, IsTextOf}
@@ -21,32 +21,32 @@ use Rattle.vpg_written.specs.declared.translation.TranslationFault.TheVariants a
 use Rattle.vpg_checking.specs.declared.fault.CheckingFault.{CheckingFault}
 use Rattle.vpg_checking.specs.declared.fault.CheckingFault.TheVariants as told
 
--- ---- what is told: out of memory is a fault of no text
+-- ---- reported faults: a lack of memory is a fault of no text
 
--- what is told of a fault of the system's text
+-- the report of a fault of the system's text
 abbrev pub told_of_system : SystemFault → CheckingFault
 told_of_system of_system.Memory = told.Memory
 told_of_system fault = told.System fault
 
--- what is told of a fault of the requirements' text
+-- the report of a fault of the requirements' text
 abbrev pub told_of_requirements : RequirementFault → CheckingFault
 told_of_requirements of_requirements.Memory = told.Memory
 told_of_requirements fault = told.Requirements fault
 
--- what is told of requirements that are too long
+-- the report of requirements that are too long
 abbrev pub told_of_translation : TranslationFault → CheckingFault
 told_of_translation of_translation.Memory = told.Memory
 told_of_translation (of_translation.TooManyParts entry) = told.TooManyParts entry
 
--- what is told of a game beyond the limits
+-- the report of a game beyond the limits
 abbrev pub told_of_game : ModelFault → CheckingFault
 told_of_game of_game.Memory = told.Memory
 told_of_game fault = told.Game fault
 
 -- ---- why there is no game
 
--- The lists have the system's transitions, and parts whose roots are the normal forms of the entries; and from these
--- no game is made, for this reason.
+-- The lists have the system's transitions, and parts with the normal forms of the entries at their roots; no game is
+-- made from these, for this reason.
 pub record HasNoGame (system : NamedSystem) (entries : List Entry) (fault : ModelFault) : Type 0 where
   pub states : List (List Departure)
   pub sets : List (List Bool)
@@ -58,7 +58,7 @@ pub record HasNoGame (system : NamedSystem) (entries : List Entry) (fault : Mode
       IsRootOf (length system.actions) sets parts roots n (formula_at system.actions entries n)
   pub refused : IsRefused states sets parts (map (pair_for parts system.first) roots) fault
 
--- why the requirements of a text have no game, where a system has been read
+-- why the requirements of a text have no game, after a system has been read
 abbrev pub IsRequirementsFault : NamedSystem → List ℕ → CheckingFault → Type 0
 IsRequirementsFault system text (told.System fault) = ⊥
 IsRequirementsFault system text (told.Requirements fault) =

@@ -21,7 +21,7 @@ pub enum CheckingFault {
     /// The game is beyond the limits of games.
     #[error("model {0}")]
     Game(ModelFault),
-    /// A growth was refused.
+    /// Memory ran out.
     #[error("Memory")]
     Memory,
 }

@@ -35,8 +35,8 @@ use vpg_written::{Translation, translate};
 
 /// The model-checking game of a family and its requirements.
 ///
-/// In each product Even wins at the vertex of a requirement exactly where the requirement holds at the first state of
-/// the product's system.
+/// In each product Even wins at the vertex of a requirement exactly if the requirement holds at the first state of the
+/// product's system.
 #[derive(Drop)]
 pub struct Model {
     /// The game. The identifier of each vertex is its number.
@@ -65,7 +65,7 @@ fn is_named(entry: &Entry, name: &[u8]) -> bool
 }
 
 impl Model {
-    /// The game of a system and of the requirements that a text spells.
+    /// Returns the game of a system and of the requirements that a text spells.
     fn of(alloc: Global, system: System, text: &[u8]) -> Result<Model, CheckingFault>
         requires few_features { system.features ≤ 512 }
         requires system { IsSystem system }
@@ -108,7 +108,7 @@ impl Model {
         let actions = action_names(alloc, &system)?;
         let source = Source::of(alloc, &system, sets, parts)?;
         let first = system.first();
-        // The source has all of the system that the game is made of.
+        // The source has all of the system that the game needs.
         mem::drop(system);
         let Built { pairs, roots, game } = build(alloc, &source, first, &places)?;
         let game = sharpened(alloc, game)?;
@@ -171,7 +171,7 @@ impl Model {
         Model::of(alloc, system, requirements)
     }
 
-    /// The vertex of the requirement of this name, if there is one.
+    /// Returns the vertex of the requirement of this name, if there is one.
     pub fn vertex_of(&self, name: &[u8]) -> Option<usize>
         ensures { result ≡
             vertex_named (earlier_of self.now.requirements.entries.items) self.now.roots.items name.now }

@@ -14,7 +14,7 @@ use vpg_labels::{Label, with_labels};
 use vpg_part_texts::{Wording, numbers};
 use vpg_parts::FALSE_PLACE;
 
-/// Returns how many of these places are no greater than one.
+/// Returns the number of these places that are at most this one.
 fn count_upto(places: &[u32], place: u32) -> usize
     ensures { result ≡ length (filter (λ root. nat_le root place) places.now) }
 {
@@ -28,14 +28,14 @@ fn count_upto(places: &[u32], place: u32) -> usize
 }
 
 impl Model {
-    /// The number of the requirement that a part is of: the last one whose place is no greater.
+    /// Returns the number of a part's requirement: the last one with a place that is not greater.
     fn requirement_of(&self, place: u32) -> usize
         ensures { result ≡ entry_of self.now.places.items place }
     {
         count_upto(&self.places, place).saturating_sub(1)
     }
 
-    /// The name of a requirement.
+    /// Returns the name of a requirement.
     fn name_of(&self, entry: usize) -> &[u8]
         ensures { result.now ≡ slice_index_or (earlier_of self.now.requirements.entries.items) entry [] }
     {
@@ -45,7 +45,7 @@ impl Model {
         }
     }
 
-    /// The place of a requirement's root.
+    /// Returns the place of a requirement's root.
     fn root_of(&self, entry: usize) -> u32
         ensures { result ≡ slice_index_or self.now.places.items entry 0 }
     {
@@ -55,7 +55,7 @@ impl Model {
         }
     }
 
-    /// Writes what stands in front of the part in a vertex's name.
+    /// Writes the front of a vertex's name, up to the part.
     fn put_front(&self, state: u32, place: u32, out: &mut Vec<u8>) -> Result<(), AllocError>
         ensures { OnOk result (out.new.items ≡ out.old.items
             ++ name_front (earlier_of self.now.requirements.entries.items) self.now.places.items state place) }
@@ -86,7 +86,7 @@ impl Model {
         wording.text(alloc, place)
     }
 
-    /// The name of the vertex of a state and a part.
+    /// Returns the name of the vertex of a state and a part.
     fn label(&self, alloc: Global, numbers: &[usize], pair: (u32, u32)) -> Result<Label, AllocError>
         requires { numbers.now ≡ numbers_from 0 self.now.source.parts.items }
         ensures { IfOk result (λ label. label ≡ vertex_name (earlier_of self.now.requirements.entries.items)
@@ -100,7 +100,7 @@ impl Model {
         Ok(Label { bytes })
     }
 
-    /// The names of all vertices, in order.
+    /// Returns the names of all vertices, in order.
     fn labels(&self, alloc: Global) -> Result<Vec<Label>, AllocError>
         ensures { IfOk result (λ labels. labels.items ≡
             map (vertex_name (earlier_of self.now.requirements.entries.items) self.now.places.items
@@ -115,7 +115,7 @@ impl Model {
         Ok(labels)
     }
 
-    /// The text of the game with these names.
+    /// Returns the text of the game with these names.
     fn text(&self, alloc: Global, names: &Names) -> Result<Vec<u8>, AllocError>
         requires { length names.now ≡ self.now.game.features }
         ensures { IfOk result (λ text. ¬ IsAtLimit self.now.game → SpellsNamed names.now text.items self.now.game
@@ -133,12 +133,12 @@ impl Model {
         with_labels(alloc, &plain, &labels, is_started)
     }
 
-    /// Writes the text of the game behind what is there, over the features of these names. Each vertex has a name: the
-    /// number of its state, the requirement that its part is of, and the part (`0 stops: [true]X`); or `true` or
-    /// `false` alone. The text says where the game starts if there is one requirement.
+    /// Writes the text of the game after what is there, over the features of these names. Each vertex has a name: the
+    /// number of its state, the requirement of its part, and the part (`0 stops: [true]X`); or `true` or `false` alone.
+    /// The text has a start if there is one requirement.
     pub fn write(&self, alloc: Global, names: &Names, out: &mut Vec<u8>) -> Result<(), AllocError>
         requires { length names.now ≡ self.now.game.features }
-        // What is written spells the game. None that `read` returns is at the limit.
+        // The text that is written spells the game. No game that `read` returns is at the limit.
         ensures ok { OnOk result
             (¬ IsAtLimit self.now.game → WritesGame names.now self.now.game out.old.items out.new.items) }
         // The names are those of the states and parts of the vertices, and the start is the one requirement's vertex.

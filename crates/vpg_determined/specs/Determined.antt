@@ -17,7 +17,7 @@ HasWin game player v = (strategy : Strategy) × Wins game player strategy v
 abbrev pub GamesAreDetermined : Type 0
 GamesAreDetermined = (game : Game) (v : ℕ) → IsClosed game → v < length game → HasWin game Even v ⊎ HasWin game Odd v
 
--- One strategy serves both players and every vertex: what it chooses at a vertex counts for the owner alone.
+-- One strategy serves both players and every vertex: its choice at a vertex counts for the owner alone.
 abbrev pub OneStrategyServesBoth : Type 0
 OneStrategyServesBoth = (game : Game) → IsClosed game → (strategy : Strategy) ×
     ((v : ℕ) → v < length game → Wins game Even strategy v ⊎ Wins game Odd strategy v)
@@ -35,8 +35,8 @@ LeastTellsWinner =
     IsLeastProgress shape game table → (v : ℕ) → v < length game →
     ((table v ≡ Top) ↔ HasWin game Odd v) × ((table v ≢ Top) ↔ HasWin game Even v)
 
--- Where one game favours Even at least as much as another, tables below all progress tables of the one and of the
--- other's dual are not both at the top: Even wins the one, or Odd the other.
+-- Let one game favour Even at least as much as another. Then a table below all progress tables of the first and one
+-- below those of the other's dual are not both at the top. Even wins the first game, or Odd the other.
 abbrev pub NotBothTop : Type 0
 NotBothTop =
     (easy hard : Game) (shape dual_shape : Shape) (table dual_table : Table) → IsEasier easy hard → IsClosed easy →

@@ -1,12 +1,13 @@
--- Plays against every opponent. The standard of parity games; that who cannot move loses is this project's own.
+-- Plays against every opponent. The standard of parity games; that a player who cannot move loses is this project's
+-- own.
 use Rattle.std.specs.Prelude.{◌≡◌, ℕ}
 use Rattle.vpg_players.specs.declared.player.Player.{Player}
 use Rattle.vpg_players.specs.Players.{WinsAt, opponent}
 use Rattle.vpg_hope.specs.Games.{Game, HasEdge, owner_of}
 use Rattle.vpg_hope.specs.Strategies.{Strategy, Reaches, Wins, IsPlay, IsGreatestRecurring}
 
--- The player wins every play from the vertex that the strategy allows, whoever moves for the opponent and however: an
--- infinite one by its greatest recurring priority, and one that ends since it is the opponent who cannot move.
+-- The player wins every play from the vertex that the strategy allows, whatever the opponent does. An infinite play is
+-- won by its greatest recurring priority, and a finite one because the opponent cannot move.
 pub record WinsEachPlay (game : Game) (player : Player) (strategy : Strategy) (v : ℕ) : Type 0 where
   pub infinite : (play : ℕ → ℕ) (p : ℕ) → IsPlay game player strategy play → play 0 ≡ v →
       IsGreatestRecurring game play p → WinsAt player p

@@ -1,5 +1,5 @@
--- What determinacy says of product lines, as statements: a verdict has moves that win in every product that is left.
--- This project's own.
+-- Determinacy for product lines, as statements: a verdict has moves that win in every product that is left. This
+-- project's own.
 use Rattle.std.specs.Prelude.{◌≡◌, ℕ, ◌<◌, ◌⊎◌, Bool, List, length, slice_index}
 use Rattle.vpg_players.specs.declared.player.Player.{Player}
 use Rattle.vpg_players.specs.declared.player.Player.TheVariants.{Even, Odd}
@@ -21,8 +21,8 @@ abbrev pub player_for : Which → Player
 player_for Hopeful = Even
 player_for Dual = Odd
 
--- One strategy of the player wins from the vertex in the game of every product that agrees with what is known. It is
--- one that wins the cautious game, of the game for Even and of the dual for Odd.
+-- One strategy of the player wins from the vertex in the game of every product that agrees with what is known. It wins
+-- the cautious game too, of the game for Even and of the dual for Odd.
 pub record HasWinningMoves {Guard : Type 0} (value : Guard → Tri) (mover : Which) (game : GuardedGame Guard)
     (v : ℕ) : Type 0 where
   pub strategy : Strategy
@@ -50,7 +50,7 @@ SureIsWon Guard =
     IsShape (guarded_priorities (dual game)) shape → IsBelowAllProgress shape (hopeful_game value (dual game)) table →
     (v : ℕ) → v < length game → table v ≡ Top → HasWinningMoves value Hopeful game v
 
--- Where every progress table of the one player's hopeful game has the top at the vertex, the other player wins so.
+-- If every progress table of one player's hopeful game has the top at the vertex, the other player wins so.
 abbrev pub TopsHaveMoves : Type 0 → Type 0
 TopsHaveMoves Guard =
     (value : Guard → Tri) (mover : Which) (game : GuardedGame Guard) (v : ℕ) → IsClosedGuarded game →
@@ -59,14 +59,14 @@ TopsHaveMoves Guard =
     (top_for (other_table mover) game) →
     HasWinningMoves value mover game v
 
--- so it does where a table of a page is at the top
+-- if a table of a page has the top at the vertex, the other player wins so
 abbrev pub VerdictsHaveMoves : Type 0 → Type 0
 VerdictsHaveMoves Guard =
     (value : Guard → Tri) (mover : Which) (game : GuardedGame Guard) (numbers : List ℕ) → IsClosedGuarded game →
     IsTableBelow value (other_table mover) game numbers → (v : ℕ) → v < length game →
     slice_index numbers v ≡ top_for (other_table mover) game → HasWinningMoves value mover game v
 
--- Tables of a page are not both at the top at one vertex, whatever is known: no product has to be left.
+-- Tables of a page are not both at the top at one vertex, whatever is known, even if no product is left.
 abbrev pub NotHopelessAndSure : Type 0 → Type 0
 NotHopelessAndSure Guard =
     (value : Guard → Tri) (game : GuardedGame Guard) (hopeful dual : List ℕ) → IsClosedGuarded game →

@@ -1,4 +1,4 @@
-//! Who wins a parity game: each law is the contract of a function that does nothing.
+//! Laws on who wins a parity game. Each function does nothing: its contract is the law.
 ghost use Rattle.vpg_determined.specs.Determined.{GamesAreDetermined, OneStrategyServesBoth, PlaysAreDetermined, LeastTellsWinner, NotBothTop};
 ghost use Rattle.vpg_determined.specs.Plays.{WinnersWinEachPlay};
 ghost use Rattle.vpg_determined.specs.ProductLaws.{HopeOrCautionWins, HopelessIsLost, SureIsWon, TopsHaveMoves, VerdictsHaveMoves, NotHopelessAndSure};
@@ -13,7 +13,7 @@ pub fn one_strategy_serves_both()
     ensures { OneStrategyServesBoth }
 {}
 
-/// A positional strategy that wins wins every play that it allows, whoever moves for the opponent and however.
+/// A positional strategy that wins wins every play that it allows, whatever the opponent does.
 pub fn winners_win_each_play()
     ensures { WinnersWinEachPlay }
 {}
@@ -43,12 +43,12 @@ pub fn hopeless_is_lost<G>()
     ensures { HopelessIsLost G }
 {}
 
-/// A sure vertex is won by Even in every such product, by one strategy.
+/// A sure vertex is won by Even in every product that agrees with what is known, by one strategy.
 pub fn sure_is_won<G>()
     ensures { SureIsWon G }
 {}
 
-/// Where every progress table is at the top, or a table of a page is, the other player has moves that win in every
+/// If every progress table is at the top, or a table of a page is, the other player has moves that win in every
 /// product.
 pub fn verdicts_have_moves<G>()
     ensures values { TopsHaveMoves G }

@@ -1,4 +1,4 @@
--- Reading a text of a feature diagram, line by line: words for private functions.
+-- Reading a text of a feature diagram, line by line, for the contracts of private functions.
 use Rattle.std.specs.Prelude.{ℕ, suc, ◌+◌, Bool, true, false, not, ◌&&◌, ◌==◌, nat_lt, nat_le, cond, List, [], ◌∷◌, ◌++◌, length, Option, Some, None, Result, Ok, Err, codes, bytes_eq, is_some, is_none, option_map}
 use Rattle.std.specs.List.{list_all, range_with_len}
 use Rattle.std.specs.Str.Parse.{digits_value}
@@ -14,12 +14,12 @@ pub data Fault : Type 0 where
   NoRoot : Fault
   At : (line : ℕ) → LineFault → Fault
 
--- a test that has to pass, and the fault where it does not
+-- a test that has to pass, and the fault if it does not
 abbrev pub checked : {A E : Type 0} → Bool → E → Result A E → Result A E
 checked true fault r = r
 checked false fault r = Err fault
 
--- what stands before the first colon, and after it
+-- the text before the first colon, and the text after it
 abbrev pub before_next : ℕ → Option (List ℕ × List ℕ) → Option (List ℕ × List ℕ)
 before_next b None = None
 before_next b (Some p) = Some (b ∷ p.0, p.1)
@@ -88,7 +88,7 @@ rule_at rules None b line = Err UnknownFeature
 rule_at rules (Some a) None line = Err UnknownFeature
 rule_at rules (Some a) (Some b) line = checked (nat_lt rules 16384) TooMany (Ok (line a b))
 
--- the line of a form, behind lines with these names and so many rules
+-- the line of a form, after lines with these names and this number of rules
 abbrev pub line_at : List (List ℕ) → ℕ → Form → Result Line LineFault
 line_at names rules (RootLine r) = Err TwoRoots
 line_at names rules (MandatoryLine p c) =
@@ -103,7 +103,7 @@ line_at names rules (GroupLine p low high cs) =
 line_at names rules (RequiresLine a b) = rule_at rules (place_of_name names a) (place_of_name names b) Requires
 line_at names rules (ExcludesLine a b) = rule_at rules (place_of_name names a) (place_of_name names b) Excludes
 
--- a line in front of what is read behind it
+-- a line in front of what is read after it
 abbrev pub with_line : Line → List (List ℕ) → Result NamedDiagram Fault → Result NamedDiagram Fault
 with_line line new (Ok d) = Ok (record { names = new ++ d.names; lines = line ∷ d.lines })
 with_line line new (Err fault) = Err fault
@@ -112,7 +112,7 @@ abbrev pub with_root : List ℕ → Result NamedDiagram Fault → Result NamedDi
 with_root root (Ok d) = Ok (record { names = root ∷ d.names; lines = d.lines })
 with_root root (Err fault) = Err fault
 
--- what a line gives, and then what is read behind it, by the names and rules up to there
+-- the line, and then what is read after it, by the names and rules up to there
 abbrev pub after_line : ℕ → List (List ℕ) → ℕ → Form → Result Line LineFault →
     (List (List ℕ) → ℕ → Result NamedDiagram Fault) → Result NamedDiagram Fault
 after_line number names rules form (Err fault) rest = Err (At number fault)
@@ -124,7 +124,7 @@ abbrev pub after_form : ℕ → List (List ℕ) → ℕ → Option Form → (Lis
 after_form number names rules None rest = Err (At number Syntax)
 after_form number names rules (Some form) rest = after_line number names rules form (line_at names rules form) rest
 
--- the lines from a number on, behind lines with these names and so many rules
+-- the lines from a number on, after lines with these names and this number of rules
 abbrev pub read_lines : ℕ → List (List ℕ) → List (List ℕ) → ℕ → Result NamedDiagram Fault
 read_lines number [] names rules = Ok (record { names = []; lines = [] })
 read_lines number (bytes ∷ rest) names rules =

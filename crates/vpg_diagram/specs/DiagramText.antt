@@ -34,7 +34,7 @@ pub data Form : Type 0 where
   RequiresLine : (feature needed : List ℕ) → Form
   ExcludesLine : (feature other : List ℕ) → Form
 
--- two names behind a word
+-- two names after a word
 pub record HasTwoNames (bytes : List ℕ) (word first second : List ℕ) : Type 0 where
   pub words_are : words bytes ≡ word ∷ first ∷ second ∷ []
   pub first_name : IsFeatureName first
@@ -109,8 +109,8 @@ pub record Spells (text : List ℕ) (d : NamedDiagram) : Type 0 where
   pub root_is : SpellsForm root (RootLine (name_of d.names 0))
   pub others_are : AllZip (λ bytes line. SpellsForm bytes (named d.names line)) others d.lines
 
--- The text spells this diagram, within the limits: its lines that are not blank have, in order, the forms of the
--- root and of the diagram's lines.
+-- The text spells this diagram, within the limits. Its lines that are not blank have, in order, the forms of the root
+-- and of the diagram's lines.
 pub record IsTextOf (text : List ℕ) (d : NamedDiagram) : Type 0 where
   pub named_diagram : IsNamedDiagram d
   pub spells : Spells text d

@@ -1,4 +1,4 @@
--- What the code keeps of a line, as a form.
+-- The code's form of a line, as a form.
 use Rattle.std.specs.Prelude.{ℕ, List, map}
 use Rattle.std.specs.Borrow.{Bor}
 use Rattle.std.specs.Str.Parse.{digits_value}

@@ -1,4 +1,4 @@
--- What a diagram keeps beside its names and lines.
+-- The clauses, counts and index that a diagram keeps with its names and lines.
 use Rattle.std.specs.Prelude.{◌≡◌, ℕ, List}
 use Rattle.vpg_diagram.specs.Clauses.{clauses_of, counts_of}
 use Rattle.vpg_diagram.specs.DiagramText.{NamedDiagram, IsNamedDiagram}

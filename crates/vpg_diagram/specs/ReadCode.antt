@@ -1,4 +1,4 @@
--- What reading a line gives: words for private functions.
+-- The results of reading a line, for the contracts of private functions.
 use Rattle.std.specs.Prelude.{ℕ, ◌≡◌, ◌+◌, ◌≤◌, ◌++◌, length, true, ◌∷◌, [], Bool, List, Some, None, Ok, Err, Result, ◌⊎◌, ⊤}
 use Rattle.std.specs.Str.Lines.{lines}
 use Rattle.vpg_diagram.specs.FeatureDiagram.{Line}
@@ -13,7 +13,7 @@ use Rattle.vpg_diagram.specs.declared.fault.LineError.TheVariants.{Memory, Refus
 use Rattle.vpg_diagram.specs.declared.reading.Family.{Family}
 use Rattle.vpg_diagram.specs.declared.reading.Reader.{Reader}
 
--- children of a parent, read behind names
+-- children of a parent, read after names
 pub record IsFamily (names : List (List ℕ)) (parent : List ℕ) (members : List (List ℕ)) (fits : Bool)
     (family : Family) : Type 0 where
   pub read : (line : ℕ → List ℕ → Line) →
@@ -34,7 +34,8 @@ abbrev pub IsFormError : List (List ℕ) → ℕ → Form → LineError → Type
 IsFormError names rules form Memory = ⊤
 IsFormError names rules form (Refused kind) = line_at names rules form ≡ Err kind
 
--- the line that bytes spell, behind lines with these names and so many rules, and the names with those of the line
+-- the line that bytes spell, after lines with these names and this number of rules, and the names with those of the
+-- line
 pub record ReadsLine (names : List (List ℕ)) (rules : ℕ) (bytes : List ℕ) (after : List (List ℕ))
     (line : Line) : Type 0 where
   pub form : Form
@@ -42,7 +43,7 @@ pub record ReadsLine (names : List (List ℕ)) (rules : ℕ) (bytes : List ℕ) 
   pub line_is : line_at names rules form ≡ Ok line
   pub names_are : after ≡ names ++ new_names form
 
--- a line behind what is read
+-- a line after what is read
 pub record AddsLine (old : Reader) (bytes : List ℕ) (new : Reader) : Type 0 where
   pub form : Form
   pub line : Line
@@ -59,7 +60,7 @@ IsLineError names rules bytes (Refused kind) =
     ((form_of bytes ≡ None) × (kind ≡ Syntax)) ⊎
     ((form : Form) × (form_of bytes ≡ Some form) × (line_at names rules form ≡ Err kind))
 
--- the reading of a text whose root line has this name and number, and this behind it
+-- the reading of a text whose root line has this name and number, and this text after it
 abbrev pub behind_root : List ℕ → ℕ → List ℕ → Result NamedDiagram Fault
 behind_root root number behind = with_root root (read_lines (number + 1) (lines behind) (root ∷ []) 0)
 

@@ -60,7 +60,7 @@ abbrev pub HasBadRange : Form → Type 0
 HasBadRange (GroupLine p low high cs) = (high < low) ⊎ (length cs < high)
 HasBadRange _ = ⊥
 
--- A form that is refused behind these names and so many rules: each fault where none of a lower number is.
+-- A form that is refused after these names and this number of rules: each fault if none of a lower number holds.
 abbrev pub IsFormFault : List (List ℕ) → ℕ → Form → LineFault → Type 0
 IsFormFault names rules form Syntax = ⊥
 IsFormFault names rules form TwoRoots = IsOther form → ⊥

@@ -8,7 +8,7 @@ use crate::clause::{Clause, Count};
 use crate::line::Line;
 use std::alloc::{AllocError, Global};
 
-/// Adds what keeps members below their parent.
+/// Adds the clauses that keep members below their parent.
 fn push_parents(
     alloc: Global,
     clauses: &mut Vec<Clause>,
@@ -23,7 +23,7 @@ fn push_parents(
     Ok(())
 }
 
-/// Adds what keeps a feature apart from each of the others.
+/// Adds the clauses that keep a feature apart from each of the others.
 fn push_pairs_of(
     alloc: Global,
     clauses: &mut Vec<Clause>,
@@ -39,7 +39,7 @@ fn push_pairs_of(
     Ok(())
 }
 
-/// Adds what keeps members apart from one another.
+/// Adds the clauses that keep members apart from one another.
 fn push_pairs(alloc: Global, clauses: &mut Vec<Clause>, members: &[u16]) -> Result<(), AllocError>
     ensures { IfOk result (λ _. clauses.new.items ≡ clauses.old.items ++ pair_clauses members.now) }
 {
@@ -95,7 +95,7 @@ fn push_line(alloc: Global, clauses: &mut Vec<Clause>, line: Line) -> Result<(),
     Ok(())
 }
 
-/// The clauses of a diagram.
+/// Returns the clauses of a diagram.
 pub(crate) fn clauses_of(alloc: Global, lines: &[Line]) -> Result<Vec<Clause>, AllocError>
     ensures { IfOk result (λ clauses. clauses.items ≡ clauses_of (lines_of lines.now)) }
 {
@@ -107,7 +107,7 @@ pub(crate) fn clauses_of(alloc: Global, lines: &[Line]) -> Result<Vec<Clause>, A
     Ok(clauses)
 }
 
-/// The counts of a diagram.
+/// Returns the counts of a diagram.
 pub(crate) fn counts_of(alloc: Global, lines: &[Line]) -> Result<Vec<Count>, AllocError>
     ensures { IfOk result (λ counts. counts.items ≡ counts_of (lines_of lines.now)) }
 {

@@ -27,7 +27,7 @@ pub struct Diagram {
     index: Index,
 }
 
-// Not derived, so that letting one go is one call: a derived way would be proved anew at each exit that owns one.
+// Not derived: a derived `drop` would be proved again at each exit that owns such a value.
 impl Drop for Diagram {
     fn drop(self) {
         let Diagram {
@@ -58,7 +58,7 @@ impl Diagram {
     ghost use Rattle.vpg_diagram.specs.DiagramText.{IsTextOf, NamedDiagram};
     ghost use Rattle.vpg_diagram.specs.TextFaults.{IsFirstFault};
 
-    /// The diagram of these names and lines.
+    /// Returns the diagram of these names and lines.
     fn of(alloc: Global, names: Names, lines: Vec<Line>) -> Result<Diagram, AllocError>
         requires { IsNamedDiagram (record { names = names; lines = lines_of lines.items }) }
         ensures { IfOk result (λ d. d ≡ record { names = names; lines = lines_of lines.items }) }
@@ -75,17 +75,17 @@ impl Diagram {
         })
     }
 
-    /// The diagram that a text spells, of at most 512 features and 16,384 rules. A text that is refused has the first
-    /// fault of its first faulty line, in the order of `DiagramFault`.
+    /// Returns the diagram that a text spells, of at most 512 features and 16,384 rules. If the text is refused, the
+    /// fault is the first of the first faulty line, in the order of `DiagramFault`.
     pub fn read(alloc: Global, text: &[u8]) -> Result<Diagram, DiagramFault>
-        // What is read is spelled so.
+        // The text spells the diagram that is read.
         ensures found { IfOk result (IsTextOf text.now) }
         // A text that is refused spells no diagram within the limits.
         ensures refused { IfErr result
             (λ fault. fault ≢ DiagramFault.Memory → (d : NamedDiagram) → IsTextOf text.now d → ⊥) }
         // The fault is that of the first faulty line, and the first that this line has.
         ensures fault { IfErr result (IsFirstFault text.now) }
-        // What is spelled so is read, unless memory runs out.
+        // A diagram that the text spells is read, unless memory runs out.
         ensures only { (d : NamedDiagram) → IsTextOf text.now d →
             MatchResult result (λ read. read ≡ d) (λ fault. fault ≡ DiagramFault.Memory) }
     {
@@ -99,7 +99,7 @@ impl Diagram {
         }
     }
 
-    /// The names of the features, in order. The root is the first.
+    /// Returns the names of the features, in order. The root is the first.
     pub fn names(&self) -> &Names
         ensures names { result.now ≡ self.now.names }
         ensures diagram { IsNamedDiagram self.now }
@@ -107,7 +107,7 @@ impl Diagram {
         &self.names
     }
 
-    /// How many features there are, 1 to 512.
+    /// Returns the number of features, 1 to 512.
     pub fn features(&self) -> usize
         ensures count { result ≡ feature_count self.now.lines }
         ensures diagram { IsNamedDiagram self.now }
@@ -123,7 +123,7 @@ impl Diagram {
         product::is_product(&self.clauses, &self.counts, features)
     }
 
-    /// The clauses: a set of features is a product where it meets each clause and each count.
+    /// Returns the clauses. A set of features is a product if it meets each clause and each count.
     pub fn clauses(&self) -> &[Clause]
         ensures clauses { result.now ≡ clauses_of self.now.lines }
         ensures below { AllByRecursion (IsClauseBelow (feature_count self.now.lines)) result.now }
@@ -131,7 +131,7 @@ impl Diagram {
         &self.clauses
     }
 
-    /// The counts of the or-groups and of the groups with a cardinality.
+    /// Returns the counts of the or-groups and of the groups with a cardinality.
     pub fn counts(&self) -> &[Count]
         ensures counts { result.now ≡ counts_of self.now.lines }
         ensures below { AllByRecursion (IsCountBelow (feature_count self.now.lines)) result.now }
@@ -139,8 +139,8 @@ impl Diagram {
         &self.counts
     }
 
-    /// For each feature the numbers of the clauses and counts that speak of it. The clauses have the first numbers, in
-    /// order, and then come the counts.
+    /// Returns for each feature the numbers of the clauses and counts that name it. The clauses have the first numbers,
+    /// in order, and then come the counts.
     pub fn index(&self) -> &Index
         ensures { IsIndex (clauses_of self.now.lines) (counts_of self.now.lines) result.now }
     {

@@ -4,8 +4,8 @@ use std::alloc::AllocError;
 use std::fmt;
 use thiserror::Error;
 
-/// Why a text is no diagram, and at which line, counted from 1. Of the lines that are refused the first decides.
-/// Of the reasons that one line has the first in this order does.
+/// Why a text is no diagram, and at which line, counted from 1. The first faulty line decides, and of its faults the
+/// first in this order.
 #[derive(Clone, Copy, Debug, PartialEq, Eq, Error)]
 pub enum DiagramFault {
     /// A line of no known form, or with a word that is no feature name.
@@ -27,7 +27,7 @@ pub enum DiagramFault {
 }
 
 impl DiagramFault {
-    /// The word that names it.
+    /// Returns the word that names it.
     fn word(&self) -> &'static str {
         match self {
             DiagramFault::Syntax { .. } => "Syntax",
@@ -41,7 +41,7 @@ impl DiagramFault {
         }
     }
 
-    /// The line that it is told for, where there is one.
+    /// Returns the line that it is reported for, if there is one.
     fn line(&self) -> Option<usize> {
         match *self {
             DiagramFault::Syntax { line }
@@ -55,7 +55,7 @@ impl DiagramFault {
     }
 }
 
-/// The word, and behind it the line.
+/// The word, and after it the line.
 impl fmt::Display for DiagramFault {
     fn fmt<W: fmt::Write>(&self, f: &mut fmt::Formatter<W>) -> fmt::Result {
         match self.line() {
@@ -80,7 +80,7 @@ impl LineFault {
     ghost use Rattle.std.specs.Prelude.{◌≡◌};
     ghost use Rattle.vpg_diagram.specs.TextFaults.{fault_at};
 
-    /// The fault of a diagram whose line is refused so.
+    /// Returns the diagram's fault for this fault at a line.
     pub(crate) fn at(self, line: usize) -> DiagramFault
         ensures { result ≡ fault_at line self }
     {

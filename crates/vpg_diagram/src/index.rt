@@ -1,4 +1,4 @@
-//! For each feature, the rules that speak of it.
+//! For each feature, the rules that name it.
 
 ghost use Rattle.std.specs.Prelude.{◌≡◌, ◌<◌, length, OnOk, IfOk};
 ghost use Rattle.std.specs.List.{AllByRecursion};
@@ -10,7 +10,7 @@ use crate::clause::{Clause, Count};
 use std::alloc::{AllocError, Global};
 use vpg_features::Index;
 
-/// The index of the clauses and counts over this many features. The clauses have the first numbers.
+/// Returns the index of the clauses and counts over this many features. The clauses have the first numbers.
 pub(crate) fn index_of(
     alloc: Global,
     features: usize,

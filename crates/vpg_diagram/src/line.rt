@@ -14,7 +14,7 @@ pub(crate) struct Members {
 impl Members {
     ghost use Rattle.vpg_diagram.specs.LineView.{members_of};
 
-    /// The members in order.
+    /// Returns the members in order.
     pub(crate) fn list(self, alloc: Global) -> Result<Vec<u16>, AllocError>
         ensures { IfOk result (λ list. list.items ≡ members_of self) }
     {

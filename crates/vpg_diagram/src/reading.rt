@@ -12,7 +12,7 @@ use indexmap::IndexSet;
 use std::alloc::{AllocError, Global};
 use vpg_features::{MOST_FEATURES, Names};
 
-/// The most rules that a diagram has.
+/// The greatest number of rules in a diagram.
 pub const MOST_RULES: usize = 16_384;
 
 /// Whether each word is new: not among the names, and not twice.
@@ -23,7 +23,7 @@ fn are_new(alloc: Global, names: &Names, words: &[&[u8]]) -> Result<bool, AllocE
     are_unseen(names, words, &mut seen)
 }
 
-/// Whether each word is new, where none is seen yet.
+/// Whether each word is new, if none is seen yet.
 fn are_unseen<'a>(
     names: &Names,
     words: &[&'a [u8]],
@@ -43,7 +43,7 @@ fn are_unseen<'a>(
     Ok(true)
 }
 
-/// Adds names that are new, where there is room for them.
+/// Adds names that are new, if there is room for them.
 fn add_names(alloc: Global, names: &mut Names, words: &[&[u8]]) -> Result<(), AllocError>
     ensures { IfOk result (λ _. names.new ≡ names.old ++ texts words.now) }
 {
@@ -56,7 +56,7 @@ fn add_names(alloc: Global, names: &mut Names, words: &[&[u8]]) -> Result<(), Al
     Ok(())
 }
 
-/// A parent with children behind all earlier features.
+/// A parent with children after all earlier features.
 #[derive(Clone, Copy)]
 struct Family {
     parent: u16,
@@ -98,7 +98,7 @@ fn add_children(
     Ok(Family { parent, members })
 }
 
-/// The two features of a rule, behind so many rules.
+/// Returns the two features of a rule, after this number of rules.
 fn rule_of(
     names: &Names,
     rules: usize,
@@ -125,14 +125,14 @@ fn rule_of(
     Ok((first, second))
 }
 
-/// Whether a range is one of so many members.
+/// Whether a range fits this number of members.
 fn is_range(low: u64, high: u64, members: usize) -> bool
     ensures { result ≡ (nat_le low high && nat_le high members) }
 {
     low <= high && high <= members as u64
 }
 
-/// The line of a form, whose new names are added.
+/// Returns the line of a form, and adds its new names.
 fn line_at(
     alloc: Global,
     names: &mut Names,
@@ -196,7 +196,7 @@ fn line_at(
     }
 }
 
-/// What is read so far.
+/// The names and lines read so far.
 #[derive(Drop)]
 pub(crate) struct Reader {
     pub(crate) names: Names,
@@ -206,7 +206,7 @@ pub(crate) struct Reader {
 
 ghost use Rattle.vpg_diagram.specs.ReadCode.{ReadsLine, AddsLine, IsLineError};
 
-/// Reads a line that is not blank, behind so many rules, and adds its new names.
+/// Reads a line that is not blank, after this number of rules, and adds its new names.
 fn read_line(
     alloc: Global,
     names: &mut Names,
@@ -222,7 +222,7 @@ fn read_line(
     line_at(alloc, names, rules, &form)
 }
 
-/// Reads a line that is not blank behind the others.
+/// Reads a line that is not blank after the others.
 fn add_line(alloc: Global, reader: &mut Reader, bytes: &[u8]) -> Result<(), LineError>
     requires { reader.old.rules ≤ MOST_RULES }
     ensures ok { IfOk result (λ _. AddsLine reader.old bytes.now reader.new) }
@@ -239,7 +239,7 @@ fn add_line(alloc: Global, reader: &mut Reader, bytes: &[u8]) -> Result<(), Line
     Ok(())
 }
 
-/// The root line: its name, what stands behind the line, and the line's number.
+/// The root line: its name, the text after the line, and the line's number.
 #[derive(Clone, Copy)]
 struct Root<'a> {
     name: &'a [u8],
@@ -254,7 +254,7 @@ ghost use Rattle.vpg_diagram.specs.DiagramText.{RootLine};
 ghost use Rattle.vpg_diagram.specs.LineView.{line_of, lines_of};
 ghost use Rattle.vpg_diagram.specs.ReadCode.{IsReadingFault, behind_root};
 
-/// The name in a root line.
+/// Returns the name in a root line.
 fn root_name(alloc: Global, line: &[u8], number: usize) -> Result<&[u8], DiagramFault>
     ensures name { IfOk result (λ name. line_form line.now ≡ Some (RootLine name.now)) }
     ensures refused { IfErr result
@@ -311,7 +311,7 @@ pub(crate) fn read_text(alloc: Global, text: &[u8]) -> Result<Reader, DiagramFau
     }
 }
 
-/// Reads the name of the root and the lines behind it, where nothing is read yet.
+/// Reads the name of the root and the lines after it, if nothing is read yet.
 fn read_behind(alloc: Global, root: Root, reader: &mut Reader) -> Result<(), DiagramFault>
     requires names { reader.old.names ≡ [] }
     requires lines { reader.old.lines.items ≡ [] }

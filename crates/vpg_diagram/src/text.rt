@@ -23,7 +23,7 @@ fn is_nonempty(part: &[u8]) -> bool
     }
 }
 
-/// The words of a line: what stands between its blanks.
+/// Returns the words of a line: what stands between its blanks.
 fn words(alloc: Global, line: &[u8]) -> Result<Vec<&[u8]>, AllocError>
     ensures { IfOk result (λ v. map (λ w. w.now) v.items ≡ words line.now) }
 {
@@ -104,7 +104,7 @@ fn pair_form<'a>(word: &[u8], first: &'a [u8], second: &'a [u8]) -> Option<LineF
     }
 }
 
-/// A line with no colon.
+/// Returns the form of a line with no colon.
 fn plain_form<'a>(words: &[&'a [u8]]) -> Option<LineForm<'a>>
     ensures { option_map view_form result ≡ plain_form (texts words.now) }
 {
@@ -158,7 +158,7 @@ fn range_form<'a>(
     }
 }
 
-/// A line with a colon, by the words before it and after it.
+/// Returns the form of a line with a colon, by the words before it and after it.
 fn group_form<'a>(head: &[&'a [u8]], members: Vec<&'a [u8]>) -> Option<LineForm<'a>>
     ensures { option_map view_form result ≡ group_form (texts head.now) (texts members.entry.items) }
 {
@@ -179,7 +179,7 @@ fn colon(line: &[u8]) -> Option<usize>
     line.iter().position(|b| *b == b':')
 }
 
-/// The form of a line, if it has one.
+/// Returns the form of a line, if it has one.
 pub(crate) fn form_of(alloc: Global, line: &[u8]) -> Result<Option<LineForm>, AllocError>
     ensures { IfOk result (λ found. option_map view_form found ≡ form_of line.now) }
 {
@@ -200,10 +200,10 @@ ghost use Rattle.std.specs.Prelude.{◌<◌, ◌^◌, min};
 ghost use Rattle.std.specs.Str.Lines.{lines, strip_carriage_return};
 ghost use Rattle.std.specs.Str.Parse.{digits_value};
 
-/// No number of members is as great as this.
+/// A number greater than any number of members.
 const GREAT: u64 = 1 << 60;
 
-/// The number that digits write, and `GREAT` where it is greater.
+/// Returns the number that digits write, or `GREAT` if it is greater.
 pub(crate) fn number(digits: &[u8]) -> u64
     ensures { result ≡ min (digits_value 10 digits.now) (2 ^ 60) }
 {
@@ -215,14 +215,14 @@ pub(crate) fn number(digits: &[u8]) -> u64
     value
 }
 
-/// Whether only spaces and tabs stand in a line.
+/// Whether a line has only spaces and tabs.
 pub(crate) fn is_blank_line(line: &[u8]) -> bool
     ensures { result ≡ not (is_nonempty (words line.now)) }
 {
     line.iter().all(|b| is_blank(*b))
 }
 
-/// A line without the one carriage return at its end.
+/// Returns a line without the one carriage return at its end.
 fn without_return(line: &[u8]) -> &[u8]
     ensures { result.now ≡ strip_carriage_return line.now }
 {
@@ -238,7 +238,7 @@ fn line_end(text: &[u8]) -> Option<usize>
     text.iter().position(|b| *b == b'\n')
 }
 
-/// The first line of a text, and what stands behind it.
+/// Returns the first line of a text, and what stands after it.
 pub(crate) fn first_line(text: &[u8]) -> (&[u8], &[u8])
     requires { 0 < length text.now }
     ensures lines { lines text.now ≡ result.0.now ∷ lines result.1.now }

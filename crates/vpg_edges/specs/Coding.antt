@@ -1,4 +1,4 @@
--- The code by which a model holds an edge.
+-- Codes for edges, by which a model holds them.
 use Rattle.std.specs.Prelude.{ℕ, refl}
 use Rattle.std.specs.Coded.{Coded, code_by, coded×, coded_ℕ}
 use Rattle.vpg_guards.specs.Formula.{Formula}

@@ -37,7 +37,7 @@ impl Edge {
         other.to == self.to && self.guard.is_same(&other.guard)
     }
 
-    /// The same edge.
+    /// Returns a copy of the edge.
     pub fn copy(&self, alloc: Global) -> Result<Edge, AllocError>
         ensures { IfOk result (λ edge. edge ≡ self.now) }
     {
@@ -47,7 +47,7 @@ impl Edge {
         })
     }
 
-    /// The edge with another guard joined to its own.
+    /// Returns the edge with another guard joined to its own.
     pub fn joined(self, alloc: Global, guard: Guard) -> Result<Edge, AllocError>
         ensures { IfOk result (λ e. (e.to ≡ self.to) × (e.guard ≡ either self.guard (formula_of guard))) }
     {

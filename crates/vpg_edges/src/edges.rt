@@ -23,7 +23,7 @@ pub fn are_same(edges: &[Edge], others: &[Edge]) -> bool
     true
 }
 
-/// The same edges.
+/// Returns a copy of the edges.
 pub fn copy_edges(alloc: Global, edges: &[Edge]) -> Result<Vec<Edge>, AllocError>
     ensures { IfOk result (λ copy. copy.items ≡ edges.now) }
 {

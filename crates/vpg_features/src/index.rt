@@ -42,14 +42,14 @@ impl Row {
     }
 }
 
-/// An index: for each feature, the numbers that were noted of it, as of the vertices or rules that name it.
+/// For each feature, the numbers noted of it: for instance those of the vertices or rules that name it.
 ///
 /// Clauses see it as the list of these lists, in the order of the features.
 pub struct Index {
     rows: Vec<Row>,
 }
 
-// Not derived, so that letting one go is one call: a derived way would be proved anew at each exit that owns one.
+// Not derived: a derived `drop` would be proved again at each exit that owns such a value.
 impl Drop for Index {
     fn drop(self) {
         let Index { rows: _ } = self;
@@ -65,7 +65,7 @@ impl Model for Index {
 }
 
 impl Index {
-    /// The index of so many features, with nothing noted.
+    /// Returns the index of this number of features, with nothing noted.
     pub fn new(alloc: Global, features: usize) -> Result<Index, AllocError>
         ensures { IfOk result (λ index. index ≡ replicate features []) }
     {
@@ -76,7 +76,7 @@ impl Index {
         Ok(Index { rows })
     }
 
-    /// Notes the number of the feature. A number that was the last one noted of it isn't kept twice.
+    /// Notes the number of the feature. It is not kept twice if it was the last one noted of that feature.
     pub fn note(&mut self, number: usize, feature: u16) -> Result<(), AllocError>
         requires { feature < length self.old }
         ensures { OnOk result (NotesAlso self.old number (feature ∷ []) self.new) }
@@ -95,7 +95,7 @@ impl Index {
         Ok(())
     }
 
-    /// The numbers noted of the feature, in the order of the noting.
+    /// Returns the numbers noted of the feature, in the order in which they were noted.
     pub fn numbers(&self, feature: u16) -> &[usize]
         ensures { result.now ≡ slice_index_or self.now feature [] }
     {

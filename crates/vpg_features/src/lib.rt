@@ -1,10 +1,10 @@
 //! The names of features in order, and lists by feature.
 //!
 //! The crates above use `Names`, the names of features in the order of a feature diagram, `is_feature_name`, and
-//! `Index`: for each feature the numbers that were noted of it, as of the vertices or rules that name it. The reader of
-//! guards uses `is_name_byte` and `constant_of`.
+//! `Index`: for each feature, the numbers noted of it, such as those of the vertices or rules that name it. The reader
+//! of guards uses `is_name_byte` and `constant_of`.
 //!
-//! Definitions stand in `specs/`: `Names` (feature names, and lists of them) and `Index` (what is noted).
+//! Definitions stand in `specs/`: `Names` (feature names, and lists of them) and `Index` (lists by feature).
 #![tactic(auto)]
 
 mod fault;

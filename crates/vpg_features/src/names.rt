@@ -7,10 +7,10 @@ use std::alloc::{AllocError, Global};
 use std::marker::Model;
 use std::str;
 
-/// The most bytes that a feature name has.
+/// The greatest length of a feature name, in bytes.
 pub const LONGEST_NAME: usize = 64;
 
-/// The most features that there are.
+/// The greatest number of features.
 pub const MOST_FEATURES: usize = 512;
 
 /// The names of features in order, each once, 512 at most. A name's index is its place, from 0.
@@ -18,7 +18,7 @@ pub struct Names {
     set: IndexSet<String>,
 }
 
-// Not derived, so that letting one go is one call: a derived way would be proved anew at each exit that owns one.
+// Not derived: a derived `drop` would be proved again at each exit that owns such a value.
 impl Drop for Names {
     fn drop(self) {
         let Names { set: _ } = self;
@@ -41,7 +41,7 @@ ghost use Rattle.std.specs.List.{list_all};
 ghost use Rattle.vpg_features.specs.Names.{IsFeatureName, IsNew, IsRefused, AreNames, Lacks, is_name_start, is_name_byte, constant_of, index_of};
 
 impl Names {
-    /// No names.
+    /// Returns the list without names.
     pub fn new(alloc: Global) -> Result<Names, AllocError>
         ensures { IfOk result (λ names. names ≡ []) }
     {
@@ -50,7 +50,7 @@ impl Names {
         })
     }
 
-    /// How many names there are, 0 to 512.
+    /// Returns the number of names, 0 to 512.
     pub fn len(&self) -> usize
         ensures len { result ≡ length self.now }
         ensures names { AreNames self.now }
@@ -65,8 +65,8 @@ impl Names {
         self.set.is_empty()
     }
 
-    /// Adds a name behind the others, and gives its index. A refusal changes nothing; the first reason that holds, in
-    /// the order of `NameFault`, is told.
+    /// Adds a name after the others, and returns its index. A refusal changes nothing; it is the first reason that
+    /// holds, in the order of `NameFault`.
     pub fn add(&mut self, alloc: Global, name: &[u8]) -> Result<u16, NameFault>
         ensures ok { IfOk result (λ i. (i ≡ length self.old) × (self.new ≡ self.old ++ name.now ∷ [])) }
         ensures added { IfOk result (λ _. IsNew self.old name.now × (length self.old < 512)) }
@@ -95,7 +95,7 @@ impl Names {
         Ok(index as u16)
     }
 
-    /// The index of a name, `None` for a text that is none of the names.
+    /// Returns the index of a name, or `None` if the text is none of the names.
     pub fn get(&self, name: &[u8]) -> Option<u16>
         ensures index { result ≡ index_of self.now name.now }
         ensures found { IfSome result (λ i. slice_get self.now i ≡ Some name.now) }
@@ -112,7 +112,7 @@ impl Names {
         }
     }
 
-    /// The name at an index, which is below `len`.
+    /// Returns the name at an index, which is below `len`.
     pub fn name(&self, f: u16) -> &str
         requires { f < length self.now }
         ensures held { slice_get self.now f ≡ Some result.now }
@@ -125,21 +125,21 @@ impl Names {
     }
 }
 
-/// Whether a letter, a digit or `_`.
+/// Whether the byte is a letter, a digit or `_`.
 pub fn is_name_byte(b: u8) -> bool
     ensures { result ≡ is_name_byte b }
 {
     b.is_ascii_alphanumeric() || b == b'_'
 }
 
-/// Whether a letter or `_`.
+/// Whether the byte is a letter or `_`.
 fn is_name_start(b: u8) -> bool
     ensures { result ≡ is_name_start b }
 {
     b.is_ascii_alphabetic() || b == b'_'
 }
 
-/// The constant that a word stands for: `true` or `false`.
+/// Returns the constant that a word stands for: `true` or `false`.
 pub fn constant_of(word: &[u8]) -> Option<bool>
     ensures { result ≡ constant_of word.now }
 {

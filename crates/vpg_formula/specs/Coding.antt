@@ -1,4 +1,4 @@
--- The code by which a model holds an action's name.
+-- Codes for the names of actions, by which a model holds them.
 use Rattle.std.specs.Prelude.{ℕ, List, Bool, refl}
 use Rattle.std.specs.Coded.{Coded, code_by, coded×, coded_ℕ, coded_list, coded_bool}
 use Rattle.vpg_formula.specs.Regular.{Label}

@@ -1,4 +1,4 @@
--- What the code of whole texts keeps, as the words of the specs.
+-- Values of the code that reads whole texts, as values of the specs.
 use Rattle.std.specs.Prelude.{◌≡◌, ℕ, ◌-◌, List, [], ◌∷◌, ◌++◌, length, map, reverse, Bool, true, false, not, codes, is_some, Option, Some, None, Result, Ok, Err}
 use Rattle.std.specs.Borrow.{Bor}
 use Rattle.vpg_formula.specs.ReadCode.{texts}
@@ -31,13 +31,13 @@ bounds bs = map (λ b. record { name = b.name.now; is_odd = b.is_odd }) bs
 abbrev pub context_of : Context → standings.Context
 context_of c = record { is_odd = c.is_odd; scope = bounds c.scope.items }
 
--- what a visit has come to: the code puts what is next at the end
+-- the result of a visit: the code puts what is next at the end
 abbrev pub visit_of : Visit → reading.Visit
 visit_of v = (reverse (map context_of v.parts.items), reverse v.standings.items)
 
 -- ---- entries
 
--- a word and those behind it
+-- a word and those after it
 abbrev pub words_in : Option (Bor (List ℕ) × Bor (List (Bor (List ℕ)))) → List (List ℕ)
 words_in None = []
 words_in (Some p) = p.0.now ∷ texts p.1.now
@@ -60,7 +60,7 @@ Halts (halts.Twice left) read = read ≡ None
 Halts (halts.TooMany left) read = read ≡ None
 Halts (halts.Negated left) read = ⊥
 
--- a formula whose names are known: whether a variable in it is negated, its marks, and the words behind it
+-- a formula with known names: whether a variable in it is negated, its marks, and the words after it
 pub record IsBody (earlier : List (List ℕ)) (negated : Option ℕ) (marks : List Mark) (ws rest : List (List ℕ)) :
     Type 0 where
   pub phrase : Phrase
@@ -68,13 +68,13 @@ pub record IsBody (earlier : List (List ℕ)) (negated : Option ℕ) (marks : Li
   pub put : marks ≡ phrase_marks phrase
   pub tells : is_some negated ≡ has Negated earlier phrase.written
 
--- what stands in front of an entry's formula
+-- the words in front of an entry's formula
 pub record IsHead (earlier : List (List ℕ)) (name : List ℕ) (ws rest : List (List ℕ)) : Type 0 where
   pub variable : is_variable name ≡ true
   pub new : is_among earlier name ≡ false
   pub sign : after_word (codes "=") ws ≡ Some rest
 
--- an entry, behind its `=`
+-- an entry, after its `=`
 pub record IsItem (earlier : List (List ℕ)) (name : List ℕ) (negated : Option ℕ) (made : Marked)
     (ws rest : List (List ℕ)) : Type 0 where
   pub formula : Written
@@ -82,14 +82,14 @@ pub record IsItem (earlier : List (List ℕ)) (name : List ℕ) (negated : Optio
   pub put : made ≡ (name, written_marks formula)
   pub tells : is_some negated ≡ has Negated earlier formula
 
--- entries, likewise
+-- the entries that are read
 pub record AreRead (negated : Option ℕ) (made : List Marked) (read : Option (List spec.Entry)) : Type 0 where
   pub entries : List spec.Entry
   pub are : read ≡ Some entries
   pub put : made ≡ marked entries
   pub tells : is_some negated ≡ not (are_positive [] entries)
 
--- Where the reading of entries has come to: these entries, and then those of the words that are left.
+-- The state of reading entries: these entries, and then those of the words that are left.
 pub record Goes (negated : Option ℕ) (made : List Marked) (all rest : List (List ℕ)) : Type 0 where
   pub entries : List spec.Entry
   pub put : made ≡ marked entries
@@ -97,7 +97,7 @@ pub record Goes (negated : Option ℕ) (made : List Marked) (all rest : List (Li
   pub is : entries_at 64 [] all ≡
       (entries_at (64 - length made) (names_of made) rest >>= λ later. Some (entries ++ later))
 
--- What checking the names of a formula gives, of which these are how they stand.
+-- The result of checking the names of a formula, which stand like this.
 abbrev pub IsChecked : Result (Option ℕ) Halt → List Standing → Type 0
 IsChecked (Ok negated) ss =
     (is_some (first_like Unknown ss) ≡ false) × (is_some negated ≡ is_some (first_like Negated ss))

@@ -1,5 +1,5 @@
--- Reading whole texts of requirements from left to right, as functions on lists: what the reader's private contracts
--- name. This project's own.
+-- Reading whole texts of requirements from left to right, as functions on lists, for the reader's private contracts.
+-- This project's own.
 use Rattle.std.specs.Prelude.{ℕ, zero, suc, List, [], ◌∷◌, ◌++◌, Bool, true, false, if◌then◌else◌, codes, Option, Some, None, option_map}
 use Rattle.vpg_formula.specs.Written.{Phrase, is_variable}
 use Rattle.vpg_formula.specs.FormulaGrammar.{a_formula}
@@ -13,7 +13,7 @@ use Rattle.vpg_formula.specs.declared.uses.Standing.TheVariants.{Unknown}
 
 -- ---- names
 
--- Contexts of the parts of a formula that are still to come, and how the names behind them stand; the marks are visited
+-- Contexts of the parts of a formula that are still to come, and how the names after them stand. The marks are visited
 -- from the last to the first.
 abbrev pub Visit : Type 0
 Visit = List Context × List Standing
@@ -31,7 +31,7 @@ is_of_formula marks.Repeated = false
 is_of_formula marks.RepeatedOnce = false
 is_of_formula mark = true
 
--- a mark whose context is known
+-- a mark in a known context
 abbrev pub go_on : List (List ℕ) → Mark → Context → Visit → Visit
 go_on earlier (marks.Named x) c v = (v.0, standing_of earlier c x ∷ v.1)
 go_on earlier marks.Not c v = (negated_in c ∷ v.0, v.1)
@@ -66,21 +66,21 @@ visit earlier (mark ∷ ms) v = step earlier mark (visit earlier ms v)
 abbrev pub standings_of : List (List ℕ) → List Mark → List Standing
 standings_of earlier ms = (visit earlier ms (nothing_around ∷ [], [])).1
 
--- which is the first that stands so
+-- the place of the first that stands so
 abbrev pub first_like : Standing → List Standing → Option ℕ
 first_like wanted [] = None
 first_like wanted (s ∷ ss) = if is_like wanted s then Some 0 else option_map suc (first_like wanted ss)
 
 -- ---- entries
 
--- a formula whose names are bound or those of earlier entries
+-- a formula, if each of its names is bound or an earlier entry's
 abbrev pub if_known : List (List ℕ) → Phrase × List (List ℕ) → Option (Phrase × List (List ℕ))
 if_known earlier p = if has Unknown earlier p.0.written then None else Some p
 
 abbrev pub body_at : List (List ℕ) → Read Phrase
 body_at earlier ws = phrase_at a_formula 64 ws >>= if_known earlier
 
--- the entry of this name, behind its `=`
+-- the entry of this name, after its `=`
 abbrev pub item_behind : List (List ℕ) → List ℕ → Read Entry
 item_behind earlier name ws =
     body_at earlier ws >>= λ p. after_word (codes ";") p.1 >>=
@@ -96,7 +96,7 @@ abbrev pub entry_at : List (List ℕ) → Read Entry
 entry_at earlier [] = None
 entry_at earlier (name ∷ ws) = if is_variable name then new_entry earlier name ws else None
 
--- so many entries at most, behind entries of these names
+-- at most this many entries, after entries of these names
 unfoldable pub entries_at : ℕ → List (List ℕ) → List (List ℕ) → Option (List Entry)
 entries_at n earlier [] = Some []
 entries_at zero earlier (w ∷ ws) = None

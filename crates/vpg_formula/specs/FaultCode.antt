@@ -16,12 +16,12 @@ use Rattle.vpg_formula.specs.declared.fault.RequirementFault.TheVariants as faul
 use Rattle.vpg_formula.specs.declared.stop.Halt.{Halt}
 use Rattle.vpg_formula.specs.declared.stop.Halt.TheVariants as halts
 
--- the places of a text's words, and its length behind them
+-- the places of a text's words, and its length after them
 pub record ArePlaces (text : List ℕ) (places : List ℕ) : Type 0 where
   pub count : length places ≡ suc (length (words_of text))
   pub each : (k : ℕ) → k < length places → slice_index_or places k 0 ≡ place_of text k
 
--- the place at which so many words are left; where there are not so many words, that of the first
+-- the place at which this many words are left, or the first if there are fewer words
 abbrev pub place_left : List ℕ → ℕ → ℕ
 place_left places left =
     if nat_lt left (length places) then slice_index_or places (length places - 1 - left) 0
@@ -37,13 +37,13 @@ fault_at places (halts.TooMany left) = faults.TooMany (place_left places left)
 fault_at places (halts.Negated left) = faults.NegatedVariable (place_left places left)
 fault_at places halts.Memory = faults.Memory
 
--- so many words are left where this holds behind the others
+-- this many words are left, and this holds after the others
 pub record IsLeft (ws : List (List ℕ)) (left : ℕ) (Is : ℕ → Type 0) : Type 0 where
   pub words : ℕ
   pub sum : words + left ≡ length ws
   pub is : Is words
 
--- Where words are no requirements.
+-- Where words stop being requirements.
 abbrev pub HaltsAt : List (List ℕ) → Halt → Type 0
 HaltsAt ws (halts.Twice left) = IsLeft ws left (IsTwiceAt ws)
 HaltsAt ws (halts.TooMany left) = IsLeft ws left (IsTooManyAt ws)
@@ -77,12 +77,12 @@ abbrev pub NegatedIn : List (List ℕ) → List (List ℕ) → List (List ℕ) �
 NegatedIn earlier ws behind None = Unit {0}
 NegatedIn earlier ws behind (Some left) = IsLeft ws left (IsNegatedIn earlier ws behind)
 
--- Where the first of all is.
+-- Where the first negated name of all formulas is, if there is one.
 abbrev pub NegatedAt : List (List ℕ) → Option ℕ → Type 0
 NegatedAt ws None = Unit {0}
 NegatedAt ws (Some left) = IsLeft ws left (IsNegatedAt ws)
 
--- the first of two places, of which the first is that of earlier words
+-- the first of two places; the first one given is among earlier words
 abbrev pub first_of : Option ℕ → Option ℕ → Option ℕ
 first_of None b = b
 first_of (Some left) b = Some left
@@ -93,7 +93,7 @@ pub record IsRepeated (earlier : List (List ℕ)) (name : List ℕ) (ws : List (
   pub again : is_among earlier name ≡ true
   pub all_left : left ≡ suc (length ws)
 
--- the name of an entry behind 64 of them
+-- the name of an entry after 64 of them
 pub record IsBeyond (earlier : List (List ℕ)) (n : ℕ) (name : List ℕ) (ws : List (List ℕ)) (left : ℕ) : Type 0 where
   pub many : 64 ≤ n
   pub variable : is_variable name ≡ true
@@ -116,7 +116,7 @@ HeadAt earlier n name ws (halts.Unknown left) = ⊥
 HeadAt earlier n name ws (halts.Negated left) = ⊥
 HeadAt earlier n name ws halts.Memory = Unit {0}
 
--- Entries that are read, with the first negated name, and the words behind them.
+-- Entries that are read, with the first negated name, and the words after them.
 pub record AreReadTo (negated : Option ℕ) (made : List Marked) (all rest : List (List ℕ)) : Type 0 where
   pub entries : List Entry
   pub put : made ≡ marked entries

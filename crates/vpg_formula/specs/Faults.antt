@@ -16,14 +16,14 @@ use Rattle.vpg_formula.specs.declared.uses.Standing.TheVariants.{Negated}
 abbrev pub entry_names : List Entry → List (List ℕ)
 entry_names es = map (λ e. e.name) es
 
--- the words begin with these entries, so many words, and these stand behind them
+-- the words begin with these entries, which have this many words, and these words come after them
 pub record AreBehind (ws : List (List ℕ)) (entries : List Entry) (k : ℕ) (rest : List (List ℕ)) : Type 0 where
   pub front : List (List ℕ)
   pub parts : ws ≡ front ++ rest
   pub count : k ≡ length front
   pub are : AreEntries 64 [] front entries
 
--- behind so many words, which are entries, stands the name of another one, which one of them has too
+-- after this many words, which are entries, comes the name of another one, which one of them has too
 pub record IsTwiceAt (ws : List (List ℕ)) (k : ℕ) : Type 0 where
   pub name : List ℕ
   pub entries : List Entry
@@ -32,7 +32,7 @@ pub record IsTwiceAt (ws : List (List ℕ)) (k : ℕ) : Type 0 where
   pub variable : is_variable name ≡ true
   pub again : is_among (entry_names entries) name ≡ true
 
--- behind so many words, which are 64 entries, stands the name of another one
+-- after this many words, which are 64 entries, comes the name of another one
 pub record IsTooManyAt (ws : List (List ℕ)) (k : ℕ) : Type 0 where
   pub name : List ℕ
   pub entries : List Entry
@@ -42,7 +42,7 @@ pub record IsTooManyAt (ws : List (List ℕ)) (k : ℕ) : Type 0 where
   pub variable : is_variable name ≡ true
   pub new : is_among (entry_names entries) name ≡ false
 
--- A formula begins behind so many words: behind the `=` of a new entry, behind these, or at the first word.
+-- A formula begins after this many words: after the `=` of a new entry, after these, or at the first word.
 pub data FormulaAt (ws : List (List ℕ)) : List Entry → ℕ → List (List ℕ) → Type 0 where
   alone : begins_entry ws ≡ false → FormulaAt ws [] 0 ws
   in_entry : (name : List ℕ) (entries : List Entry) (k : ℕ) (rest : List (List ℕ)) →
@@ -105,7 +105,7 @@ pub record IsNegatedIn (earlier ws behind : List (List ℕ)) (k : ℕ) : Type 0 
   pub known : Bool
   pub name : slice_get (mentions earlier ws) index ≡ Some (k, known)
 
--- behind so many words stands the first name of all formulas that is negated so
+-- after this many words comes the first name of all formulas that is negated so
 pub record IsNegatedAt (ws : List (List ℕ)) (k : ℕ) : Type 0 where
   pub entries : List Entry
   pub start : ℕ
@@ -118,7 +118,7 @@ pub record IsNegatedAt (ws : List (List ℕ)) (k : ℕ) : Type 0 where
   pub is : IsNegatedIn (entry_names entries) rest behind front
   pub place : k ≡ start + front
 
--- the byte is the first of the word behind so many others, which is as it should be
+-- the byte is the first of the word after this many others, and this holds of their number
 pub record IsPlace (text : List ℕ) (at : ℕ) (Is : ℕ → Type 0) : Type 0 where
   pub words : ℕ
   pub within : words ≤ length (words_of text)

@@ -1,6 +1,6 @@
 -- Which words are a formula: mCRL2's grammar of state formulas, without data, with this project's words. `!`,
--- modalities and words bind closest, then `&&`, `||`, and `=>`, which goes to the right. A fixpoint is as long as it
--- can be.
+-- modalities and words bind closest, then `&&`, `||`, and `=>`, which associates to the right. A fixpoint is as long as
+-- it can be.
 use Rattle.std.specs.Prelude.{◌≡◌, ℕ, zero, suc, List, [], ◌∷◌, ◌++◌, true, codes, Some}
 use Rattle.vpg_formula.specs.Words.{words_of}
 use Rattle.vpg_formula.specs.Regular.{Regular, is_action}
@@ -11,14 +11,14 @@ use Rattle.vpg_formula.specs.Written.{Prefix, again_and_again, after, Fixpoint, 
 abbrev pub PhraseForm : Type 1
 PhraseForm = List (List ℕ) → Phrase → Type 0
 
--- an action formula behind `can`, `will` or `after`: an action, `true`, `false`, `!` and such a one, or one in
+-- an action formula after `can`, `will` or `after`: an action, `true`, `false`, `!` and an action formula, or one in
 -- parentheses
 pub record IsAction (d : ℕ) (words : List (List ℕ)) (x : Regular) : Type 0 where
   pub operand : IsOperand d words x
   pub action : is_action x ≡ true
 
--- An operand: by its first word a leaf, an action behind `can` or `will`, a formula in parentheses, an operand behind a
--- word, a modality or an action, or a fixpoint. What stands inside has forms of its own.
+-- An operand, by its first word: a leaf, an action after `can` or `will`, a formula in parentheses, or a fixpoint. Or
+-- it is an operand after a word, a modality or an action. The parts inside have forms of their own.
 pub data Part (Path Action : List (List ℕ) → Regular → Type 0) (Inner Formula : List (List ℕ) → Phrase → Type 0) :
     List (List ℕ) → Phrase → Type 0 where
   at_leaf : {w : List ℕ} {f : Written} → head_of w ≡ leaf f → Part Path Action Inner Formula (w ∷ []) (whole f)
@@ -67,7 +67,7 @@ pub data Extent : Type 0 where
   an_operand : Extent
   a_formula : Extent
 
--- Operands and formulas in which so many parts may be open at one place: `(`, `!`, `<`, `[`, `mu`, `nu`, `=>` and the
+-- Operands and formulas with at most this many parts open at one place. `(`, `!`, `<`, `[`, `mu`, `nu`, `=>` and the
 -- words are open until their part ends.
 unfoldable pub IsPhrase : Extent → ℕ → List (List ℕ) → Phrase → Type 0
 IsPhrase an_operand zero ws p = Part NoPath NoPath NoPhrase NoPhrase ws p
@@ -77,7 +77,7 @@ IsPhrase a_formula (suc d) ws p =
     Implication (Disjunction (Part (IsRegular d) (IsAction d) (IsPhrase an_operand d) (IsPhrase a_formula d)))
     (IsPhrase a_formula d) ws p
 
--- formulas in which so many parts may be open
+-- formulas with at most this many parts open at one place
 abbrev pub IsFormula : ℕ → List (List ℕ) → Phrase → Type 0
 IsFormula d ws p = IsPhrase a_formula d ws p
 

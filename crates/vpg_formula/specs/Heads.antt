@@ -1,4 +1,4 @@
--- What the code keeps of a formula's first word.
+-- The code's form of a formula's first word.
 use Rattle.std.specs.Prelude.{ℕ, List, codes, true, false, Option, Some}
 use Rattle.vpg_formula.specs.Reading.{after_word}
 use Rattle.vpg_formula.specs.Regular.{Regular}
@@ -78,7 +78,7 @@ leaf_mark word leaves.False = marks.False
 leaf_mark word leaves.Name = marks.Named word
 leaf_mark word leaves.Deadlock = marks.DeadlockFree
 
--- the words behind the leaf
+-- the words after the leaf
 abbrev pub after_leaf : Leaf → List (List ℕ) → Option (List (List ℕ))
 after_leaf leaves.True ws = Some ws
 after_leaf leaves.False ws = Some ws

@@ -19,14 +19,14 @@ mark_of Sequence = marks.Sequence
 mark_of AnyOf = marks.EitherOf
 mark_of AllOf = marks.BothOf
 
--- whether it stands with action formulas alone, and makes one of them
+-- whether it joins action formulas only, and makes one of them
 abbrev pub is_of_actions : Level → Bool
 is_of_actions Choice = false
 is_of_actions Sequence = false
 is_of_actions AnyOf = true
 is_of_actions AllOf = true
 
--- whether it cannot stand with such a formula
+-- whether it cannot join such a formula
 abbrev pub refuses : Level → Bool → Bool
 refuses level is_action = is_of_actions level && not is_action
 
@@ -36,7 +36,7 @@ join_of Sequence = sequence_of
 join_of AnyOf = any_of
 join_of AllOf = all_of
 
--- what it joins
+-- the items that it joins
 abbrev pub item_of : Level → Read Regular → Read Regular
 item_of Choice operand = sequence_with operand
 item_of Sequence operand = repetition_with operand

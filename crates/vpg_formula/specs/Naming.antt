@@ -1,4 +1,4 @@
--- Which words of a formula are names, and which of these are known: told by the words alone, also where they are no
+-- Which words of a formula are names, and which of these are known. The words alone decide, even if they are no
 -- formula. A name is bound inside a fixpoint of it: up to the end of the innermost parenthesis around that. This
 -- project's own.
 use Rattle.std.specs.Prelude.{ℕ, zero, suc, List, [], ◌∷◌, Bool, true, false, ◌||◌, if◌then◌else◌, codes, bytes_eq, Option, Some, None}
@@ -6,20 +6,20 @@ use Rattle.std.specs.List.{list_any}
 use Rattle.vpg_formula.specs.Written.{Modality, closing, is_variable, Head, of_action, modality, after_action, binder, head_of}
 use Rattle.vpg_formula.specs.Standings.{is_among}
 
--- what a word belongs to
+-- the part of a formula that a word belongs to
 pub data Region : Type 0 where
   -- a formula
   in_formula : Region
   -- `mu` or `nu`: it is the variable
   at_variable : Region
-  -- what stands between brackets
+  -- a regular formula between brackets
   in_path : Modality → Region
   -- `can`, `will` or `after`: an action formula begins with it
   at_action : Region
   -- an action formula, inside one more parenthesis than these
   in_action : ℕ → Region
 
--- what is open where a word stands
+-- a parenthesis or fixpoint that is open at a word
 pub data Open : Type 0 where
   a_parenthesis : Open
   -- the fixpoint of this variable
@@ -41,12 +41,12 @@ region_behind_head (modality m) = in_path m
 region_behind_head (binder kind) = at_variable
 region_behind_head head = in_formula
 
--- behind a closing parenthesis, in which so many others are open
+-- after a closing parenthesis, inside this many other open ones
 abbrev pub closed_in : ℕ → Region
 closed_in zero = in_formula
 closed_in (suc n) = in_action n
 
--- what the next word belongs to
+-- the region after a word
 abbrev pub region_behind : Region → List ℕ → Region
 region_behind in_formula w = region_behind_head (head_of w)
 region_behind at_variable w = in_formula
@@ -56,13 +56,13 @@ region_behind at_action w =
 region_behind (in_action n) w =
     if bytes_eq w (codes "(") then in_action (suc n) else (if bytes_eq w (codes ")") then closed_in n else in_action n)
 
--- without the innermost parenthesis, and what is open in it
+-- the open parts without the innermost parenthesis, and without what is open in it
 abbrev pub closed : List Open → List Open
 closed [] = []
 closed (a_parenthesis ∷ around) = around
 closed (a_fixpoint x ∷ around) = closed around
 
--- what is open behind a word
+-- the open parts after a word
 abbrev pub around_behind : Region → List ℕ → List Open → List Open
 around_behind in_formula w around =
     if bytes_eq w (codes "(") then a_parenthesis ∷ around
@@ -89,11 +89,11 @@ known_in earlier around in_formula w =
     if is_variable w then Some (is_among earlier w || is_bound around w) else None
 known_in earlier around region w = None
 
--- Whether the name that stands there is known: bound, or an earlier entry's. None where no name stands there.
+-- Whether the name here is known: bound, or an earlier entry's. None if there is no name here.
 abbrev pub known_at : List (List ℕ) → Spot → List ℕ → Option Bool
 known_at earlier spot w = known_in earlier spot.around spot.region w
 
--- a name: how many words stand in front of it, and whether it is known
+-- a name: the number of words before it, and whether it is known
 abbrev pub Mention : Type 0
 Mention = ℕ × Bool
 
@@ -101,17 +101,17 @@ abbrev pub mention : Option Bool → ℕ → List Mention → List Mention
 mention None k later = later
 mention (Some known) k later = (k, known) ∷ later
 
--- the names among the words from there on, behind so many words
+-- the names among the words from there on, after this many words
 abbrev pub mentions_from : List (List ℕ) → Spot → ℕ → List (List ℕ) → List Mention
 mentions_from earlier spot k [] = []
 mentions_from earlier spot k (w ∷ ws) =
     mention (known_at earlier spot w) k (mentions_from earlier (behind spot w) (suc k) ws)
 
--- the names of a formula that begins with these words, behind entries of these names
+-- the names of a formula that begins with these words, after entries of these names
 abbrev pub mentions : List (List ℕ) → List (List ℕ) → List Mention
 mentions earlier ws = mentions_from earlier at_first 0 ws
 
--- how many words stand in front of the first name that is not known
+-- the number of words before the first name that is not known
 abbrev pub first_unknown : List Mention → Option ℕ
 first_unknown [] = None
 first_unknown ((k, true) ∷ ms) = first_unknown ms

@@ -41,7 +41,7 @@ depth_of region = 0
 abbrev pub pairs : List code.Mention → List Mention
 pairs ms = map (λ m. (m.left, m.is_known)) ms
 
--- the names among the words, up to where so many are left
+-- the names among the words, up to where this many are left
 abbrev pub left_mentions : List (List ℕ) → spec.Spot → ℕ → List (List ℕ) → List Mention
 left_mentions earlier spot end [] = []
 left_mentions earlier spot end (w ∷ ws) =
@@ -52,17 +52,17 @@ abbrev pub left_or : Option Mention → ℕ
 left_or None = 0
 left_or (Some m) = m.0
 
--- how many words are left at the n-th name
+-- the number of words left at the n-th name
 abbrev pub left_in : List Mention → ℕ → ℕ
 left_in ms n = left_or (slice_get ms n)
 
--- the first name that stands so has so many words left
+-- the first name that stands so has this many words left
 pub record IsFound (wanted : Standing) (ss : List Standing) (ms : List Mention) (left : ℕ) : Type 0 where
   pub index : ℕ
   pub first : first_like wanted ss ≡ Some index
   pub place : left ≡ left_in ms index
 
--- where the names of a formula stand that are not as they should be
+-- where the first faulty names of a formula are
 abbrev pub NamesAt : Result (Option ℕ) Halt → List Standing → List Mention → Type 0
 NamesAt (Ok None) ss ms = Unit {0}
 NamesAt (Ok (Some left)) ss ms = IsFound Negated ss ms left

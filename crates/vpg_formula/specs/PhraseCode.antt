@@ -1,4 +1,4 @@
--- The reader of formulas, as the code is cut up.
+-- The reader of formulas, in the pieces of the code.
 use Rattle.std.specs.Prelude.{ℕ, List, [], ◌∷◌, ◌++◌, codes, Option}
 use Rattle.vpg_formula.specs.Written.{Head, Phrase, conjunction_of, disjunction_of}
 use Rattle.vpg_formula.specs.FormulaGrammar.{an_operand, a_formula}
@@ -9,7 +9,7 @@ use Rattle.vpg_formula.specs.declared.mark.Mark.TheVariants as marks
 use Rattle.vpg_formula.specs.declared.joint.Joint.{Joint}
 use Rattle.vpg_formula.specs.declared.joint.Joint.TheVariants as joints
 
--- what stands behind the first word where no part may be open, and where so many may
+-- the reading after the first word, if no part may be open, and if this many may
 abbrev pub leaf_behind : Head → Read Phrase
 leaf_behind head ws = part_behind nothing_read nothing_read no_phrase no_phrase head ws
 

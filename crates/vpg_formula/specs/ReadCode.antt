@@ -1,4 +1,4 @@
--- What the code keeps, as the words of the specs.
+-- Values of the reader's code, as values of the specs.
 use Rattle.std.specs.Prelude.{◌≡◌, ℕ, List, ◌++◌, map, Bool, true, false, Option, Some, None, Result, Ok, Err}
 use Rattle.std.specs.Borrow.{Bor}
 use Rattle.vpg_formula.specs.declared.mark.Mark.{Mark}
@@ -16,7 +16,7 @@ Fails stops.Memory read = Unit {0}
 Fails (stops.Syntax left) read = read ≡ None
 Fails (stops.TooDeep left) read = read ≡ None
 
--- what is read: its marks are put behind those that were there, it has this property, and these words are left
+-- a value that is read: its marks are put after the old ones, it has this property, and these words are left
 pub record IsRead {A : Type 0} (marks : A → List Mark) (has : A → Bool) (old new : List Mark) (flag : Bool)
     (rest : List (List ℕ))
     (read : Option (A × List (List ℕ))) : Type 0 where
@@ -25,7 +25,7 @@ pub record IsRead {A : Type 0} (marks : A → List Mark) (has : A → Bool) (old
   pub put : new ≡ old ++ marks item
   pub tells : flag ≡ has item
 
--- What a function returned, and the marks that it left, are what reading gives.
+-- A function's result, and the marks that it left, are the result of reading.
 abbrev pub Gives : {A : Type 0} → (A → List Mark) → (A → Bool) → List Mark → List Mark →
     Result (Bool × Bor (List (Bor (List ℕ)))) Stop
     → Option (A × List (List ℕ)) → Type 0
@@ -38,7 +38,7 @@ pub record IsWhole {A : Type 0} (marks : A → List Mark) (new : List Mark) (rea
   pub is : read ≡ Some item
   pub put : new ≡ marks item
 
--- What a function returned is what reading gives.
+-- A function's result is the result of reading.
 abbrev pub GivesAll : {A V : Type 0} → (V → List Mark) → (A → List Mark) → Result V Stop → Option A → Type 0
 GivesAll items marks (Ok v) read = IsWhole marks (items v) read
 GivesAll items marks (Err e) read = Fails e read

@@ -1,11 +1,11 @@
--- Reading words from left to right, as functions on lists: what the reader's private contracts name. That it reads just
--- the words that the grammar has is proved. This project's own.
+-- Reading words from left to right, as functions on lists, for the reader's private contracts. It is proved to read
+-- exactly the words that the grammar has. This project's own.
 use Rattle.std.specs.Prelude.{ℕ, zero, suc, List, [], ◌∷◌, length, Bool, true, false, not, ◌&&◌, ◌||◌, if◌then◌else◌, codes, bytes_eq, Option, Some, None, option_and_then, is_some}
 use Rattle.vpg_formula.specs.Written.{Prefix, again_and_again, after, Fixpoint, Written, deadlock_free, binding, closing, along, is_variable, Head, leaf, deadlock, of_action, parenthesis, in_front, modality, again, after_action, binder, other, head_of, Phrase, whole, behind, conjunction_of, disjunction_of, implication_of}
 use Rattle.vpg_formula.specs.FormulaGrammar.{Extent, an_operand, a_formula}
 use Rattle.vpg_formula.specs.Regular.{is_action, Regular, repeated, repeated_once, word_formula, complement_of, all_of, any_of, sequence_of, choice_of}
 
--- what stands at the front of words, and the words behind it
+-- a value read at the front of words, and the words after it
 abbrev pub Read : Type 0 → Type 0
 Read A = List (List ℕ) → Option (A × List (List ℕ))
 
@@ -13,17 +13,17 @@ infixl 10 ◌>>=◌
 abbrev pub ◌>>=◌ : {A B : Type 0} → Option A → (A → Option B) → Option B
 o >>= f = option_and_then f o
 
--- the words behind the sign, where it comes next
+-- the words after the sign, if it comes next
 abbrev pub after_word : List ℕ → List (List ℕ) → Option (List (List ℕ))
 after_word sign [] = None
 after_word sign (w ∷ ws) = if bytes_eq w sign then Some ws else None
 
--- what stands behind a sign, if the sign is there
+-- the reading after a sign, if the sign is there
 abbrev pub choice : {B : Type 0} → Option (List (List ℕ)) → (List (List ℕ) → Option B) → Option B → Option B
 choice None behind otherwise = otherwise
 choice (Some ws) behind otherwise = behind ws
 
--- One more item behind each sign. The number bounds the turns: the count of the words is always enough.
+-- One more item after each sign. The number bounds the turns: the count of the words is always enough.
 unfoldable pub more : {A : Type 0} → Read A → List ℕ → (A → A → Option A) → ℕ → A → Read A
 more item sign join zero x ws = Some (x, ws)
 more item sign join (suc n) x ws =
@@ -41,11 +41,11 @@ abbrev pub starts_operand : List (List ℕ) → Bool
 starts_operand [] = false
 starts_operand (w ∷ ws) = is_some (word_formula w) || (bytes_eq w (codes "!") || bytes_eq w (codes "("))
 
--- `*`, and `+` where no operand follows
+-- `*`, and `+` if no operand follows
 abbrev pub is_plus : List ℕ → List (List ℕ) → Bool
 is_plus w ws = bytes_eq w (codes "+") && not (starts_operand ws)
 
--- which of them comes next, if any: whether it is `+`, and the words behind it
+-- which of them comes next, if any: whether it is `+`, and the words after it
 abbrev pub star_next : List (List ℕ) → Option (Bool × List (List ℕ))
 star_next [] = None
 star_next (w ∷ ws) =
@@ -133,7 +133,7 @@ binding_with formula kind [] = None
 binding_with formula kind (x ∷ ws) =
     if is_variable x then (after_word (codes ".") ws >>= λ rest. bound_with formula kind x rest) else None
 
--- what stands behind the first word
+-- the reading after the first word
 abbrev pub part_behind : Read Regular → Read Regular → Read Phrase → Read Phrase → Head → Read Phrase
 part_behind path act inner formula (leaf f) ws = Some (whole f, ws)
 part_behind path act inner formula deadlock ws =

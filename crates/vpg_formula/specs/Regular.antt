@@ -4,7 +4,7 @@ use Rattle.std.specs.Prelude.{ℕ, ◌-◌, List, [], ◌∷◌, length, take, B
 use Rattle.vpg_features.specs.Names.{is_name_start}
 use Rattle.vpg_formula.specs.Words.{is_closed}
 
--- An action as it is named: in quotes, by just these bytes, or without, by these but for blanks.
+-- An action by its name. In quotes the name has exactly these bytes; without quotes, blanks do not count.
 pub record Label : Type 0 where
   pub quoted : Bool
   pub name : List ℕ
@@ -38,7 +38,7 @@ is_action (choice x y) = false
 is_action (repeated x) = false
 is_action (repeated_once x) = false
 
--- the action that a word in quotes names, by what stands behind the first: at least one byte, and the closing quote
+-- the action of a word in quotes, given the bytes after its first quote: at least one byte, and the closing quote
 abbrev pub quoted_label : List ℕ → Option Label
 quoted_label bytes =
     if nat_le 2 (length bytes) && is_closed bytes
@@ -55,13 +55,13 @@ abbrev pub labelled : Option Label → Option Regular
 labelled None = None
 labelled (Some label) = Some (action label)
 
--- the action formula that a word is
+-- the action formula of a word
 abbrev pub word_formula : List ℕ → Option Regular
 word_formula word =
     if bytes_eq word (codes "true") then Some every_action
     else (if bytes_eq word (codes "false") then Some no_action else labelled (label_of word))
 
--- `!`, `&&` and `||` stand with action formulas alone
+-- `!`, `&&` and `||` join action formulas only
 abbrev pub complement_of : Regular → Option Regular
 complement_of x = if is_action x then Some (other_than x) else None
 

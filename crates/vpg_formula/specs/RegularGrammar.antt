@@ -1,5 +1,5 @@
 -- Which words are a regular formula: mCRL2's grammar of action and regular formulas, without data. `!` binds closest,
--- then `&&`, `||`, `*` and `+` behind a formula, `.`, and `+` between two.
+-- then `&&`, `||`, `*` and `+` after a formula, `.`, and `+` between two.
 use Rattle.std.specs.Prelude.{◌≡◌, ℕ, zero, suc, List, [], ◌∷◌, ◌++◌, codes, Option, Some}
 use Rattle.vpg_formula.specs.Regular.{Regular, repeated, repeated_once, word_formula, complement_of, all_of, any_of, sequence_of, choice_of}
 use Rattle.vpg_formula.specs.Words.{words_of}
@@ -8,7 +8,7 @@ use Rattle.vpg_formula.specs.Words.{words_of}
 abbrev pub Form : Type 1
 Form = List (List ℕ) → Regular → Type 0
 
--- a word, `!` and an operand, or a formula in parentheses; what stands inside has forms of its own
+-- a word, `!` and an operand, or a formula in parentheses; the parts inside have forms of their own
 pub data Operand (Inverted Enclosed : List (List ℕ) → Regular → Type 0) : List (List ℕ) → Regular → Type 0 where
   word : {w : List ℕ} {x : Regular} → word_formula w ≡ Some x → Operand Inverted Enclosed (w ∷ []) x
   inverted : {ws : List (List ℕ)} {x y : Regular} → Inverted ws x → complement_of x ≡ Some y →
@@ -16,14 +16,14 @@ pub data Operand (Inverted Enclosed : List (List ℕ) → Regular → Type 0) : 
   enclosed : {ws : List (List ℕ)} {x : Regular} → Enclosed ws x →
       Operand Inverted Enclosed (codes "(" ∷ (ws ++ codes ")" ∷ [])) x
 
--- one item, or a series, the sign and an item, where the two can be joined
+-- one item, or a series, the sign and an item, if the two can be joined
 pub data Series {A : Type 0} (Item : List (List ℕ) → A → Type 0) (sign : List ℕ) (join : A → A → Option A) :
     List (List ℕ) → A → Type 0 where
   one : {ws : List (List ℕ)} {x : A} → Item ws x → Series Item sign join ws x
   more : {us ws : List (List ℕ)} {x y z : A} → Series Item sign join us x → Item ws y → join x y ≡ Some z →
       Series Item sign join (us ++ sign ∷ ws) z
 
--- one item, and any number of `*` and `+` behind it
+-- one item, and any number of `*` and `+` after it
 pub data Starred (Item : List (List ℕ) → Regular → Type 0) : List (List ℕ) → Regular → Type 0 where
   plain : {ws : List (List ℕ)} {x : Regular} → Item ws x → Starred Item ws x
   star : {ws : List (List ℕ)} {x : Regular} → Starred Item ws x → Starred Item (ws ++ codes "*" ∷ []) (repeated x)
@@ -48,12 +48,12 @@ Choice Item ws x = Series (Sequence Item) (codes "+") choice_of ws x
 abbrev pub Nothing : Form
 Nothing ws x = ⊥
 
--- operands in which so many `(` and `!` may be open at one place
+-- operands with at most this many `(` and `!` open at one place
 unfoldable pub IsOperand : ℕ → List (List ℕ) → Regular → Type 0
 IsOperand zero ws x = Operand Nothing Nothing ws x
 IsOperand (suc d) ws x = Operand (IsOperand d) (Choice (IsOperand d)) ws x
 
--- regular formulas in which so many may be open
+-- regular formulas with at most this many open
 abbrev pub IsRegular : ℕ → List (List ℕ) → Regular → Type 0
 IsRegular d ws x = Choice (IsOperand d) ws x
 

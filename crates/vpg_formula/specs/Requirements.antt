@@ -15,8 +15,8 @@ pub record Entry : Type 0 where
   pub name : List ℕ
   pub formula : Written
 
--- Entries behind earlier ones of these names, so many at most. Each has a new name, and each name in its formula is
--- bound there or an earlier entry's.
+-- At most this many entries, after earlier ones of these names. Each has a new name. Each name in its formula is bound
+-- there or is an earlier entry's.
 pub data AreEntries : ℕ → List (List ℕ) → List (List ℕ) → List Entry → Type 0 where
   no_entry : {n : ℕ} {earlier : List (List ℕ)} → AreEntries n earlier [] []
   entry : {n : ℕ} {earlier : List (List ℕ)} (name : List ℕ) (us ws : List (List ℕ)) (p : Phrase)
@@ -35,7 +35,7 @@ begins_entry (name ∷ sign ∷ ws) = is_variable name && bytes_eq sign (codes "
 abbrev pub lone_entry : Written → Entry
 lone_entry f = record { name = codes "requirement"; formula = f }
 
--- A text with entries, 64 at most, or with one formula. It has entries where it begins with one.
+-- A text with entries, at most 64, or with one formula. It has entries if it begins with one.
 pub data SpellsEntries (text : List ℕ) : List Entry → Type 0 where
   alone : (p : Phrase) → begins_entry (words_of text) ≡ false → IsFormula 64 (words_of text) p →
       has Unknown [] p.written ≡ false → SpellsEntries text (lone_entry p.written ∷ [])
@@ -52,13 +52,13 @@ pub record SpellsRequirements (text : List ℕ) (entries : List Entry) : Type 0 
   pub spelled : SpellsEntries text entries
   pub positive : are_positive [] entries ≡ true
 
--- entries, in which a variable stands under an odd number of negations
+-- entries with a variable under an odd number of negations
 pub record AreNegated (text : List ℕ) : Type 0 where
   pub entries : List Entry
   pub spelled : SpellsEntries text entries
   pub negative : are_positive [] entries ≡ false
 
--- What a fault says of the text, but for where it is: that a variable is negated comes last.
+-- The meaning of a fault for the text, without its place: a negated variable is reported last.
 abbrev pub IsRefused : List ℕ → RequirementFault → Type 0
 IsRefused text faults.Memory = Unit {0}
 IsRefused text (faults.NegatedVariable at) = AreNegated text

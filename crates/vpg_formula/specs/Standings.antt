@@ -1,6 +1,6 @@
 -- How the names of a formula stand: whether each is bound by a fixpoint, and under how many negations within it. This
--- project's own; that a variable stands under an even number of negations is asked as in the modal mu-calculus (Kozen
--- 1983).
+-- project's own; that a variable stands under an even number of negations is required as in the modal mu-calculus
+-- (Kozen 1983).
 use Rattle.std.specs.Prelude.{ℕ, List, [], ◌∷◌, ◌++◌, Bool, true, false, not, if◌then◌else◌, bytes_eq}
 use Rattle.std.specs.List.{list_any}
 use Rattle.vpg_formula.specs.Written.{Prefix, negated, some_path, every_path, always, never, possibly, inevitably, again_and_again, after, Written, constant, named, deadlock_free, can, will, prefixed, conjunction, disjunction, implication, binding}
@@ -12,25 +12,25 @@ pub record Bound : Type 0 where
   pub name : List ℕ
   pub is_odd : Bool
 
--- What a part of a formula stands in: whether under an odd number of negations, and in which fixpoints, outermost
+-- The context of a part of a formula: whether it is under an odd number of negations, and in which fixpoints, outermost
 -- first.
 pub record Context : Type 0 where
   pub is_odd : Bool
   pub scope : List Bound
 
--- what a whole formula stands in
+-- the context of a whole formula
 abbrev pub nothing_around : Context
 nothing_around = record { is_odd = false; scope = [] }
 
--- the same under one more negation
+-- the context under one more negation
 abbrev pub negated_in : Context → Context
 negated_in c = record { is_odd = not c.is_odd; scope = c.scope }
 
--- the same inside a fixpoint of this variable
+-- the context inside a fixpoint of this variable
 abbrev pub inside : List ℕ → Context → Context
 inside x c = record { is_odd = c.is_odd; scope = c.scope ++ record { name = x; is_odd = c.is_odd } ∷ [] }
 
--- behind a word: `!` and `never` are negations
+-- after a word: `!` and `never` are negations
 abbrev pub behind_prefix : Prefix → Context → Context
 behind_prefix negated c = negated_in c
 behind_prefix (some_path x) c = c
@@ -45,7 +45,7 @@ behind_prefix (after x) c = c
 abbrev pub is_among : List (List ℕ) → List ℕ → Bool
 is_among names x = list_any (λ y. bytes_eq y x) names
 
--- how a variable stands that is bound: the negations within its fixpoint are those here without those there
+-- how a bound variable stands: the negations within its fixpoint are those here without those there
 abbrev pub standing_under : Bool → Bool → Standing
 standing_under true true = Known
 standing_under true false = Negated
@@ -58,7 +58,7 @@ standing_in is_odd [] without x = without
 standing_in is_odd (b ∷ bs) without x =
     standing_in is_odd bs (if bytes_eq b.name x then standing_under b.is_odd is_odd else without) x
 
--- how a name stands, behind entries of these names
+-- how a name stands, after entries of these names
 abbrev pub standing_of : List (List ℕ) → Context → List ℕ → Standing
 standing_of earlier c x = standing_in c.is_odd c.scope (if is_among earlier x then Known else Unknown) x
 

@@ -1,12 +1,12 @@
--- Requirements as they are written: the state formulas of mCRL2 without data, with regular formulas inside modalities,
--- and this project's words for what is said most often.
+-- Requirements in their written form: the state formulas of mCRL2 without data, with regular formulas inside
+-- modalities, and this project's words for common formulas.
 use Rattle.std.specs.Prelude.{ℕ, List, length, Bool, true, false, not, ◌&&◌, if◌then◌else◌, codes, bytes_eq, Option, Some, None, nat_le}
 use Rattle.std.specs.List.{list_all}
 use Rattle.vpg_features.specs.Names.{is_name_byte, starts_as_name}
 use Rattle.vpg_formula.specs.Words.{is_keyword}
 use Rattle.vpg_formula.specs.Regular.{Regular}
 
--- what stands in front of a formula
+-- a modality or a word in front of a formula
 pub data Prefix : Type 0 where
   -- !f, <R>f, [R]f
   negated : Prefix
@@ -25,7 +25,7 @@ pub data Fixpoint : Type 0 where
   mu : Fixpoint
   nu : Fixpoint
 
--- a formula as it is written
+-- a formula in its written form
 pub data Written : Type 0 where
   -- true, false
   constant : Bool → Written
@@ -54,7 +54,7 @@ pub data Modality : Type 0 where
   diamond : Modality
   box : Modality
 
--- what closes it
+-- the closing bracket
 abbrev pub closing : Modality → List ℕ
 closing diamond = codes ">"
 closing box = codes "]"
@@ -63,7 +63,7 @@ abbrev pub along : Modality → Regular → Prefix
 along diamond x = some_path x
 along box x = every_path x
 
--- what a formula begins with, by its first word
+-- the beginning of a formula, by its first word
 pub data Head : Type 0 where
   -- true, false, a variable, deadlock free
   leaf : Written → Head
@@ -81,7 +81,7 @@ pub data Head : Type 0 where
   after_action : Head
   -- mu, nu
   binder : Fixpoint → Head
-  -- what no formula begins with
+  -- a word that begins no formula
   other : Head
 
 abbrev pub head_of : List ℕ → Head
@@ -105,8 +105,8 @@ head_of w =
     else (if bytes_eq w (codes "nu") then binder nu
     else (if is_variable w then leaf (named w) else other)))))))))))))))))
 
--- A formula, and whether it ends with a fixpoint's. Such a one goes on as long as it can, so nothing joins it from
--- behind.
+-- A formula, and whether it ends with a fixpoint's. Such a formula goes on as long as it can, so nothing can be joined
+-- after it.
 pub record Phrase : Type 0 where
   pub written : Written
   pub is_endless : Bool

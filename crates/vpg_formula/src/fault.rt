@@ -1,10 +1,10 @@
 //! Why a text is no requirement.
 use thiserror::Error;
 
-/// The most parts that are open at one place.
+/// The greatest number of parts that are open at one place.
 pub const DEEPEST: usize = 64;
 
-/// The most entries of a text.
+/// The greatest number of entries in a text.
 pub const MOST_ENTRIES: usize = 64;
 
 /// Why a text is no formula. `at` counts bytes from 0.
@@ -16,7 +16,7 @@ pub enum FormulaFault {
     /// The first byte of the part that would be the 65th open one.
     #[error("TooDeep {at}")]
     TooDeep { at: usize },
-    /// A growth was refused.
+    /// Memory ran out.
     #[error("Memory")]
     Memory,
 }
@@ -42,7 +42,7 @@ pub enum RequirementFault {
     /// The first byte of a variable under an odd number of negations within its fixpoint.
     #[error("NegatedVariable {at}")]
     NegatedVariable { at: usize },
-    /// A growth was refused.
+    /// Memory ran out.
     #[error("Memory")]
     Memory,
 }

@@ -30,7 +30,7 @@ fn put_leaf(alloc: Global, leaf: Leaf, word: &[u8], out: &mut Vec<Mark>) -> Resu
     Ok(())
 }
 
-/// What follows a leaf of this word.
+/// Returns the words after a leaf that begins with this word.
 fn after_leaf<'a, 't>(leaf: Leaf, words: &'a [&'t [u8]]) -> Option<&'a [&'t [u8]]>
     ensures rest { option_map (λ r. texts r.now) result ≡ after_leaf leaf (texts words.now) }
     ensures shorter { IfSome result (λ r. length r.now ≤ length words.now) }
@@ -41,7 +41,7 @@ fn after_leaf<'a, 't>(leaf: Leaf, words: &'a [&'t [u8]]) -> Option<&'a [&'t [u8]
     }
 }
 
-/// A leaf, of which the first word is read.
+/// Reads a leaf whose first word is read already.
 fn read_leaf<'a, 't>(
     alloc: Global,
     leaf: Leaf,
@@ -62,7 +62,7 @@ fn read_leaf<'a, 't>(
     Ok((false, rest))
 }
 
-/// An action formula behind `can`, `will` or `after`.
+/// Reads an action formula after `can`, `will` or `after`.
 fn action<'a, 't>(
     alloc: Global,
     words: &'a [&'t [u8]],
@@ -80,7 +80,7 @@ fn action<'a, 't>(
     Ok((true, rest))
 }
 
-/// An action formula behind `can` or `will`.
+/// Reads an action formula after `can` or `will`.
 fn read_action<'a, 't>(
     alloc: Global,
     word: ActionWord,
@@ -99,7 +99,7 @@ fn read_action<'a, 't>(
     Ok((false, rest))
 }
 
-/// An operand. `depth` says how many more parts may be open.
+/// Reads an operand. `depth` says how many more parts may be open.
 #[cycle(phrase)]
 fn part<'a, 't>(
     alloc: Global,
@@ -126,7 +126,7 @@ fn part<'a, 't>(
     }
 }
 
-/// A part, of which the first word is read.
+/// Reads a part whose first word is read already.
 #[cycle(phrase)]
 fn inner<'a, 't>(
     alloc: Global,
@@ -150,7 +150,7 @@ fn inner<'a, 't>(
     }
 }
 
-/// An operand, and the mark of what stands in front of it.
+/// Reads an operand, and puts the mark of what stands in front of it.
 #[cycle(phrase)]
 fn behind<'a, 't>(
     alloc: Global,
@@ -170,7 +170,7 @@ fn behind<'a, 't>(
     Ok((is_endless, rest))
 }
 
-/// A formula up to the closing parenthesis.
+/// Reads a formula up to the closing parenthesis.
 #[cycle(phrase)]
 fn enclosed<'a, 't>(
     alloc: Global,
@@ -189,7 +189,7 @@ fn enclosed<'a, 't>(
     }
 }
 
-/// A regular formula up to its closing bracket, and an operand.
+/// Reads a regular formula up to its closing bracket, and an operand.
 #[cycle(phrase)]
 fn modal<'a, 't>(
     alloc: Global,
@@ -209,7 +209,7 @@ fn modal<'a, 't>(
     behind(alloc, bracket.mark(), left, depth, out)
 }
 
-/// What stands behind the first `again`.
+/// Reads what comes after the first `again`.
 #[cycle(phrase)]
 fn again<'a, 't>(
     alloc: Global,
@@ -230,7 +230,7 @@ fn again<'a, 't>(
     behind(alloc, Mark::AgainAndAgain, left, depth, out)
 }
 
-/// What stands behind `after`.
+/// Reads what comes after `after`.
 #[cycle(phrase)]
 fn after<'a, 't>(
     alloc: Global,
@@ -246,7 +246,7 @@ fn after<'a, 't>(
     behind(alloc, Mark::After, rest, depth, out)
 }
 
-/// What stands behind `mu` or `nu`.
+/// Reads what comes after `mu` or `nu`.
 #[cycle(phrase)]
 fn binding<'a, 't>(
     alloc: Global,
@@ -278,7 +278,7 @@ fn binding<'a, 't>(
     Ok((true, rest))
 }
 
-/// What stands on both sides of a sign.
+/// Reads one of the formulas that a sign joins.
 #[cycle(phrase)]
 fn side<'a, 't>(
     alloc: Global,
@@ -297,7 +297,7 @@ fn side<'a, 't>(
     }
 }
 
-/// What a sign joins, one or more.
+/// Reads formulas joined by a sign, one or more.
 #[cycle(phrase)]
 fn joined<'a, 't>(
     alloc: Global,
@@ -325,7 +325,7 @@ fn joined<'a, 't>(
     Ok((is_endless, rest))
 }
 
-/// A formula. `depth` says how many more parts may be open.
+/// Reads a formula. `depth` says how many more parts may be open.
 #[cycle(phrase)]
 pub(crate) fn formula<'a, 't>(
     alloc: Global,

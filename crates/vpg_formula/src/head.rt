@@ -1,4 +1,4 @@
-//! What a formula begins with.
+//! First words of formulas.
 ghost use Rattle.std.specs.Prelude.{◌≡◌, length};
 ghost use Rattle.std.specs.List.{list_all};
 ghost use Rattle.vpg_features.specs.Names.{is_name_byte, starts_as_name};
@@ -10,7 +10,7 @@ use crate::mark::{Mark, Name};
 use crate::words::{is_keyword, is_same};
 use vpg_features::is_name_byte;
 
-/// A word that is a formula, but for `deadlock free` the whole of it.
+/// A leaf: a formula of one word, or `deadlock free`.
 #[derive(Clone, Copy, Debug, PartialEq, Eq)]
 pub(crate) enum Leaf {
     True,
@@ -50,7 +50,7 @@ pub(crate) enum Binder {
     Nu,
 }
 
-/// What opens a part.
+/// A word that opens a part.
 #[derive(Clone, Copy, Debug, PartialEq, Eq)]
 pub(crate) enum Opening {
     Action(ActionWord),
@@ -62,7 +62,7 @@ pub(crate) enum Opening {
     Binder(Binder),
 }
 
-/// What a formula begins with, by its first word.
+/// The first word of a formula, by what it begins.
 #[derive(Clone, Copy, Debug, PartialEq, Eq)]
 pub(crate) enum Head {
     Leaf(Leaf),
@@ -105,7 +105,7 @@ impl Bracket {
         }
     }
 
-    /// What closes it.
+    /// Returns the sign that closes it.
     pub(crate) fn closing(self) -> &'static [u8]
         ensures { result.now ≡ modal_close self }
     {
@@ -158,7 +158,7 @@ pub(crate) fn is_variable(word: &[u8]) -> bool
     !is_keyword(word)
 }
 
-/// What a formula begins with that begins with this word.
+/// Returns the kind of formula that begins with this word.
 pub(crate) fn read_head(word: &[u8]) -> Head
     ensures { view_head word.now result ≡ head_of word.now }
 {

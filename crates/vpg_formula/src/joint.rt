@@ -14,7 +14,7 @@ pub(crate) enum Joint {
 }
 
 impl Joint {
-    /// The sign.
+    /// Returns the sign.
     pub(crate) fn sign(self) -> &'static [u8]
         ensures { result.now ≡ sign_between self }
     {
@@ -24,7 +24,7 @@ impl Joint {
         }
     }
 
-    /// The mark of two formulas that it joins.
+    /// Returns the mark of two formulas that it joins.
     pub(crate) fn mark(self) -> Mark
         ensures { result ≡ mark_between self }
     {

@@ -18,7 +18,7 @@ pub(crate) enum Level {
 }
 
 impl Level {
-    /// The sign.
+    /// Returns the sign.
     pub(crate) fn sign(self) -> &'static [u8]
         ensures { result.now ≡ sign_of self }
     {
@@ -30,7 +30,7 @@ impl Level {
         }
     }
 
-    /// The mark of two formulas that it joins.
+    /// Returns the mark of two formulas that it joins.
     pub(crate) fn mark(self) -> Mark
         ensures { result ≡ mark_of self }
     {
@@ -42,7 +42,7 @@ impl Level {
         }
     }
 
-    /// Whether it stands with action formulas alone, and makes one of them.
+    /// Whether it joins action formulas only, and makes one of them.
     pub(crate) fn is_of_actions(self) -> bool
         ensures { result ≡ is_of_actions self }
     {
@@ -52,7 +52,7 @@ impl Level {
         }
     }
 
-    /// Whether it cannot stand with such a formula.
+    /// Whether it cannot join such a formula.
     pub(crate) fn refuses(self, is_action: bool) -> bool
         ensures { result ≡ refuses self is_action }
     {

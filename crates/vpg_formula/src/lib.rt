@@ -2,8 +2,8 @@
 //!
 //! A requirement is a formula of the modal mu-calculus as mCRL2 writes it, without data, or in this project's words
 //! (`always`, `after pay will serve`). `Requirements::read` reads a whole text of them, `parse_formula` one formula
-//! alone, and `parse_regular` what stands between `<` and `>`. What is read lies in a list of `Mark`s, operands first,
-//! so that nothing nests.
+//! alone, and `parse_regular` the text between `<` and `>`. The result is a list of `Mark`s, operands first, so that
+//! nothing nests.
 //!
 //! In a whole text each name in a formula is bound there, under an even number of negations within its fixpoint, or it
 //! is an earlier entry's. `parse_formula` does not ask what names stand for.

@@ -19,7 +19,7 @@ impl Model for Name {
 }
 
 impl Name {
-    /// The name of these bytes.
+    /// Returns the name of these bytes.
     pub(crate) fn new(alloc: Global, text: &[u8]) -> Result<Name, AllocError>
         ensures { IfOk result (λ name. name ≡ text.now) }
     {
@@ -28,7 +28,7 @@ impl Name {
         Ok(Name { bytes })
     }
 
-    /// The bytes.
+    /// Returns the bytes.
     pub fn as_bytes(&self) -> &[u8]
         ensures { result.now ≡ self.now }
     {
@@ -36,7 +36,7 @@ impl Name {
     }
 }
 
-/// An action as it is named: in quotes, by just these bytes, or without, by these but for blanks.
+/// An action by its name. In quotes the name has exactly these bytes; without quotes, blanks do not count.
 #[derive(Debug, Drop)]
 pub struct Label {
     /// Whether it stands in quotes.
@@ -56,7 +56,7 @@ impl Model for Label {
     ghost view = { λ l. record { quoted = l.quoted; name = l.name } };
 }
 
-/// A mark of a formula in Polish notation. Its operands stand in front of it, the last one at once in front.
+/// A mark of a formula in Polish notation. Its operands come before it, the last one directly.
 #[derive(Debug, Drop)]
 pub enum Mark {
     /// Each action, written `true`.
@@ -92,9 +92,9 @@ pub enum Mark {
     Will,
     /// `!f`.
     Not,
-    /// `<R>f`, where R stands in front of f.
+    /// `<R>f`; R comes before f.
     SomePath,
-    /// `[R]f`.
+    /// `[R]f`; R comes before f.
     EveryPath,
     /// `always f`.
     Always,
@@ -106,7 +106,7 @@ pub enum Mark {
     Inevitably,
     /// `again and again f`.
     AgainAndAgain,
-    /// `after A f`, where A stands in front of f.
+    /// `after A f`; A comes before f.
     After,
     /// `f && g`.
     And,

@@ -13,14 +13,14 @@ use crate::uses::is_entry;
 use crate::words::is_same;
 use std::alloc::{AllocError, Global};
 
-/// What the next word belongs to.
+/// The part of a formula that the next word belongs to.
 #[derive(Clone, Copy)]
 pub(crate) enum Region {
     /// A formula.
     Formula,
     /// `mu` or `nu`: it is the variable.
     Binder,
-    /// What stands between brackets.
+    /// A regular formula between brackets.
     Path(Bracket),
     /// `can`, `will` or `after`: an action formula begins with it.
     Action,
@@ -28,7 +28,7 @@ pub(crate) enum Region {
     Inside(usize),
 }
 
-/// What is open in a formula.
+/// An open parenthesis or fixpoint of a formula.
 #[derive(Clone, Copy)]
 pub(crate) enum Open<'t> {
     Parenthesis,
@@ -36,7 +36,7 @@ pub(crate) enum Open<'t> {
     Fixpoint(&'t [u8]),
 }
 
-/// Where a word stands: what it belongs to, and what of the formula is open there, the innermost last.
+/// Where a word stands: the part that it belongs to, and what is open there, the innermost last.
 #[derive(Drop)]
 pub(crate) struct Spot<'t> {
     pub(crate) region: Region,
@@ -51,7 +51,7 @@ pub(crate) struct Mention {
     pub(crate) is_known: bool,
 }
 
-/// What follows a word that opens a part.
+/// Returns the region after a word that opens a part.
 fn behind_opening(opening: Opening) -> Region
     ensures { region_of result ≡ region_behind_head (opening_head opening) }
 {
@@ -66,7 +66,7 @@ fn behind_opening(opening: Opening) -> Region
     }
 }
 
-/// What follows a word with this head.
+/// Returns the region after a word with this head.
 fn behind_head(head: Head, _word: &[u8]) -> Region
     ensures { region_of result ≡ region_behind_head (view_head _word.now head) }
 {
@@ -80,14 +80,14 @@ fn behind_head(head: Head, _word: &[u8]) -> Region
     }
 }
 
-/// What follows a word of a formula.
+/// Returns the region after a word of a formula.
 fn behind_word(word: &[u8]) -> Region
     ensures { region_of result ≡ region_behind in_formula word.now }
 {
     behind_head(read_head(word), word)
 }
 
-/// What follows a word up to which brackets stand.
+/// Returns the region after a word between brackets, or after the closing bracket.
 fn behind_path(bracket: Bracket, word: &[u8]) -> Region
     ensures { region_of result ≡ region_behind (region_of (Region.Path bracket)) word.now }
 {
@@ -98,7 +98,7 @@ fn behind_path(bracket: Bracket, word: &[u8]) -> Region
     }
 }
 
-/// What follows a word that begins an action formula.
+/// Returns the region after a word that begins an action formula.
 fn behind_action(word: &[u8]) -> Region
     ensures { region_of result ≡ region_behind (region_of Region.Action) word.now }
 {
@@ -111,7 +111,7 @@ fn behind_action(word: &[u8]) -> Region
     Region::Formula
 }
 
-/// What follows a closing parenthesis of an action formula, inside so many others.
+/// Returns the region after a closing parenthesis of an action formula, inside this many others.
 fn closed_in(depth: usize) -> Region
     ensures { region_of result ≡ spec.closed_in depth }
 {
@@ -122,7 +122,7 @@ fn closed_in(depth: usize) -> Region
     }
 }
 
-/// What follows a word inside so many more parentheses of an action formula.
+/// Returns the region after a word inside this many more parentheses of an action formula.
 fn behind_inside(word: &[u8], depth: usize) -> Region
     requires { depth + 1 < 2 ^ 64 }
     ensures { region_of result ≡ region_behind (region_of (Region.Inside depth)) word.now }
@@ -227,7 +227,7 @@ fn is_bound(around: &[Open], name: &[u8]) -> bool
     false
 }
 
-/// Whether the name that stands there is known, if one does.
+/// Whether the name at this word is known, if there is one.
 fn known_at(entries: &[Entry], spot: &Spot, word: &[u8]) -> Option<bool>
     ensures { result ≡ known_at (earlier_of entries.now) (spot_of spot.now) word.now }
 {
@@ -245,7 +245,7 @@ fn known_at(entries: &[Entry], spot: &Spot, word: &[u8]) -> Option<bool>
     }
 }
 
-/// Notes a name that is known or not, if there is one.
+/// Notes whether a name is known, if there is a name.
 fn note_name(known: Option<bool>, left: usize, out: &mut Vec<Mention>) -> Result<(), AllocError>
     ensures { OnOk result (pairs out.new.items ≡ pairs out.old.items ++ spec.mention known left []) }
 {
@@ -256,7 +256,7 @@ fn note_name(known: Option<bool>, left: usize, out: &mut Vec<Mention>) -> Result
     Ok(())
 }
 
-/// The names in a formula that begins with these words, up to where so many words are left.
+/// Returns the names in a formula that begins with these words, up to where this many words are left.
 pub(crate) fn mentions(
     alloc: Global,
     entries: &[Entry],
@@ -285,7 +285,7 @@ pub(crate) fn mentions(
     Ok(out)
 }
 
-/// How many words are left at the name of this index.
+/// Returns the number of words left at the name of this index.
 pub(crate) fn left_at(mentions: &[Mention], index: usize) -> usize
     ensures { result ≡ left_in (pairs mentions.now) index }
 {
@@ -295,7 +295,7 @@ pub(crate) fn left_at(mentions: &[Mention], index: usize) -> usize
     }
 }
 
-/// How many words are left at the first name that is not known.
+/// Returns the number of words left at the first name that is not known.
 pub(crate) fn first_unknown(mentions: &[Mention]) -> Option<usize>
     ensures { result ≡ spec.first_unknown (pairs mentions.now) }
 {

@@ -30,7 +30,7 @@ pub struct Formula {
     pub marks: Vec<Mark>,
 }
 
-/// The byte at which so many words are left.
+/// Returns the byte at which this many words are left.
 pub(crate) fn place(places: &[usize], left: usize) -> usize
     ensures { result ≡ place_left places.now left }
 {
@@ -43,7 +43,7 @@ pub(crate) fn place(places: &[usize], left: usize) -> usize
     }
 }
 
-/// Where reading stopped, in the text.
+/// Returns the place in the text at which reading stopped, as a fault.
 fn fault(words: &Words, stop: Stop) -> FormulaFault
     ensures { is_out_of_memory result ≡ is_memory stop }
 {
@@ -58,7 +58,7 @@ fn fault(words: &Words, stop: Stop) -> FormulaFault
     }
 }
 
-/// The marks of the regular formula that all the words are.
+/// Returns the marks of the regular formula that all the words are.
 fn whole_regular(alloc: Global, words: &[&[u8]]) -> Result<Vec<Mark>, Stop>
     ensures { GivesAll (λ v. v.items) regular_marks result (regular_at (texts words.now)) }
 {
@@ -70,7 +70,7 @@ fn whole_regular(alloc: Global, words: &[&[u8]]) -> Result<Vec<Mark>, Stop>
     Ok(out)
 }
 
-/// The marks of the formula that all the words are.
+/// Returns the marks of the formula that all the words are.
 fn whole_formula(alloc: Global, words: &[&[u8]]) -> Result<Vec<Mark>, Stop>
     ensures { GivesAll (λ v. v.items) phrase_marks result (formula_at (texts words.now)) }
 {
@@ -82,18 +82,18 @@ fn whole_formula(alloc: Global, words: &[&[u8]]) -> Result<Vec<Mark>, Stop>
     Ok(out)
 }
 
-/// The regular formula that a text spells.
+/// Returns the regular formula that a text spells.
 ///
-/// Tightest first: `!`, `&&`, `||`, `*` and `+` behind a formula, `.`, and `+` between two; `!`, `&&` and `||` stand
+/// Tightest first: `!`, `&&`, `||`, `*` and `+` after a formula, `.`, and `+` between two; `!`, `&&` and `||` stand
 /// with action formulas alone. An action is a word that begins with a letter or `_`, with its arguments (`send(d1,
 /// true)`), or any bytes in quotes; `true` is each action, `false` none. Blanks and comments, from `%` to the end of
 /// the line, are free between words. At most 64 `(` and `!` are open at one place.
 ///
-/// A refusal other than `Memory` comes only where the text spells none.
+/// A refusal other than `Memory` comes only if the text spells none.
 pub fn parse_regular(alloc: Global, text: &[u8]) -> Result<Regular, FormulaFault>
-    // What is read is spelled so.
+    // The text spells the result.
     ensures found { IfOk result (λ r. AreMarksOf regular_marks (SpellsRegular text.now) r.marks.items) }
-    // What is spelled so is read, unless memory runs out.
+    // All that the text spells is read, unless memory runs out.
     ensures only { (x : regular.Regular) → SpellsRegular text.now x →
         MatchResult result (λ r. r.marks.items ≡ regular_marks x) (λ e. e ≡ FormulaFault.Memory) }
 {
@@ -106,7 +106,7 @@ pub fn parse_regular(alloc: Global, text: &[u8]) -> Result<Regular, FormulaFault
     }
 }
 
-/// The formula that a text spells.
+/// Returns the formula that a text spells.
 ///
 /// Tightest first: `!`, modalities and words, `&&`, `||`, and `=>`, which goes to the right. A fixpoint, `mu X. f` or
 /// `nu X. f`, is an operand that is as long as it can be. The words are `can`, `will`, `always`, `never`, `possibly`,
@@ -115,11 +115,11 @@ pub fn parse_regular(alloc: Global, text: &[u8]) -> Result<Regular, FormulaFault
 /// and the words, each until its part ends.
 ///
 /// Names of variables are read as they stand; that each is bound is not asked here. A refusal other than `Memory` comes
-/// only where the text spells no formula.
+/// only if the text spells no formula.
 pub fn parse_formula(alloc: Global, text: &[u8]) -> Result<Formula, FormulaFault>
-    // What is read is spelled so.
+    // The text spells the result.
     ensures found { IfOk result (λ f. AreMarksOf phrase_marks (SpellsFormula text.now) f.marks.items) }
-    // What is spelled so is read, unless memory runs out.
+    // All that the text spells is read, unless memory runs out.
     ensures only { (p : Phrase) → SpellsFormula text.now p →
         MatchResult result (λ f. f.marks.items ≡ phrase_marks p) (λ e. e ≡ FormulaFault.Memory) }
 {

@@ -13,7 +13,7 @@ use crate::stop::Stop;
 use crate::words::{is_closed, is_same};
 use std::alloc::{AllocError, Global};
 
-/// What follows the sign, where it comes next.
+/// Returns the words after the sign, if it comes next.
 pub(crate) fn after_word<'a, 't>(words: &'a [&'t [u8]], sign: &[u8]) -> Option<&'a [&'t [u8]]>
     ensures rest { option_map (λ r. texts r.now) result ≡ after_word sign.now (texts words.now) }
     ensures shorter { IfSome result (λ r. length r.now < length words.now) }
@@ -30,7 +30,7 @@ pub(crate) fn after_word<'a, 't>(words: &'a [&'t [u8]], sign: &[u8]) -> Option<&
     }
 }
 
-/// Whether a letter or `_`.
+/// Whether the byte is a letter or `_`.
 fn is_name_start(b: u8) -> bool
     ensures { result ≡ is_name_start b }
 {
@@ -117,7 +117,7 @@ pub(crate) fn starts_operand(words: &[&[u8]]) -> bool
     }
 }
 
-/// Whether `*` or a `+` that is none between two comes next, and which; and the words behind it.
+/// Returns whether `*` or a postfix `+` comes next, which of them (`true` for `+`), and the words after it.
 fn star<'a, 't>(words: &'a [&'t [u8]]) -> Option<(bool, &'a [&'t [u8]])>
     ensures next { option_map (λ x. (x.0, texts x.1.now)) result ≡ star_next (texts words.now) }
     ensures shorter { IfSome result (λ x. length x.1.now < length words.now) }
@@ -146,7 +146,7 @@ fn star_mark(is_plus: bool) -> Mark
     }
 }
 
-/// A word that is an action formula.
+/// Reads a word that is an action formula.
 fn word<'a, 't>(
     alloc: Global,
     words: &'a [&'t [u8]],
@@ -167,7 +167,7 @@ fn word<'a, 't>(
     Ok((true, rest))
 }
 
-/// An operand. `depth` says how many more `(` and `!` may be open.
+/// Reads an operand. `depth` says how many more `(` and `!` may be open.
 #[cycle(read)]
 pub(crate) fn operand<'a, 't>(
     alloc: Global,
@@ -205,7 +205,7 @@ pub(crate) fn operand<'a, 't>(
     word(alloc, words, out)
 }
 
-/// What stands on both sides of a sign.
+/// Reads one of the formulas that a sign joins.
 #[cycle(read)]
 fn item<'a, 't>(
     alloc: Global,
@@ -226,7 +226,7 @@ fn item<'a, 't>(
     }
 }
 
-/// What a sign joins, one or more.
+/// Reads formulas joined by a sign, one or more.
 #[cycle(read)]
 pub(crate) fn series<'a, 't>(
     alloc: Global,
@@ -257,7 +257,7 @@ pub(crate) fn series<'a, 't>(
     Ok((is_action, rest))
 }
 
-/// Actions, and `*` and `+` behind them.
+/// Reads actions, with `*` and `+` after them.
 #[cycle(read)]
 fn starred<'a, 't>(
     alloc: Global,

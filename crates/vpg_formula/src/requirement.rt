@@ -52,7 +52,7 @@ struct Item {
     negated: Option<usize>,
 }
 
-/// All entries, likewise.
+/// All entries, and how many words are left at the first negated variable.
 #[derive(Drop)]
 struct Items {
     entries: Vec<Entry>,
@@ -121,7 +121,7 @@ fn check_names(
     }
 }
 
-/// The formula at the front, whose names are bound in it or those of the entries.
+/// Reads the formula at the front. Its names are bound in it or are those of the entries.
 fn read_body<'a, 't>(
     alloc: Global,
     entries: &[Entry],
@@ -148,7 +148,7 @@ fn read_body<'a, 't>(
     }
 }
 
-/// The first word, and those behind it.
+/// Splits off the first word.
 pub(crate) fn split_first<'a, 't>(words: &'a [&'t [u8]]) -> Option<(&'t [u8], &'a [&'t [u8]])>
     ensures words { words_in result ≡ texts words.now }
     ensures some { IfSome result (λ p. texts words.now ≡ p.0.now ∷ texts p.1.now) }
@@ -174,7 +174,7 @@ fn begins_entry(words: &[&[u8]]) -> bool
     is_variable(name) && is_same(sign, b"=")
 }
 
-/// The words behind the name of a new entry and `=`.
+/// Returns the words after the name of a new entry and `=`.
 fn head<'a, 't>(
     entries: &[Entry],
     name: &[u8],
@@ -204,7 +204,7 @@ fn head<'a, 't>(
     }
 }
 
-/// The entry of this name, of which these words stand behind the `=`.
+/// Reads the entry of this name from the words after its `=`.
 fn read_entry<'a, 't>(
     alloc: Global,
     entries: &[Entry],
@@ -233,7 +233,7 @@ fn read_entry<'a, 't>(
     Ok((Item { entry, negated }, rest))
 }
 
-/// The first of two places, of which the first is that of earlier words.
+/// Returns the first of two places. `a` is among earlier words than `b`.
 fn first_place(a: Option<usize>, b: Option<usize>) -> Option<usize>
     ensures some { is_some result ≡ is_some a || is_some b }
     ensures first { result ≡ first_of a b }
@@ -244,7 +244,7 @@ fn first_place(a: Option<usize>, b: Option<usize>) -> Option<usize>
     }
 }
 
-/// Reads one entry more, and returns the words behind it.
+/// Reads one entry more, and returns the words after it.
 fn add_entry<'a, 't>(
     alloc: Global,
     items: &mut Items,
@@ -274,7 +274,7 @@ fn add_entry<'a, 't>(
     Ok(rest)
 }
 
-/// Entries, and how many words are left at the first negated variable.
+/// Reads entries, and how many words are left at the first negated variable.
 fn several(alloc: Global, words: &[&[u8]]) -> Result<Items, Halt>
     requires { spec.begins_entry (texts words.now) ≡ true }
     ensures items { IfOk result (λ i. AreRead i.negated (entries_of i.entries.items)
@@ -295,7 +295,7 @@ fn several(alloc: Global, words: &[&[u8]]) -> Result<Items, Halt>
     Ok(items)
 }
 
-/// One formula alone, whose entry is named `requirement`.
+/// Reads one formula alone, as the entry `requirement`.
 fn alone(alloc: Global, words: &[&[u8]]) -> Result<Items, Halt>
     ensures items { IfOk result (λ i. AreRead i.negated (entries_of i.entries.items) (lone_at (texts words.now))) }
     ensures none { IfErr result (λ h. Halts h (lone_at (texts words.now))) }
@@ -317,7 +317,7 @@ fn alone(alloc: Global, words: &[&[u8]]) -> Result<Items, Halt>
     Ok(Items { entries, negated })
 }
 
-/// The entries that all the words are.
+/// Returns the entries that all the words are.
 fn read_all(alloc: Global, words: &[&[u8]]) -> Result<Items, Halt>
     ensures items { IfOk result (λ i. AreRead i.negated (entries_of i.entries.items)
         (requirements_at (texts words.now))) }
@@ -332,7 +332,7 @@ fn read_all(alloc: Global, words: &[&[u8]]) -> Result<Items, Halt>
     }
 }
 
-/// Those entries, if no variable in them is negated.
+/// Returns the entries that all the words are, if no variable in them is negated.
 fn whole(alloc: Global, words: &[&[u8]]) -> Result<Vec<Entry>, Halt>
     ensures whole { IfOk result (λ v. AreWhole (entries_of v.items) (requirements_at (texts words.now))) }
     ensures none { IfErr result (λ h. Refuses h (requirements_at (texts words.now))) }
@@ -345,7 +345,7 @@ fn whole(alloc: Global, words: &[&[u8]]) -> Result<Vec<Entry>, Halt>
     }
 }
 
-/// Where reading stopped, in the text.
+/// Returns the place in the text at which reading stopped.
 fn fault(words: &Words, halt: Halt) -> RequirementFault
     ensures memory { is_fault_of_memory result ≡ is_halt_of_memory halt }
     ensures negated { is_fault_negated result ≡ is_halt_negated halt }
@@ -375,24 +375,25 @@ fn fault(words: &Words, halt: Halt) -> RequirementFault
 }
 
 impl Requirements {
-    /// The requirements that a text spells.
+    /// Returns the requirements that a text spells.
     ///
-    /// A text has one formula, whose entry is then named `requirement`, or 1 to 64 entries `NAME = FORMULA;`. Formulas
-    /// are those of `parse_formula`. Names of entries are made as those of variables, and no two entries have the same.
-    /// Each name in a formula is a variable that is bound there, or an earlier entry's; the innermost `mu` or `nu` of a
-    /// name binds it. A variable stands under an even number of negations within its fixpoint: `!`, `never`, and the
-    /// left side of `=>`.
+    /// A text has one formula, as the entry `requirement`, or 1 to 64 entries `NAME = FORMULA;`. Formulas are those of
+    /// `parse_formula`. Names of entries are like those of variables, and no two entries have the same. Each name in a
+    /// formula is a variable that is bound there, or an earlier entry's; the innermost `mu` or `nu` of a name binds it.
+    /// A variable stands under an even number of negations within its fixpoint: `!`, `never`, and the left side of
+    /// `=>`.
     ///
-    /// The leftmost fault of `Syntax`, `UnknownVariable`, `TooDeep`, `Twice` and `TooMany` is returned; where there is
+    /// The leftmost fault of `Syntax`, `UnknownVariable`, `TooDeep`, `Twice` and `TooMany` is returned; if there is
     /// none, the first `NegatedVariable`.
     pub fn read(alloc: Global, text: &[u8]) -> Result<Requirements, RequirementFault>
-        // What is read is spelled so.
+        // The text spells the result.
         ensures found { IfOk result (λ r. AreRequirements text.now (entries_of r.entries.items)) }
-        // What is spelled so is read, unless memory runs out.
+        // All that the text spells is read, unless memory runs out.
         ensures only { (entries : List spec.Entry) → SpellsRequirements text.now entries →
             MatchResult result (λ r. entries_of r.entries.items ≡ marked entries)
             (λ e. e ≡ RequirementFault.Memory) }
-        // A text is refused for a negated variable only where nothing else is wrong, and else where it spells none.
+        // A text is refused for a negated variable only if nothing else is wrong, and for another fault only if it
+        // spells none.
         ensures refused { IfErr result (λ e. IsRefused text.now e) }
         // The fault is where it says.
         ensures at { IfErr result (λ e. IsAt text.now e) }

@@ -1,4 +1,4 @@
-//! Where reading words stops.
+//! Where and why reading words stops.
 
 /// Why words are no formula. `left` counts the words from the faulty one on.
 #[derive(Clone, Copy, Debug, PartialEq, Eq)]
@@ -7,7 +7,7 @@ pub(crate) enum Stop {
     Syntax { left: usize },
     /// The part that it begins would be the 65th open one.
     TooDeep { left: usize },
-    /// A growth was refused.
+    /// Memory ran out.
     Memory,
 }
 
@@ -26,6 +26,6 @@ pub(crate) enum Halt {
     TooMany { left: usize },
     /// The word names a variable under an odd number of negations.
     Negated { left: usize },
-    /// A growth was refused.
+    /// Memory ran out.
     Memory,
 }

@@ -27,8 +27,8 @@ pub(crate) struct Bound<'m> {
     pub(crate) is_odd: bool,
 }
 
-/// What a part of a formula stands in: whether under an odd number of negations, and in which fixpoints, outermost
-/// first.
+/// The context of a part of a formula: whether it is under an odd number of negations, and in which fixpoints,
+/// outermost first.
 #[derive(Drop)]
 pub(crate) struct Context<'m> {
     pub(crate) is_odd: bool,
@@ -47,7 +47,7 @@ pub(crate) fn is_entry(entries: &[Entry], name: &[u8]) -> bool
     false
 }
 
-/// How a variable stands that is bound there.
+/// Returns how a variable stands that is bound here.
 fn standing_under(bound: &Bound, is_odd: bool) -> Standing
     ensures { result ≡ spec.standing_under bound.now.is_odd is_odd }
 {
@@ -57,7 +57,7 @@ fn standing_under(bound: &Bound, is_odd: bool) -> Standing
     }
 }
 
-/// How a name stands inside one more fixpoint, where it would stand so without it.
+/// Returns how a name stands inside one more fixpoint, if it stands like `without` outside of it.
 fn standing_inside(bound: &Bound, is_odd: bool, without: Standing, name: &[u8]) -> Standing
     ensures { result ≡ (if bytes_eq bound.now.name.now name.now then spec.standing_under bound.now.is_odd is_odd
         else without) }
@@ -69,7 +69,7 @@ fn standing_inside(bound: &Bound, is_odd: bool, without: Standing, name: &[u8]) 
     }
 }
 
-/// How a name stands that no fixpoint binds.
+/// Returns how a name stands that no fixpoint binds.
 fn standing_outside(entries: &[Entry], name: &[u8]) -> Standing
     ensures { result ≡ (if spec.is_among (earlier_of entries.now) name.now then Standing.Known else Standing.Unknown) }
 {
@@ -80,7 +80,7 @@ fn standing_outside(entries: &[Entry], name: &[u8]) -> Standing
     }
 }
 
-/// How a name stands there.
+/// Returns how a name stands there.
 fn standing_of(entries: &[Entry], context: &Context, name: &[u8]) -> Standing
     ensures { result ≡ spec.standing_of (earlier_of entries.now) (context_of context.now) name.now }
 {
@@ -91,7 +91,7 @@ fn standing_of(entries: &[Entry], context: &Context, name: &[u8]) -> Standing
     standing
 }
 
-/// The same context.
+/// Returns a copy of the context.
 fn copy<'m>(alloc: Global, context: &Context<'m>) -> Result<Context<'m>, AllocError>
     ensures { IfOk result (λ c. context_of c ≡ context_of context.now) }
 {
@@ -103,7 +103,7 @@ fn copy<'m>(alloc: Global, context: &Context<'m>) -> Result<Context<'m>, AllocEr
     })
 }
 
-/// The same context, under one more negation.
+/// Returns the context under one more negation.
 fn negated(context: Context) -> Context
     ensures { context_of result ≡ spec.negated_in (context_of context.entry) }
 {
@@ -114,7 +114,7 @@ fn negated(context: Context) -> Context
     }
 }
 
-/// The same context, inside a fixpoint of this name.
+/// Returns the context inside a fixpoint of this name.
 fn inside<'m>(context: Context<'m>, name: &'m [u8]) -> Result<Context<'m>, AllocError>
     ensures { IfOk result (λ c. context_of c ≡ spec.inside name.now (context_of context.entry)) }
 {
@@ -123,7 +123,7 @@ fn inside<'m>(context: Context<'m>, name: &'m [u8]) -> Result<Context<'m>, Alloc
     Ok(Context { is_odd, scope })
 }
 
-/// What is left of a formula: contexts of the parts that are still to come, and how the names that came stand, both the
+/// The rest of a formula: contexts of the parts that are still to come, and how the names so far stand. Both have the
 /// last first.
 #[derive(Drop)]
 pub(crate) struct Visit<'m> {
@@ -131,7 +131,7 @@ pub(crate) struct Visit<'m> {
     pub(crate) standings: Vec<Standing>,
 }
 
-/// What a whole formula stands in.
+/// Returns the context of a whole formula.
 fn nothing_around<'m>(alloc: Global) -> Context<'m>
     ensures { context_of result ≡ spec.nothing_around }
 {
@@ -158,7 +158,7 @@ fn add_standing(visit: &mut Visit, standing: Standing) -> Result<(), AllocError>
     Ok(())
 }
 
-/// The part that is next, if any.
+/// Returns the part that is next, if any.
 fn next_part<'m>(visit: &mut Visit<'m>) -> Option<Context<'m>>
     ensures none { IfNone result ((visit_of visit.old).0 ≡ [] × (visit_of visit.new ≡ visit_of visit.old)) }
     ensures some { IfSome result (λ c. visit_of visit.old ≡
@@ -186,7 +186,7 @@ fn is_of_formula(mark: &Mark) -> bool
     }
 }
 
-/// Goes on with the mark in front, whose context is known.
+/// Goes on with the mark in front, in a known context.
 fn go_on<'m>(
     alloc: Global,
     entries: &[Entry],
@@ -243,7 +243,7 @@ fn step<'m>(
     }
 }
 
-/// How the names of a formula stand, the last first.
+/// Returns how the names of a formula stand, the last first.
 pub(crate) fn standings(
     alloc: Global,
     entries: &[Entry],
@@ -275,7 +275,7 @@ fn is_like(standing: Standing, wanted: Standing) -> bool
     }
 }
 
-/// Which name is the first that stands so, where the last is first.
+/// Returns the place of the first name that stands so. The list has the last first.
 pub(crate) fn first(standings: &[Standing], wanted: Standing) -> Option<usize>
     ensures { result ≡ reading.first_like wanted (reverse standings.now) }
 {

@@ -16,7 +16,7 @@ fn is_blank(b: u8) -> bool
     b == b' ' || b == b'\t' || b == b'\r' || b == b'\n'
 }
 
-/// How many bytes at the front are blanks and comments.
+/// Returns the number of bytes at the front that are blanks and comments.
 fn gap_len(text: &[u8]) -> usize
     ensures len { result ≡ gap_len false text.now }
     ensures within { result ≤ length text.now }
@@ -71,7 +71,7 @@ fn starts_name(text: &[u8]) -> bool
     }
 }
 
-/// One more open parenthesis, if that is not too many.
+/// Returns the depth of one more open parenthesis, unless that is too many.
 fn deeper(depth: usize) -> Option<usize>
     ensures open { result ≡ deeper depth }
     ensures small { IfSome result (λ more. more ≤ 64) }
@@ -79,8 +79,8 @@ fn deeper(depth: usize) -> Option<usize>
     if depth < 64 { Some(depth + 1) } else { None }
 }
 
-/// How many parentheses are open behind a byte of an action, where so many are in front of it; `None` where the action
-/// ends.
+/// Returns the number of parentheses open after a byte of an action, if `depth` are open before it; `None` if the
+/// action ends.
 fn open_behind(depth: usize, b: u8, text: &[u8]) -> Option<usize>
     requires { depth ≤ 64 }
     ensures open { result ≡ open_behind depth b text.now }
@@ -105,8 +105,8 @@ fn open_behind(depth: usize, b: u8, text: &[u8]) -> Option<usize>
     }
 }
 
-/// How many bytes at the front are an action with its arguments, and others behind `|`. Arguments that are not closed
-/// are none.
+/// Returns the length in bytes of an action with its arguments, and of others after `|`, at the front. Arguments that
+/// are not closed do not count.
 fn action_len(text: &[u8]) -> usize
     ensures len { Some result ≡ action_len 0 text.now }
     ensures within { result ≤ length text.now }
@@ -123,14 +123,14 @@ fn action_len(text: &[u8]) -> usize
     end_at(depth, text.len(), end)
 }
 
-/// Where an action ends: here if no parenthesis is open, else where the first that is open stands.
+/// Returns the end of an action: here if no parenthesis is open, otherwise at the first open one.
 fn end_at(depth: usize, at: usize, opened: usize) -> usize
     ensures { result ≡ end_at depth at opened }
 {
     if depth == 0 { at } else { opened }
 }
 
-/// How many bytes there are up to the closing quote, with it.
+/// Returns the number of bytes up to the closing quote, which counts too.
 fn quoted_len(text: &[u8]) -> Option<usize>
     ensures len { result ≡ quoted_len false text.now }
     ensures within { IfSome result (λ len. len ≤ length text.now) }
@@ -148,7 +148,7 @@ fn quoted_len(text: &[u8]) -> Option<usize>
     None
 }
 
-/// Whether a quote closes just at the end of the bytes behind the first.
+/// Whether a quote closes exactly at the end of the bytes after the first.
 pub(crate) fn is_closed(text: &[u8]) -> bool
     ensures { result ≡ is_closed text.now }
 {
@@ -158,7 +158,7 @@ pub(crate) fn is_closed(text: &[u8]) -> bool
     }
 }
 
-/// How many bytes there are up to the end of the line.
+/// Returns the number of bytes up to the end of the line.
 fn line_len(text: &[u8]) -> usize
     ensures len { result ≡ line_len text.now }
     ensures within { result ≤ length text.now }
@@ -166,7 +166,7 @@ fn line_len(text: &[u8]) -> usize
     text.iter().take_while(|b| **b != b'\n').count()
 }
 
-/// How many bytes of a word in quotes stand behind the first.
+/// Returns the number of bytes of a word in quotes, without the first.
 fn quote_len(text: &[u8]) -> usize
     ensures len { result ≡ quote_len text.now }
     ensures within { result ≤ length text.now }
@@ -177,7 +177,7 @@ fn quote_len(text: &[u8]) -> usize
     }
 }
 
-/// How many letters, digits and `_` stand at the front.
+/// Returns the number of letters, digits and `_` at the front.
 fn run_len(text: &[u8]) -> usize
     ensures len { result ≡ prefix_len is_name_byte text.now }
     ensures within { result ≤ length text.now }
@@ -185,7 +185,7 @@ fn run_len(text: &[u8]) -> usize
     text.iter().take_while(|b| is_name_byte(**b)).count()
 }
 
-/// How long the word of letters, digits and `_` at the front is, with its arguments.
+/// Returns the length of the word of letters, digits and `_` at the front, with its arguments.
 #[tactic(auto, using(crate::proofs::Lengths::name_len_some))]
 fn name_len(text: &[u8]) -> usize
     requires { starts_name text.now ≡ true }
@@ -211,7 +211,7 @@ fn is_pair(b: u8, text: &[u8]) -> bool
     }
 }
 
-/// How long the word at the front is.
+/// Returns the length of the word at the front.
 fn word_len(text: &[u8]) -> usize
     requires { 0 < length text.now }
     ensures len { result ≡ word_len text.now }
@@ -232,7 +232,7 @@ fn word_len(text: &[u8]) -> usize
     }
 }
 
-/// The text from its first word on.
+/// Returns the text from its first word on.
 fn after_gap(text: &[u8]) -> &[u8]
     ensures rest { result.now ≡ after_gap text.now }
     ensures shorter { length result.now ≤ length text.now }
@@ -240,7 +240,7 @@ fn after_gap(text: &[u8]) -> &[u8]
     &text[gap_len(text)..]
 }
 
-/// The first word, and what stands behind it.
+/// Splits the text after its first word.
 fn first_word(text: &[u8]) -> Option<(&[u8], &[u8])>
     ensures some { IfSome result (λ p. words_of text.now ≡ p.0.now ∷ words_of p.1.now) }
     ensures shorter { IfSome result (λ p. length p.0.now + length p.1.now ≤ length text.now) }
@@ -257,14 +257,14 @@ fn first_word(text: &[u8]) -> Option<(&[u8], &[u8])>
     Some(text.split_at(word_len(text)))
 }
 
-/// The words of a text, and where each begins; behind the places of the words stands the length of the text.
+/// The words of a text, and where each begins. After the places of the words comes the length of the text.
 #[derive(Drop)]
 pub(crate) struct Words<'t> {
     pub(crate) words: Vec<&'t [u8]>,
     pub(crate) places: Vec<usize>,
 }
 
-/// The words of a text, in order.
+/// Returns the words of a text, in order.
 pub(crate) fn split_words(alloc: Global, text: &[u8]) -> Result<Words, AllocError>
     ensures words { IfOk result (λ w. texts w.words.items ≡ words_of text.now) }
     ensures places { IfOk result (λ w. ArePlaces text.now w.places.items) }

@@ -23,12 +23,12 @@ IsResolvingFault ids es _ = ⊥
 
 -- ---- the limits
 
--- the guard of each successor is one that is written, over so many features
+-- each successor has a guard that can be written, over this many features
 abbrev pub AreReadable : ℕ → List SpelledSuccessor → Type 0
 AreReadable features [] = Unit {0}
 AreReadable features (s ∷ ss) = IsReadable features s.guard × AreReadable features ss
 
--- each entry has an identifier below 2^32, a priority below 65,536, and guards that are written
+-- each entry has an identifier below 2^32, a priority below 65,536, and guards that can be written
 abbrev pub AreLimited : ℕ → List SpelledEntry → Type 0
 AreLimited features [] = Unit {0}
 AreLimited features (e ∷ es) =

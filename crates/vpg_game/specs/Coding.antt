@@ -1,4 +1,4 @@
--- The codes by which models hold entries and games.
+-- Codes for entries and games, by which models hold them.
 use Rattle.std.specs.Prelude.{◌≡◌, ℕ, List, refl}
 use Rattle.std.specs.Coded.{Coded, code_by, coded×, coded_ℕ, coded_list}
 use Rattle.vpg_guards.specs.Formula.{Formula}

@@ -18,16 +18,16 @@ pub record NamedVertex : Type 0 where
   pub priority : ℕ
   pub edges : List (GuardedEdge Formula)
 
--- what a look-up past the end gives
+-- the result of a look-up past the end
 abbrev pub no_vertex : NamedVertex
 no_vertex = record { id = 0; owner = Even; priority = 0; edges = [] }
 
--- vertices in file order, over so many features
+-- vertices in file order, over this many features
 pub record NamedGame : Type 0 where
   pub vertices : List NamedVertex
   pub features : ℕ
 
--- owners exchanged, priorities plus one
+-- the vertex of the dual: owner exchanged, priority plus one
 abbrev pub dual_vertex : NamedVertex → NamedVertex
 dual_vertex v = record { id = v.id; owner = opponent v.owner; priority = v.priority + 1; edges = v.edges }
 
@@ -43,7 +43,7 @@ unnamed v = record { owner = v.owner; priority = v.priority; edges = v.edges }
 abbrev pub graph_of : NamedGame → GuardedGame Formula
 graph_of game = map unnamed game.vertices
 
--- a vertex of the graph, and what a look-up past the end gives
+-- a vertex of the graph, and the result of a look-up past the end
 abbrev pub vertex_in : GuardedGame Formula → ℕ → GuardedVertex Formula
 vertex_in graph v = slice_index_or graph v (unnamed no_vertex)
 
@@ -59,7 +59,7 @@ priorities_of vs = map (λ v. v.priority) vs
 abbrev pub top_in : List ℕ → ℕ
 top_in priorities = top_of (levels_of priorities)
 
--- that of the dual's, which are one greater
+-- the number of the dual's top measure; its priorities are one greater
 abbrev pub dual_top_in : List ℕ → ℕ
 dual_top_in priorities = top_of (levels_of (map (λ p. p + 1) priorities))
 
@@ -75,7 +75,7 @@ Lacks ids id = (i : ℕ) → slice_get ids i ≡ Some id → ⊥
 abbrev pub Holds : List ℕ → ℕ → Type 0
 Holds ids id = (i : ℕ) × (slice_get ids i ≡ Some id)
 
--- no identifier stands at two places
+-- no identifier is at two places
 abbrev pub AreDistinct : List ℕ → Type 0
 AreDistinct [] = Unit {0}
 AreDistinct (id ∷ ids) = Lacks ids id × AreDistinct ids
@@ -86,7 +86,7 @@ place_of ids id = position_or_len (λ i. id == i) ids
 
 -- ---- the game that entries spell
 
--- the edges behind some that are there
+-- the edges after some that are there
 abbrev pub joined_edges : List ℕ → List (GuardedEdge Formula) → List SpelledSuccessor → List (GuardedEdge Formula)
 joined_edges ids edges [] = edges
 joined_edges ids edges (s ∷ ss) =
@@ -101,7 +101,7 @@ entry_ids entries = map (λ e. e.id) entries
 abbrev pub entry_priorities : List SpelledEntry → List ℕ
 entry_priorities entries = map (λ e. e.priority) entries
 
--- the game over so many features that entries spell: successors are looked up by identifier
+-- the game over this many features that entries spell: successors are looked up by identifier
 abbrev pub game_of : ℕ → List SpelledEntry → NamedGame
 game_of features entries = record { vertices = map (vertex_of (entry_ids entries)) entries; features = features }
 
@@ -119,13 +119,14 @@ AllFound ids (e ∷ es) = AllHeld ids e.successors × AllFound ids es
 abbrev pub IsNarrow : List ℕ → Type 0
 IsNarrow priorities = (top_in priorities ≤ 2 ^ 62) × (dual_top_in priorities ≤ 2 ^ 62)
 
--- The entries make a game: no identifier stands twice, each successor has an entry, and both tops are within the limit.
+-- The entries make a game: no identifier is at two places, each successor has an entry, and both tops are within the
+-- limit.
 pub record AreSound (entries : List SpelledEntry) : Type 0 where
   pub distinct : AreDistinct (entry_ids entries)
   pub found : AllFound (entry_ids entries) entries
   pub narrow : IsNarrow (entry_priorities entries)
 
--- the text spells the game: successors are looked up by identifier, and a target that is named twice has the `or` of
+-- the text spells the game; successors are looked up by identifier, and a target that is named twice has the `or` of
 -- its guards
 pub record SpellsGame (names : List (List ℕ)) (text : List ℕ) (game : NamedGame) : Type 0 where
   pub entries : List SpelledEntry
@@ -135,7 +136,7 @@ pub record SpellsGame (names : List (List ℕ)) (text : List ℕ) (game : NamedG
 
 -- ---- what is wrong with entries
 
--- the identifier at the first place where it stands already before
+-- the identifier at the first place where it repeats an earlier one
 abbrev pub IsFirstDouble : List ℕ → ℕ → Type 0
 IsFirstDouble ids id = (n : ℕ) × AreDistinct (take n ids) × (slice_get ids n ≡ Some id) × Holds (take n ids) id
 
@@ -181,6 +182,6 @@ pub record IsGame (game : NamedGame) : Type 0 where
   pub distinct : AreDistinct (vertex_ids game.vertices)
   pub narrow : IsNarrow (priorities_of game.vertices)
 
--- some priority is as high as priorities get: only a dual has one, and has no dual
+-- some priority is the highest possible: only a dual has one, and has no dual
 abbrev pub IsAtLimit : NamedGame → Type 0
 IsAtLimit game = Contains (priorities_of game.vertices) 65536

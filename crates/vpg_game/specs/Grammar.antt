@@ -118,11 +118,11 @@ number_value n = digits_value 10 n.digits
 abbrev pub IsNumberBelow : ℕ → Number → Type 0
 IsNumberBelow limit n = IsNumber n × (number_value n < limit)
 
--- a number behind another word stands apart from it
+-- a number after another word has a blank before it
 abbrev pub IsApart : Number → Type 0
 IsApart n = 0 < length n.before
 
--- no byte is the one
+-- the byte does not occur
 abbrev pub AreOther : ℕ → List ℕ → Type 0
 AreOther sign bytes = list_all (λ b. not (b == sign)) bytes ≡ true
 
@@ -173,7 +173,7 @@ abbrev pub IsHeading : Option Heading → Type 0
 IsHeading None = Unit {0}
 IsHeading (Some h) = AreBlank h.before × IsNumber h.number × IsApart h.number × AreBlank h.before_end
 
--- the parts are such as the format allows, with guards over these names
+-- the parts have the form of the format, with guards over these names
 pub record IsFile (names : List (List ℕ)) (f : File) : Type 0 where
   pub header : IsHeading f.header
   pub start : IsHeading f.start

@@ -15,13 +15,13 @@ TextsSpellOneGame =
     (names : List (List ℕ)) (text : List ℕ) (g h : NamedGame) → AreNames names → SpellsGame names text g →
     SpellsGame names text h → g ≡ h
 
--- what is written spells the game, where no priority is at the limit
+-- the text that is written spells the game, if no priority is at the limit
 abbrev pub WritingsSpellTheGame : Type 0
 WritingsSpellTheGame =
     (names : List (List ℕ)) (game : NamedGame) → AreNames names → length names ≡ game.features → IsGame game →
     ¬ IsAtLimit game → SpellsGame names (game_text names game) game
 
--- what the graph of every game keeps
+-- properties of the graph of every game
 pub record IsGraph (features : ℕ) (graph : GuardedGame Formula) : Type 0 where
   -- each edge leads to a vertex
   pub closed : IsClosedGuarded graph
@@ -57,7 +57,7 @@ SomeNamedHolds set ids to [] = ⊥
 SomeNamedHolds set ids to (s ∷ ss) =
     ((place_of ids s.id ≡ to) × (truth set s.guard ≡ true)) ⊎ SomeNamedHolds set ids to ss
 
--- a vertex has an edge in the game of a product exactly where its entry names a successor whose guard the product
+-- a vertex has an edge in the game of a product exactly if its entry names a successor with a guard that the product
 -- satisfies
 abbrev pub EdgesHoldAsNamed : Type 0
 EdgesHoldAsNamed =

@@ -6,7 +6,7 @@ use Rattle.vpg_game.specs.declared.levels.Level.{Level}
 abbrev pub is_odd : ℕ → Bool
 is_odd p = p % 2 == 1
 
--- how often p stands among the priorities
+-- how often p occurs among the priorities
 abbrev pub count_of : ℕ → List ℕ → ℕ
 count_of p priorities = count_by (λ q. q == p) priorities
 
@@ -45,14 +45,14 @@ lower_levels p (l ∷ ls) = if nat_le p l.priority then lower_levels p ls else l
 abbrev pub weight_of : ℕ → List Level → ℕ
 weight_of p ls = top_of (lower_levels p ls)
 
--- the least number whose measure fits an edge from a vertex of priority p to one of value r
+-- the least number with a measure that fits an edge from a vertex of priority p to one of value r
 abbrev pub prog_of : List Level → ℕ → ℕ → ℕ
 prog_of ls p r =
     if r == top_of ls then r
     else if is_odd p then (r / weight_of p ls + 1) * weight_of p ls
     else r / weight_of p ls * weight_of p ls
 
--- the product of the radices of the odd priorities below p, where one that doesn't occur has radix 1
+-- the product of the radices of the odd priorities below p; one that doesn't occur has radix 1
 abbrev pub product_below : ℕ → List ℕ → ℕ
 product_below zero priorities = 1
 product_below (suc p) priorities =
@@ -63,7 +63,7 @@ pub record AreOddCounts (priorities counts : List ℕ) : Type 0 where
   pub len : length counts ≡ bound_of priorities
   pub each : (p : ℕ) → p < length counts → slice_index counts p ≡ (if is_odd p then count_of p priorities else 0)
 
--- the weights of the priorities up to a length, from which on they are the top
+-- the weights of the priorities up to a length; from there on they are the top
 pub record AreWeights (ls : List Level) (weights : List ℕ) (top : ℕ) : Type 0 where
   pub greatest : top ≡ top_of ls
   pub limit : top_of ls ≤ 2 ^ 62

@@ -1,4 +1,4 @@
--- Which vertices have an edge whose guard names a feature. This project's own.
+-- The vertices with an edge that needs a feature: its guard names the feature. This project's own.
 use Rattle.std.specs.Prelude.{ℕ, ◌≡◌, ◌↔◌, List, [], ◌∷◌, ◌++◌, length, slice_index_or, Contains}
 use Rattle.vpg_guards.specs.Formula.{Formula, named}
 use Rattle.vpg_edges.specs.Edges.{GuardedEdge}
@@ -9,7 +9,7 @@ abbrev pub features_named : List (GuardedEdge Formula) → List ℕ
 features_named [] = []
 features_named (e ∷ es) = named e.guard ++ features_named es
 
--- for each of so many features exactly the vertices that name it
+-- for each of this many features exactly the vertices that name it
 pub record IsNaming (features : ℕ) (vertices : List NamedVertex) (naming : List (List ℕ)) : Type 0 where
   pub count : length naming ≡ features
   pub exact : (f v : ℕ) → Contains (slice_index_or naming f []) v ↔

@@ -13,16 +13,16 @@ use Rattle.vpg_guards.specs.Reading.{◌>>=◌, after_blanks, after_byte, after_
 use Rattle.vpg_game.specs.Grammar.{player_of}
 use Rattle.vpg_game.specs.Spelled.{SpelledSuccessor, SpelledEntry}
 
--- what was read, and what follows it
+-- a value that was read, and the text after it
 abbrev pub Read : Type 0 → Type 0
 Read A = Option (A × List ℕ)
 
--- one way behind a sign, another where it isn't there
+-- one way after a sign, another if it isn't there
 abbrev pub choice : {A : Type 0} → Option (List ℕ) → (List ℕ → Option A) → Option A → Option A
 choice None behind otherwise = otherwise
 choice (Some rest) behind otherwise = behind rest
 
--- what was read, where there is room for it
+-- the value that was read, if there is room for it
 abbrev pub within : {A : Type 0} → ℕ → Option A → Option A
 within zero read = None
 within (suc n) read = read
@@ -44,7 +44,7 @@ number_at limit text = digits_at (after_blanks text) >>= λ x. number_below limi
 
 -- ---- successors
 
--- what is up to a byte, and what follows it
+-- the text up to a byte, and the text after it
 abbrev pub behind_first : List ℕ → Option (List ℕ)
 behind_first [] = None
 behind_first (b ∷ rest) = Some rest
@@ -52,7 +52,7 @@ behind_first (b ∷ rest) = Some rest
 abbrev pub len_before : ℕ → List ℕ → ℕ
 len_before sign text = prefix_len (λ b. not (b == sign)) text
 
--- the fault of a text in which the guard behind a place has this fault
+-- the fault of a text, if the guard after a place has this fault
 abbrev pub fault_of_guard : ℕ → GuardFault → GameFault
 fault_of_guard at (guard_faults.Syntax place) = faults.Guard at (guard_faults.Syntax place)
 fault_of_guard at (guard_faults.UnknownFeature place) = faults.Guard at (guard_faults.UnknownFeature place)
@@ -73,7 +73,7 @@ with_guard id x = Some (record { id = id; guard = x.0 }, x.1)
 unfoldable pub successor_at : List (List ℕ) → List ℕ → Read SpelledSuccessor
 successor_at names text = number_at (2 ^ 32) text >>= λ x. bracket_at names x.1 >>= with_guard x.0
 
--- further successors behind those read, so many at most
+-- at most this many further successors after those read
 unfoldable pub more_successors : List (List ℕ) → ℕ → List SpelledSuccessor → List ℕ → Read (List SpelledSuccessor)
 more_successors names zero read text = choice (after_sign 44 text) (λ rest. None) (Some (read, text))
 more_successors names (suc n) read text =
@@ -84,7 +84,7 @@ abbrev pub starts_with_digit : List ℕ → Bool
 starts_with_digit [] = false
 starts_with_digit (b ∷ rest) = is_ascii_digit b
 
--- so many successors at most
+-- this many successors at most
 unfoldable pub successors_at : List (List ℕ) → ℕ → List ℕ → Read (List SpelledSuccessor)
 successors_at names n text =
     if starts_with_digit (after_blanks text)
@@ -100,7 +100,7 @@ abbrev pub ended_entry : ℕ → ℕ → ℕ → List SpelledSuccessor → List 
 ended_entry id priority owner successors text = after_name text >>= λ t. after_sign 59 t >>= λ rest.
     Some (record { id = id; priority = priority; owner = player_of owner; successors = successors }, rest)
 
--- an entry with so many successors at most
+-- an entry with at most this many successors
 unfoldable pub entry_at : List (List ℕ) → ℕ → List ℕ → Read SpelledEntry
 entry_at names n text =
     number_at (2 ^ 32) text >>= λ id. number_at 65536 id.1 >>= λ priority. number_at 2 priority.1 >>= λ owner.
@@ -110,7 +110,7 @@ abbrev pub if_ended : {A : Type 0} → List ℕ → A → A → A
 if_ended [] a b = a
 if_ended (c ∷ rest) a b = b
 
--- further entries behind those read, so many at most, with so many successors at most
+-- at most this many further entries after those read, with at most this many successors
 unfoldable pub more_entries : List (List ℕ) → ℕ → ℕ → List SpelledEntry → List ℕ → Option (List SpelledEntry)
 more_entries names zero n read text = if_ended (after_blanks text) (Some read) None
 more_entries names (suc m) n read text = if_ended (after_blanks text) (Some read)
@@ -118,7 +118,7 @@ more_entries names (suc m) n read text = if_ended (after_blanks text) (Some read
 
 -- ---- the file
 
--- what follows the bytes of a word
+-- the text after the bytes of a word
 abbrev pub after_word : List ℕ → List ℕ → Option (List ℕ)
 after_word [] text = Some text
 after_word (w ∷ word) text = after_byte w text >>= after_word word
@@ -127,7 +127,7 @@ abbrev pub if_spaced : List ℕ → Option (List ℕ)
 if_spaced [] = None
 if_spaced (b ∷ rest) = if is_blank b then Some (b ∷ rest) else None
 
--- what follows a header or a start, behind its first byte
+-- the text after a header or a start, after its first byte
 abbrev pub heading_rest : List ℕ → List ℕ → Option (List ℕ)
 heading_rest word text =
     after_word word text >>= λ t. if_spaced t >>= λ u. digits_at (after_blanks u) >>= λ x. after_sign 59 x.1
@@ -144,7 +144,7 @@ unfoldable pub entries_at : List (List ℕ) → List ℕ → Option (List Spelle
 entries_at names text =
     after_heading 112 (codes "arity") text >>= λ t. after_heading 115 (codes "tart") t >>= all_entries names
 
--- What a function returned, seen by view, is what reading gives, unless memory ran out.
+-- A function's result, seen by view, is the result of reading, unless memory ran out.
 abbrev pub Fails : {Y : Type 0} → GameFault → Option Y → Type 0
 Fails (faults.Syntax at) read = read ≡ None
 Fails (faults.BadOwner at) read = read ≡ None

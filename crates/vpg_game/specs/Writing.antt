@@ -18,7 +18,7 @@ target_id vs e = (slice_index_or vs e.to no_vertex).id
 abbrev pub edge_text : List (List ℕ) → List NamedVertex → GuardedEdge Formula → List ℕ
 edge_text names vs e = decimal (target_id vs e) ++ guard_part names e.guard
 
--- edges joined by `,`, behind a first byte; nothing where there are none
+-- edges joined by `,`, after a first byte; nothing if there are none
 abbrev pub edges_behind : List (List ℕ) → List NamedVertex → ℕ → List (GuardedEdge Formula) → List ℕ
 edges_behind names vs sign [] = []
 edges_behind names vs sign (e ∷ es) = sign ∷ (edge_text names vs e ++ edges_behind names vs 44 es)
@@ -27,7 +27,7 @@ abbrev pub owner_digit : Player → ℕ
 owner_digit Even = 48
 owner_digit Odd = 49
 
--- `identifier priority owner`, a blank and the edges where there are any, and `;`
+-- `identifier priority owner`, a blank and the edges if there are any, and `;`
 abbrev pub vertex_text : List (List ℕ) → List NamedVertex → NamedVertex → List ℕ
 vertex_text names vs v =
     decimal v.id ++ 32 ∷ (decimal v.priority

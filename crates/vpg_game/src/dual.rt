@@ -10,8 +10,8 @@ use indexmap::IndexSet;
 use std::alloc::{AllocError, Global};
 
 impl GuardedGame {
-    /// The dual game: the players are exchanged, and each priority is more by one. `AtLimit` where a priority is
-    /// 65,536, which only a dual has.
+    /// Returns the dual game: the players are exchanged, and each priority is more by one. The error is `AtLimit` if a
+    /// priority is 65,536, which only a dual has.
     pub fn dual(&self, alloc: Global) -> Result<GuardedGame, DualFault>
         ensures dual { IfOk result (λ game. game ≡ dual_of self.now) }
         ensures at_limit { (result ≡ Err DualFault.AtLimit) ↔ IsAtLimit self.now }
@@ -50,7 +50,7 @@ fn dual_vertices(alloc: Global, vertices: &[Vertex]) -> Result<Vec<Vertex>, Allo
     Ok(duals)
 }
 
-/// The identifiers of vertices, in order.
+/// Returns the identifiers of vertices, in order.
 fn identifiers(alloc: Global, vertices: &[Vertex]) -> Result<IndexSet<u32>, AllocError>
     requires { AreDistinct (vertex_ids vertices.now) }
     ensures { IfOk result (λ ids. ids.keys ≡ vertex_ids vertices.now) }

@@ -17,7 +17,7 @@ use vpg_edges::Edge;
 use vpg_guards::{Index, Names};
 use vpg_players::Player;
 
-/// The highest priority that a game has. One that is read has lower ones; its dual may have it.
+/// The highest priority of a game. One that is read has lower ones; its dual may have it.
 pub const HIGHEST_PRIORITY: u32 = 65_536;
 
 /// A guarded game. Vertices are numbered in the order of the file, features in the order of their names.
@@ -26,11 +26,11 @@ pub struct GuardedGame {
     pub(crate) vertices: Vec<Vertex>,
     pub(crate) features: usize,
     pub(crate) tops: (u64, u64),
-    // for each feature the vertices that have an edge whose guard names it
+    // for each feature, the vertices with an edge that names it in its guard
     pub(crate) naming: Index,
 }
 
-// Not derived, so that letting one go is one call: a derived way would be proved anew at each exit that owns one.
+// Not derived: a derived `drop` would be proved again at each exit that owns such a value.
 impl Drop for GuardedGame {
     fn drop(self) {
         let GuardedGame {
@@ -61,7 +61,7 @@ impl Model for GuardedGame {
 }
 
 impl GuardedGame {
-    /// How many vertices it has, from 1 to 65,536.
+    /// Returns the number of vertices, from 1 to 65,536.
     pub fn vertices(&self) -> usize
         ensures count { result ≡ length self.now.vertices }
         ensures graph { result ≡ length (graph_of self.now) }
@@ -70,14 +70,14 @@ impl GuardedGame {
         self.vertices.len()
     }
 
-    /// Over how many features its guards are, at most 512.
+    /// Returns the number of features that its guards are over, at most 512.
     pub fn features(&self) -> usize
         ensures { result ≡ self.now.features }
     {
         self.features
     }
 
-    /// The identifier of a vertex.
+    /// Returns the identifier of a vertex.
     pub fn id(&self, v: u32) -> u32
         requires { v < length self.now.vertices }
         ensures { slice_get (vertex_ids self.now.vertices) v ≡ Some result }
@@ -85,7 +85,7 @@ impl GuardedGame {
         self.vertices[v as usize].id
     }
 
-    /// The vertex of an identifier.
+    /// Returns the vertex of an identifier.
     pub fn find(&self, id: u32) -> Option<u32>
         ensures found { IfSome result (λ v. slice_get (vertex_ids self.now.vertices) v ≡ Some id) }
         ensures held { (v : ℕ) → slice_get (vertex_ids self.now.vertices) v ≡ Some id → result ≡ Some v }
@@ -96,7 +96,7 @@ impl GuardedGame {
         }
     }
 
-    /// Who moves at a vertex.
+    /// Returns who moves at a vertex.
     pub fn owner(&self, v: u32) -> Player
         requires { v < length self.now.vertices }
         ensures value { result ≡ (slice_index_or self.now.vertices v no_vertex).owner }
@@ -105,7 +105,7 @@ impl GuardedGame {
         self.vertices[v as usize].owner
     }
 
-    /// The priority of a vertex, at most 65,536.
+    /// Returns the priority of a vertex, at most 65,536.
     pub fn priority(&self, v: u32) -> u32
         requires { v < length self.now.vertices }
         ensures value { result ≡ (slice_index_or self.now.vertices v no_vertex).priority }
@@ -114,7 +114,7 @@ impl GuardedGame {
         self.vertices[v as usize].priority
     }
 
-    /// The edges of a vertex, in the order of their first naming.
+    /// Returns the edges of a vertex, in the order of their first naming.
     pub fn edges(&self, v: u32) -> &[Edge]
         requires { v < length self.now.vertices }
         ensures value { result.now ≡ (slice_index_or self.now.vertices v no_vertex).edges }
@@ -137,7 +137,7 @@ impl GuardedGame {
         other.features == self.features && are_same(&self.vertices, &other.vertices)
     }
 
-    /// The numbers of the top measures of the game and of its dual, from 1 to 2^62.
+    /// Returns the numbers of the top measures of the game and of its dual, from 1 to 2^62.
     pub fn tops(&self) -> (u64, u64)
         ensures top { result.0 ≡ top_in (priorities_of self.now.vertices) }
         ensures dual { result.1 ≡ dual_top_in (priorities_of self.now.vertices) }
@@ -145,9 +145,9 @@ impl GuardedGame {
         self.tops
     }
 
-    /// The vertices that have an edge whose guard names the feature, in file order. A guard has the same value under
-    /// any two valuations that agree on the features that it names (`vpg_guards::laws`), so these are the vertices that
-    /// a change of what is known of the feature concerns.
+    /// Returns the vertices with an edge that names the feature in its guard, in file order. A guard has the same value
+    /// under any two valuations that agree on the features that it names (`vpg_guards::laws`). So only these vertices
+    /// change when more or less is known of the feature.
     pub fn naming(&self, feature: u16) -> &[usize]
         ensures { (v : ℕ) → Contains result.now v ↔
             Contains (features_named (vertex_in (graph_of self.now) v).edges) feature }
@@ -157,32 +157,32 @@ impl GuardedGame {
 }
 
 impl GuardedGame {
-    /// The game that a text spells, over the features of these names.
+    /// Returns the game that a text spells, over the features of these names.
     ///
     /// It has at most 65,536 entries and 1,048,576 successors as named, priorities up to 65,535 and identifiers up to
-    /// 4,294,967,295. Refusals, in their order: of `Syntax`, `BadOwner`, `PriorityTooLarge`, `TooMany` and `Guard` the
-    /// one that stands leftmost; `DoubleVertex`; `MissingVertex`; `TooWide`, where the number of the top measure of the
-    /// game or of its dual exceeds 2^62. The second and third are told for the first place in the file.
+    /// 4,294,967,295. Refusals, in their order: the leftmost of `Syntax`, `BadOwner`, `PriorityTooLarge`, `TooMany` and
+    /// `Guard`; `DoubleVertex`; `MissingVertex`; `TooWide`, if the number of the top measure of the game or of its dual
+    /// exceeds 2^62. `DoubleVertex` and `MissingVertex` name the first place in the file.
     pub fn read(alloc: Global, text: &[u8], names: &Names) -> Result<GuardedGame, GameFault>
-        // What is read is spelled so.
+        // The text spells the result.
         ensures found { IfOk result (λ game. SpellsGame names.now text.now game) }
-        // A refusal comes only where the text, or its entries, show it.
+        // A refusal comes only if the text, or its entries, show it.
         ensures refused { IfErr result (IsRefused names.now text.now) }
-        // What is spelled so is read, unless memory runs out.
+        // All that the text spells is read, unless memory runs out.
         ensures only { (game : NamedGame) → SpellsGame names.now text.now game →
             MatchResult result (λ g. g ≡ game) (λ e. e ≡ GameFault.Memory) }
     {
-        // `len` tells that the names are feature names, each once.
+        // The contract of `len` says that the names are feature names, each once.
         let features = names.len();
         let entries = read_entries(alloc, text, names)?;
         make(alloc, entries, features)
     }
 
-    /// Returns the game of these entries, over so many features: the one that `read` returns for a text that spells
-    /// them.
+    /// Returns the game of these entries, over this many features. It is the one that `read` returns for a text that
+    /// spells them.
     ///
-    /// Refusals, in their order: `DoubleVertex`; `MissingVertex`; `TooWide`, where the number of the top measure of the
-    /// game or of its dual exceeds 2^62. The first two are told for the first place among the entries.
+    /// Refusals, in their order: `DoubleVertex`; `MissingVertex`; `TooWide`, if the number of the top measure of the
+    /// game or of its dual exceeds 2^62. The first two name the first place among the entries.
     pub fn of(
         alloc: Global,
         entries: Vec<Entry>,
@@ -192,7 +192,7 @@ impl GuardedGame {
         requires { IsLimited feature_count entries.items }
         ensures made { IfOk result (λ game. game ≡ game_of feature_count entries.items) }
         ensures sound { IfOk result (λ _. AreSound entries.items) }
-        // A refusal comes only where the entries show it.
+        // A refusal comes only if the entries show it.
         ensures refused { IfErr result (IsMakingFault entries.items) }
         // Sound entries make a game, unless memory runs out.
         ensures only { AreSound entries.items → IfErr result (λ fault. fault ≡ GameFault.Memory) }

@@ -6,13 +6,13 @@ pub fn texts_spell_one_game()
     ensures { TextsSpellOneGame }
 {}
 
-/// What is written spells the game, where no priority is at the limit.
+/// The text that is written spells the game, if no priority is at the limit.
 pub fn writings_spell_the_game()
     ensures { WritingsSpellTheGame }
 {}
 
-/// A vertex has an edge in the game of a product exactly where its entry names a successor whose guard the product
-/// satisfies, however often the successor is named.
+/// A vertex has an edge in the game of a product exactly if its entry names a successor with a guard that the product
+/// satisfies. It does not matter how often the successor is named.
 pub fn edges_hold_as_named()
     ensures { EdgesHoldAsNamed }
 {}

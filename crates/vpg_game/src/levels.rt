@@ -14,7 +14,7 @@ pub struct Level {
 /// The greatest number of a top measure.
 pub const TOP_LIMIT: u64 = 4_611_686_018_427_387_904;
 
-/// One more than the greatest.
+/// Returns one more than the greatest priority.
 pub fn bound(priorities: &[u32]) -> usize
     ensures bound { result ≡ bound_of priorities.now }
     ensures limit { result ≤ 2 ^ 32 }
@@ -26,7 +26,7 @@ pub fn bound(priorities: &[u32]) -> usize
     bound
 }
 
-/// How often each odd priority occurs, by priority.
+/// Returns how often each odd priority occurs, by priority.
 pub fn odd_counts(alloc: Global, priorities: &[u32]) -> Result<Vec<u64>, AllocError>
     ensures counts { IfOk result (λ counts. AreOddCounts priorities.now counts.items) }
     ensures limit { IfOk result (λ counts. vec_len counts ≤ 2 ^ 32) }
@@ -40,7 +40,7 @@ pub fn odd_counts(alloc: Global, priorities: &[u32]) -> Result<Vec<u64>, AllocEr
     Ok(counts)
 }
 
-/// The number of the top measure over these priorities, where it is within the limit.
+/// Returns the number of the top measure over these priorities, if it is within the limit.
 pub fn top_within_limit(alloc: Global, priorities: &[u32]) -> Result<Option<u64>, AllocError>
     ensures { IfOk result (λ top.
         SomeIff top (top_of (levels_of priorities.now) ≤ TOP_LIMIT) (top_of (levels_of priorities.now))) }

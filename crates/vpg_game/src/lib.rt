@@ -1,16 +1,17 @@
 //! Guarded games: parity games whose edges have guards over features (FASE 2020), in a profile of PGSolver's text
 //! format.
 //!
-//! `GuardedGame::read` gives the game that a text spells, `of` the one of entries that a program makes, `write` its one
-//! writing, which is read as the same game, and `dual` the game with the players exchanged. The layers above go over
-//! `vertices`, `owner`, `priority` and `edges`, whose clauses speak of the game with its identifiers (`NamedGame`) and
-//! of its graph without them (`graph_of`).
-//! `laws::games_have_graphs` says what every graph keeps, and `top_within_limit` is the number of the top measure.
+//! `GuardedGame::read` returns the game that a text spells, `of` the one of entries that a program makes. `write`
+//! writes its one writing, which is read as the same game, and `dual` returns the game with the players exchanged. The
+//! layers above go over `vertices`, `owner`, `priority` and `edges`. Their clauses name the game with its identifiers
+//! (`NamedGame`), and its graph without them (`graph_of`). `laws::games_have_graphs` says what holds of every graph,
+//! and `top_within_limit` is the number of the top measure.
 //!
 //! The definitions stand in `specs/`: `Players`; `Guarded`, games over any kind of guard and their duals; `Levels`, the
 //! odd priorities that occur and the number of the top measure (Jurdzinski 2000); `Grammar`, the texts as a relation;
-//! `Game`, the game that entries spell, and what every game keeps; `Refused`, why a text is no game; `Writing`; `Laws`.
-//! `Building`, the limits of entries, and why some make no game. `Spelled`, `Reading` and `Coding` serve these.
+//! `Game`, the game that entries spell, and the properties of every game; `Refused`, why a text is no game; `Writing`;
+//! `Laws`. `Building` has the limits of entries, and why some make no game. `Spelled`, `Reading` and `Coding` serve
+//! these.
 #![tactic(auto)]
 
 mod dual;

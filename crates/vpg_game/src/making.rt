@@ -17,7 +17,7 @@ use std::alloc::{AllocError, Global};
 use vpg_edges::{Edge, join_edge};
 use vpg_guards::Index;
 
-/// The identifiers of entries, in order.
+/// Returns the identifiers of entries, in order.
 fn numbered(alloc: Global, entries: &[Entry]) -> Result<IndexSet<u32>, GameFault>
     ensures ok { IfOk result (λ ids. (ids.keys ≡ entry_ids entries.now) × AreDistinct ids.keys) }
     ensures err { IfErr result (IsNumberingFault (entry_ids entries.now)) }
@@ -35,7 +35,7 @@ fn numbered(alloc: Global, entries: &[Entry]) -> Result<IndexSet<u32>, GameFault
     Ok(ids)
 }
 
-/// The edges that the successors of an entry name. `places` is room for one number per vertex.
+/// Returns the edges that the successors of an entry name. `places` is room for one number per vertex.
 fn joined(
     alloc: Global,
     ids: &IndexSet<u32>,
@@ -63,7 +63,7 @@ fn joined(
     Ok(edges)
 }
 
-/// The vertices that entries spell, their targets looked up.
+/// Returns the vertices that entries spell, their targets looked up.
 fn resolved(
     alloc: Global,
     ids: &IndexSet<u32>,
@@ -100,7 +100,7 @@ fn resolved(
     Ok(vertices)
 }
 
-/// The priorities of entries, and those of the dual game.
+/// Returns the priorities of entries, and those of the dual game.
 fn priorities(alloc: Global, entries: &[Entry]) -> Result<(Vec<u32>, Vec<u32>), AllocError>
     requires { (i : ℕ) → (e : SpelledEntry) → i < length entries.now → e ≡ slice_index_or entries.now i e →
         e.priority < 65536 }
@@ -116,7 +116,8 @@ fn priorities(alloc: Global, entries: &[Entry]) -> Result<(Vec<u32>, Vec<u32>), 
     Ok((own, dual))
 }
 
-/// The numbers of the top measures over these priorities and over those of the dual, where both are within the limit.
+/// Returns the numbers of the top measures over these priorities and over those of the dual, if both are within the
+/// limit.
 fn tops_of(alloc: Global, own: &[u32], dual: &[u32]) -> Result<Option<(u64, u64)>, AllocError>
     ensures { IfOk result (λ tops.
         SomeIff tops ((top_of (levels_of own.now) ≤ 2 ^ 62) × (top_of (levels_of dual.now) ≤ 2 ^ 62))
@@ -131,7 +132,7 @@ fn tops_of(alloc: Global, own: &[u32], dual: &[u32]) -> Result<Option<(u64, u64)
     Ok(Some((top, dual_top)))
 }
 
-/// The numbers of the top measures over the priorities of entries, where both are within the limit.
+/// Returns the numbers of the top measures over the priorities of entries, if both are within the limit.
 fn tops(alloc: Global, entries: &[Entry]) -> Result<Option<(u64, u64)>, AllocError>
     requires { (i : ℕ) → (e : SpelledEntry) → i < length entries.now → e ≡ slice_index_or entries.now i e →
         e.priority < 65536 }
@@ -143,7 +144,7 @@ fn tops(alloc: Global, entries: &[Entry]) -> Result<Option<(u64, u64)>, AllocErr
     tops_of(alloc, &own, &dual)
 }
 
-/// What a game keeps beside its identifiers.
+/// The vertices, tops and index that a game keeps with its identifiers.
 #[derive(Drop)]
 struct Parts {
     vertices: Vec<Vertex>,
@@ -151,7 +152,7 @@ struct Parts {
     naming: Index,
 }
 
-/// The parts of the game that entries with these identifiers spell.
+/// Returns the parts of the game that entries with these identifiers spell.
 fn parts_of(
     alloc: Global,
     ids: &IndexSet<u32>,
@@ -186,7 +187,7 @@ fn parts_of(
     })
 }
 
-/// The game that entries spell.
+/// Returns the game that entries spell.
 pub(crate) fn make(
     alloc: Global,
     entries: Vec<Entry>,

@@ -1,4 +1,4 @@
-//! The vertices whose guards name a feature.
+//! For each feature, the vertices that name it in a guard.
 ghost use Rattle.std.specs.Prelude.{◌≡◌, ◌<◌, ◌++◌, All, OnOk, IfOk};
 ghost use Rattle.vpg_game.specs.Naming.{features_named, IsNaming};
 
@@ -17,7 +17,7 @@ fn push_features(edges: &[Edge], features: &mut Vec<u16>) -> Result<(), AllocErr
     Ok(())
 }
 
-/// For each feature, the vertices that have an edge whose guard names it.
+/// Returns for each feature the vertices with an edge that names it in its guard.
 pub(crate) fn naming_of(
     alloc: Global,
     features: usize,

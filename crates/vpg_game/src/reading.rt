@@ -34,7 +34,7 @@ fn is_blank(b: u8) -> bool
     b == b' ' || b == b'\t' || b == b'\r' || b == b'\n'
 }
 
-/// How many blanks stand at the front.
+/// Returns the number of blanks at the front.
 fn blanks_len(text: &[u8]) -> usize
     ensures { result ≡ prefix_len is_blank text.now }
 {
@@ -46,7 +46,7 @@ fn blanks_len(text: &[u8]) -> usize
     text.len()
 }
 
-/// What follows the blanks at the front.
+/// Returns the text after the blanks at the front.
 #[tactic(auto, using(crate::proofs::Fronts::front_within))]
 fn after_blanks(text: &[u8]) -> &[u8]
     ensures rest { result.now ≡ after_blanks text.now }
@@ -55,7 +55,7 @@ fn after_blanks(text: &[u8]) -> &[u8]
     &text[blanks_len(text)..]
 }
 
-/// What follows the sign, where it comes next.
+/// Returns the text after the sign, if it comes next.
 fn after_sign(text: &[u8], sign: u8) -> Option<&[u8]>
     ensures rest { option_map (λ r. r.now) result ≡ after_sign sign text.now }
     ensures shorter { IfSome result (λ r. length r.now < length text.now) }
@@ -66,7 +66,7 @@ fn after_sign(text: &[u8], sign: u8) -> Option<&[u8]>
     }
 }
 
-/// The place of the next word.
+/// Returns the place of the next word.
 fn place(text: &[u8], whole: usize) -> usize
     requires { length text.now ≤ whole }
     ensures { result ≤ whole }
@@ -74,7 +74,7 @@ fn place(text: &[u8], whole: usize) -> usize
     whole - after_blanks(text).len()
 }
 
-/// How many digits stand at the front.
+/// Returns the number of digits at the front.
 fn digits_len(text: &[u8]) -> usize
     ensures { result ≡ prefix_len is_ascii_digit text.now }
 {
@@ -86,7 +86,7 @@ fn digits_len(text: &[u8]) -> usize
     text.len()
 }
 
-/// The number that digits write, or the limit where it is larger.
+/// Returns the number that digits write, or the limit if it is larger.
 fn bounded_value(digits: &[u8], limit: u64) -> u64
     requires limit { limit ≤ 2 ^ 32 }
     requires digits { list_all is_ascii_digit digits.now ≡ true }
@@ -107,7 +107,7 @@ fn digit(b: u8) -> u64
     (b - b'0') as u64
 }
 
-/// The digits at the front, and what follows them.
+/// Returns the digits at the front, and what follows them.
 #[tactic(auto, using(crate::proofs::Fronts::front_within))]
 fn split_digits(text: &[u8]) -> (&[u8], &[u8])
     ensures word { result.0.now ≡ take (prefix_len is_ascii_digit text.now) text.now }
@@ -134,7 +134,7 @@ fn digits(text: &[u8], whole: usize) -> Result<(&[u8], &[u8]), GameFault>
     Ok((digits, rest))
 }
 
-/// A number below the limit, and what follows it. `wrong` is the fault of a larger one.
+/// Reads a number below the limit, and returns the text after it too. `wrong` is the fault of a larger one.
 fn number(
     text: &[u8],
     whole: usize,
@@ -156,7 +156,7 @@ fn number(
     Ok((value, rest))
 }
 
-/// How many bytes stand before the sign.
+/// Returns the number of bytes before the sign.
 fn len_before(text: &[u8], sign: u8) -> usize
     ensures { result ≡ len_before sign text.now }
 {
@@ -168,7 +168,7 @@ fn len_before(text: &[u8], sign: u8) -> usize
     text.len()
 }
 
-/// What stands before the sign, and what is there from the sign on.
+/// Splits the text before the sign.
 #[tactic(auto, using(crate::proofs::Fronts::front_within))]
 fn split_at_sign(text: &[u8], sign: u8) -> (&[u8], &[u8])
     ensures before { result.0.now ≡ take (len_before sign text.now) text.now }
@@ -178,11 +178,11 @@ fn split_at_sign(text: &[u8], sign: u8) -> (&[u8], &[u8])
     text.split_at(len_before(text, sign))
 }
 
-/// The guard that a text spells. `at` is its place.
+/// Returns the guard that a text spells. `at` is its place.
 fn guard(alloc: Global, text: &[u8], names: &Names, at: usize) -> Result<Guard, GameFault>
     ensures { Gives (λ g. formula_of g) result (guard_at names.now text.now) }
 {
-    // `len` tells that the names are feature names, each once.
+    // The contract of `len` says that the names are feature names, each once.
     let _count = names.len();
     match parse_guard(alloc, text, names) {
         Ok(guard) => Ok(guard),
@@ -199,7 +199,7 @@ fn fault_of_guard(fault: GuardFault, at: usize) -> GameFault
     }
 }
 
-/// The guard in brackets, where they come next, and what follows.
+/// Returns the guard in brackets, where they come next, and what follows.
 #[tactic(auto, unfolding(crate::specs::Reading::bracket_at))]
 fn bracket<'t>(
     alloc: Global,
@@ -224,7 +224,7 @@ fn bracket<'t>(
     }
 }
 
-/// A successor, and what follows it, where `left` more may be named.
+/// Returns a successor, and what follows it, where `left` more may be named.
 fn successor<'t>(
     alloc: Global,
     names: &Names,
@@ -262,7 +262,7 @@ fn starts_with_digit(text: &[u8]) -> bool
     }
 }
 
-/// The successors, and what follows them, where `left` may be named.
+/// Returns the successors, and what follows them, where `left` may be named.
 fn successors<'t>(
     alloc: Global,
     names: &Names,
@@ -293,7 +293,7 @@ fn successors<'t>(
     Ok((items, rest))
 }
 
-/// What follows the name, where one comes next.
+/// Returns the text after the name, if one comes next.
 #[tactic(auto, unfolding(crate::specs::Reading::after_name))]
 fn after_name(text: &[u8], whole: usize) -> Result<&[u8], GameFault>
     ensures gives { Gives (λ r. r.now) result (after_name text.now) }
@@ -309,7 +309,7 @@ fn after_name(text: &[u8], whole: usize) -> Result<&[u8], GameFault>
     }
 }
 
-/// What follows `;`.
+/// Returns the text after `;`.
 fn after_end(text: &[u8], whole: usize) -> Result<&[u8], GameFault>
     requires { length text.now ≤ whole }
     ensures gives { Gives (λ r. r.now) result (after_sign 59 text.now) }
@@ -333,7 +333,7 @@ fn player(owner: u64) -> Player
     }
 }
 
-/// An entry, and what follows it, where `left` successors may be named and `room` entries may follow.
+/// Returns an entry, and what follows it, where `left` successors may be named and `room` entries may follow.
 fn entry<'t>(
     alloc: Global,
     names: &Names,
@@ -372,7 +372,7 @@ fn entry<'t>(
     ))
 }
 
-/// The entries up to the end of the text, one at least.
+/// Returns the entries up to the end of the text, one at least.
 fn entries(alloc: Global, names: &Names, text: &[u8], whole: usize) -> Result<Vec<Entry>, GameFault>
     requires { length text.now ≤ whole }
     ensures { Gives (λ v. v.items) result (all_entries names.now text.now) }
@@ -394,7 +394,7 @@ fn entries(alloc: Global, names: &Names, text: &[u8], whole: usize) -> Result<Ve
     Ok(items)
 }
 
-/// What follows a byte, where it is the first.
+/// Returns the text after a byte, if it comes first.
 fn after_byte(text: &[u8], sign: u8) -> Option<&[u8]>
     ensures rest { option_map (λ r. r.now) result ≡ after_byte sign text.now }
     ensures shorter { IfSome result (λ r. length r.now < length text.now) }
@@ -405,7 +405,7 @@ fn after_byte(text: &[u8], sign: u8) -> Option<&[u8]>
     }
 }
 
-/// What follows the bytes of a word.
+/// Returns the text after the bytes of a word.
 fn after_word<'t>(text: &'t [u8], word: &[u8], whole: usize) -> Result<&'t [u8], GameFault>
     requires { length text.now ≤ whole }
     ensures gives { Gives (λ r. r.now) result (after_word word.now text.now) }
@@ -425,7 +425,7 @@ fn after_word<'t>(text: &'t [u8], word: &[u8], whole: usize) -> Result<&'t [u8],
     Ok(rest)
 }
 
-/// The text, where a blank comes next.
+/// Returns the text, if a blank comes next.
 fn if_spaced(text: &[u8], whole: usize) -> Result<&[u8], GameFault>
     requires { length text.now ≤ whole }
     ensures gives { Gives (λ r. r.now) result (if_spaced text.now) }
@@ -439,7 +439,7 @@ fn if_spaced(text: &[u8], whole: usize) -> Result<&[u8], GameFault>
     }
 }
 
-/// What follows a header or a start, where its first byte comes next.
+/// Returns the text after a header or a start, if its first byte comes next.
 #[tactic(auto, unfolding(crate::specs::Reading::after_heading))]
 fn after_heading<'t>(
     text: &'t [u8],
@@ -460,7 +460,7 @@ fn after_heading<'t>(
     after_end(behind_number, whole)
 }
 
-/// The entries that a whole text spells.
+/// Returns the entries that a whole text spells.
 #[tactic(auto, unfolding(crate::specs::Reading::entries_at))]
 pub(crate) fn read_entries(
     alloc: Global,

@@ -37,7 +37,7 @@ impl Vertex {
             && are_same(&self.edges, &other.edges)
     }
 
-    /// The vertex with the players exchanged, and a priority more by one.
+    /// Returns the vertex with the players exchanged, and a priority more by one.
     pub(crate) fn dual(&self, alloc: Global) -> Result<Vertex, AllocError>
         requires { self.now.priority < 65536 }
         ensures { IfOk result (λ vertex. vertex ≡ dual_vertex self.now) }

@@ -13,16 +13,17 @@ use vpg_guards::{Guard, Names};
 use vpg_players::Player;
 
 impl GuardedGame {
-    /// Writes the game behind what is there: `parity` and the greatest identifier, then a line for each vertex.
+    /// Writes the game after what is there: `parity` and the greatest identifier, then a line for each vertex.
     pub fn write(&self, alloc: Global, names: &Names, out: &mut Vec<u8>) -> Result<(), AllocError>
         requires { length names.now ≡ self.now.features }
         ensures ok { OnOk result (out.new.items ≡ out.old.items ++ game_text names.now self.now) }
         ensures err { OnErr result (out.new.items ≡ out.old.items) }
-        // What is written spells the game, so `read` gives it again, but for a dual with a priority at the limit.
+        // The text that is written spells the game, so `read` returns it again, except for a dual with a priority at
+        // the limit.
         ensures again { OnOk result
             (¬ IsAtLimit self.now → SpellsGame names.now (game_text names.now self.now) self.now) }
     {
-        // `len` tells that the names are feature names, each once.
+        // The contract of `len` says that the names are feature names, each once.
         let _count = names.len();
         let mut text = Vec::from_slice(alloc, b"parity ")?;
         put_number(greatest_id(&self.vertices), &mut text)?;
@@ -33,7 +34,7 @@ impl GuardedGame {
     }
 }
 
-/// The greatest identifier.
+/// Returns the greatest identifier.
 fn greatest_id(vertices: &[Vertex]) -> u32
     ensures { result ≡ greatest (vertex_ids vertices.now) }
 {
@@ -51,7 +52,7 @@ fn put_number(n: u32, out: &mut Vec<u8>) -> Result<(), AllocError>
     out.extend_from_slice(buffer.format(n).as_bytes())
 }
 
-/// A line for each vertex.
+/// Writes a line for each vertex.
 fn put_vertices(
     alloc: Global,
     vertices: &[Vertex],
@@ -67,7 +68,7 @@ fn put_vertices(
     Ok(())
 }
 
-/// Edges joined by `,`, behind a first byte.
+/// Writes edges joined by `,`, after a first byte.
 fn put_edges(
     alloc: Global,
     edges: &[Edge],

@@ -13,19 +13,19 @@ abbrev pub KnownValuesHold : Type 0
 KnownValuesHold =
     (known : List Tri) (set : List Bool) (g : Formula) → IsCompletion known set → Agrees (kleene known g) (truth set g)
 
--- who knows more has the same value, where there was one
+-- knowing more keeps the value, if there was one
 abbrev pub FinerValuesRefine : Type 0
 FinerValuesRefine =
     (known more : List Tri) (g : Formula) → IsFiner known more → IsFinerValue (kleene known g) (kleene more g)
 
--- where every feature is known, so is the truth of each guard
+-- if every feature is known, so is the truth of each guard
 abbrev pub FullValuesDecide : Type 0
 FullValuesDecide =
     (n : ℕ) (known : List Tri) (set : List Bool) (g : Formula) → AreAllKnown n known → IsCompletion known set →
     IsBelow n g →
     kleene known g ≡ (if truth set g then Yes else No)
 
--- the value rests on the features that the guard names, and on no other
+-- the value depends only on the features that the guard names
 abbrev pub ValuesRestOnNamedFeatures : Type 0
 ValuesRestOnNamedFeatures = (known other : List Tri) (g : Formula) →
     ((f : ℕ) → Contains (named g) f → slice_index_or known f Unknown ≡ slice_index_or other f Unknown) →
@@ -37,12 +37,12 @@ TextsSpellOneGuard =
     (names : List (List ℕ)) (text : List ℕ) (g h : Formula) → AreNames names → Spells names text g →
     Spells names text h → g ≡ h
 
--- what is written spells the guard
+-- the text that is written spells the guard
 abbrev pub WritingsSpellTheGuard : Type 0
 WritingsSpellTheGuard =
     (names : List (List ℕ)) (g : Formula) → IsReadable (length names) g → Spells names (guard_text names g) g
 
--- what a text spells can be written and read again
+-- a guard that a text spells can be written and read again
 abbrev pub SpelledGuardsAreReadable : Type 0
 SpelledGuardsAreReadable =
     (names : List (List ℕ)) (text : List ℕ) (g : Formula) → Spells names text g → IsReadable (length names) g
@@ -51,7 +51,7 @@ SpelledGuardsAreReadable =
 abbrev pub DisjunctionsAreReadable : Type 0
 DisjunctionsAreReadable = (n : ℕ) (g h : Formula) → IsReadable n g → IsReadable n h → IsReadable n (either g h)
 
--- the `and` of two guards is true where both are, the `or` where one is; likewise their values
+-- the `and` of two guards is true if both are, the `or` if one is; likewise their values
 pub record MeanBoth (set : List Bool) (known : List Tri) (g h : Formula) : Type 0 where
   pub both_true : truth set (both g h) ≡ (truth set g && truth set h)
   pub either_true : truth set (either g h) ≡ (truth set g || truth set h)
@@ -71,8 +71,7 @@ abbrev pub EachHas : List Tri → Tri → Parts → Type 0
 EachHas known t no_parts = Unit {0}
 EachHas known t (part g gs) = (kleene known g ≡ t) × EachHas known t gs
 
--- an `and` is No where a part is No and Yes where all are Yes, an `or` is Yes where a part is Yes and No where all are
--- No
+-- an `and` is No if a part is No and Yes if all are Yes; an `or` is Yes if a part is Yes and No if all are No
 pub record ValueOfParts (known : List Tri) (gs : Parts) : Type 0 where
   pub all_no : (kleene known (all gs) ≡ No) ↔ SomeHas known No gs
   pub all_yes : (kleene known (all gs) ≡ Yes) ↔ EachHas known Yes gs

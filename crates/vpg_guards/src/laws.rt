@@ -6,17 +6,17 @@ pub fn known_values_hold()
     ensures { KnownValuesHold }
 {}
 
-/// Who knows more has the same value, where there was one.
+/// Knowing more keeps the value, if there was one.
 pub fn finer_values_refine()
     ensures { FinerValuesRefine }
 {}
 
-/// Where every feature is known, so is the truth of each guard.
+/// If every feature is known, so is the truth of each guard.
 pub fn full_values_decide()
     ensures { FullValuesDecide }
 {}
 
-/// The value of a guard rests on what is known of the features that it names, and on no other.
+/// The value of a guard depends only on what is known of the features that it names.
 pub fn values_rest_on_named_features()
     ensures { ValuesRestOnNamedFeatures }
 {}
@@ -26,27 +26,27 @@ pub fn texts_spell_one_guard()
     ensures { TextsSpellOneGuard }
 {}
 
-/// What is written spells the guard.
+/// The text that is written spells the guard.
 pub fn writings_spell_the_guard()
     ensures { WritingsSpellTheGuard }
 {}
 
-/// What a text spells can be written and read again.
+/// A guard that a text spells can be written and read again.
 pub fn spelled_guards_are_readable()
     ensures { SpelledGuardsAreReadable }
 {}
 
-/// So can the `or` of two such guards.
+/// The `or` of two guards that can be written and read again can be, too.
 pub fn disjunctions_are_readable()
     ensures { DisjunctionsAreReadable }
 {}
 
-/// The `and` of two guards is true where both are, the `or` where one is; likewise their values.
+/// The `and` of two guards is true if both are, the `or` if one is; likewise their values.
 pub fn joined_guards_mean_both()
     ensures { JoinedGuardsMeanBoth }
 {}
 
-/// The value of an `and` and of an `or`, by the values of the parts.
+/// The values of the parts decide the value of an `and` and of an `or`.
 pub fn parts_decide_the_value()
     ensures { PartsDecideTheValue }
 {}

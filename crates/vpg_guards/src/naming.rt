@@ -7,7 +7,7 @@ use crate::guard::{Guard, Guards};
 use std::alloc::AllocError;
 
 impl Guard {
-    /// Adds the features that it names, in the order of the naming, each as often as it is named.
+    /// Adds the features that it names, in order, each as often as it is named.
     #[cycle(named)]
     pub fn push_features(&self, features: &mut Vec<u16>) -> Result<(), AllocError>
         ensures { OnOk result (features.new.items ≡ features.old.items ++ named (formula_of self.now)) }

@@ -1,4 +1,4 @@
--- A table that is raised, and what raising keeps of it. This project's own.
+-- A table that is raised, and the properties that raising keeps. This project's own.
 use Rattle.std.specs.Prelude.{◌≡◌, ℕ, List}
 use Rattle.vpg_game.specs.declared.levels.Level.{Level}
 use Rattle.vpg_hope.specs.Arena.{Vertex as Node}
@@ -19,8 +19,8 @@ IsSettled raising = IsProgressTable raising.levels raising.arena raising.table
 abbrev pub after_round : RaisingView → List ℕ
 after_round raising = after_rounds raising.levels raising.arena 1 raising.table
 
--- a table of the same arena, on or above the old one, also after a round of lifts of either, and below every progress
--- table that the old one is below
+-- A table of the same arena, on or above the old one, also after a round of lifts of either. It is below every progress
+-- table that the old one is below.
 pub record IsRaisedFrom (old new : RaisingView) : Type 0 where
   pub same : new ≡ record old { table = new.table }
   pub above : IsBelowTable old.table new.table

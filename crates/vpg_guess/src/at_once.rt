@@ -125,8 +125,8 @@ fn both_raised_at_once<R: Threads + Wait + Sync>(
     Ok((hopeful?, dual?))
 }
 
-/// As `harvest_by_bounds`, with a thread for each table, and half of the budget for each. What one table leaves of its
-/// half the other does not get. Where the machine refuses a thread, the calling one raises both.
+/// Returns a harvest as `harvest_by_bounds` does, with a thread for each table, and half of the budget for each. The
+/// rest of one table's half is not passed to the other. If the machine refuses a thread, the calling one raises both.
 pub fn harvest_by_bounds_at_once<R: Threads + Wait + Sync>(
     rt: &R,
     alloc: Global,
@@ -137,7 +137,7 @@ pub fn harvest_by_bounds_at_once<R: Threads + Wait + Sync>(
     ensures order { IfOk result (λ harvest. IsSameOrder harvest.order order) }
     // Its tables are on or above the order's, and below every progress table of the order's two games.
     ensures harvest { IfOk result IsHarvest }
-    // And on or above what a round of lifts makes of the order's.
+    // They are also on or above the order's tables after a round of lifts.
     ensures round { IfOk result
         (λ harvest. (which : Which) →
         IsBelowTable (after_rounds (order_levels which order) (order_arena which order) 1 (order_table which order))

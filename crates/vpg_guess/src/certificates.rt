@@ -57,7 +57,7 @@ fn zeros(alloc: Global, shape: &Shape, arena: &Arena) -> Result<Table, AllocErro
 }
 
 impl Raising<'_> {
-    /// The certificate of these bounds and ranks, each cut to the top.
+    /// Returns the certificate of these bounds and ranks, each cut to the top.
     pub(crate) fn certificate_of(&self, ranked: &RankedBounds) -> Result<Certificate, AllocError>
         ensures bounds { IfOk result
             (λ certificate. IsTableOf self.now.levels self.now.arena certificate.bounds) }
@@ -70,7 +70,7 @@ impl Raising<'_> {
         })
     }
 
-    /// The certificate of the bounds and ranks of a part, and of the table elsewhere.
+    /// Returns the certificate of the bounds and ranks of a part, and of the table elsewhere.
     pub(crate) fn certificate_around(
         &self,
         part: &Part,

@@ -1,4 +1,4 @@
-//! The graphs and scales that guesses of a table are made over.
+//! The graphs and scales for guesses of a table.
 use crate::raising::Raising;
 use std::alloc::{AllocError, Global};
 use vpg_game::GuardedGame;
@@ -8,18 +8,18 @@ use vpg_players::Player;
 use vpg_regions::{Arrivals, Draft, PerVertex, Predecessors};
 use vpg_values::{GuessGround, Scale, TableGround};
 
-/// Lists of an earlier page serve where at most one in so many of their edges and vertices is gone.
+/// Lists of an earlier page serve if at most one in this many of their edges and vertices is gone.
 const STALE: u64 = 8;
 
-/// What guesses make of a game, kept from one of its pages to the next: what lifts of either table go by, and the shape
-/// of the dual's dual. That of another game costs time, and never a clause.
+/// The lists of a game that guesses keep from one of its pages to the next: those that lifts of either table use, and
+/// the shape of the dual's dual. The groundwork of another game costs time, and never a clause.
 pub struct Groundwork {
     pub(crate) hopeful: Option<TableGround>,
     pub(crate) dual: Option<TableGround>,
     pub(crate) dual_of_dual: Option<Shape>,
 }
 
-// Not derived, so that letting one go is one call: a derived way would be proved anew at each exit that owns one.
+// Not derived: a derived `drop` would be proved again at each exit that owns such a value.
 impl Drop for Groundwork {
     fn drop(self) {
         let Groundwork {
@@ -31,7 +31,7 @@ impl Drop for Groundwork {
 }
 
 impl Groundwork {
-    /// Nothing yet.
+    /// Returns the groundwork with nothing yet.
     pub fn none() -> Groundwork {
         Groundwork {
             hopeful: None,
@@ -41,7 +41,7 @@ impl Groundwork {
     }
 }
 
-/// The shape of the dual's dual of a game, made first where it isn't kept.
+/// Returns the shape of the dual's dual of a game, made first if it isn't kept.
 pub(crate) fn shape_in<'a>(
     alloc: Global,
     game: &GuardedGame,
@@ -54,7 +54,7 @@ pub(crate) fn shape_in<'a>(
     Ok(kept.insert(shape))
 }
 
-/// The predecessors of each vertex of an arena.
+/// Returns the predecessors of each vertex of an arena.
 pub(crate) fn predecessors_of(alloc: Global, arena: &Arena) -> Result<Predecessors, AllocError> {
     let mut arrivals = Arrivals::none(alloc, arena.vertices())?;
     for v in 0..arena.vertices() {
@@ -75,7 +75,7 @@ fn write_down(arena: &Arena, draft: &mut Draft) {
     }
 }
 
-// By how much priorities are raised: those of the dual are one greater.
+// The number by which priorities are raised: those of the dual are one greater.
 fn raise_for(player: Player) -> u32 {
     match player {
         Player::Even => 0,
@@ -83,7 +83,7 @@ fn raise_for(player: Player) -> u32 {
     }
 }
 
-/// The scale of an arena's shape for Even, of the shape of its dual for Odd.
+/// Returns the scale of an arena's shape for Even, or of the shape of its dual for Odd.
 pub(crate) fn scale_of(
     alloc: Global,
     arena: &Arena,
@@ -101,7 +101,7 @@ pub(crate) fn scale_of(
     scale_with(alloc, shape, player, priorities, greatest)
 }
 
-/// The scale of the game that has these vertices of the arena, in this order: of its shape for Even, of the shape of
+/// Returns the scale of the game of these vertices of the arena, in this order: of its shape for Even, of the shape of
 /// its dual for Odd.
 pub(crate) fn scale_of_part(
     alloc: Global,
@@ -139,14 +139,14 @@ fn scale_with(
     Scale::with(alloc, player, shape.top(), priorities, weights)
 }
 
-/// Whether the lists serve another page of the game, whose arena this is: it has as many edges or a few less.
+/// Whether the lists serve another page of the game, with this arena: it has as many edges or a few less.
 pub(crate) fn serves(lifts: &TableGround, arena: &Arena) -> bool {
     let listed = lifts.predecessors.size();
     let present = size_of(arena);
     present <= listed && listed.saturating_sub(listed / STALE) <= present
 }
 
-/// What lifts go by on another page of the game, whose arena this is: with lists of its own.
+/// Returns the lists that lifts use on another page of the game, with this arena, made new.
 pub(crate) fn renewed(
     alloc: Global,
     lifts: TableGround,
@@ -157,14 +157,14 @@ pub(crate) fn renewed(
     Ok(TableGround { predecessors, even })
 }
 
-/// The graph and the scales that guesses of a table are made over.
+/// Returns the graph and the scales for guesses of a table.
 pub(crate) fn ground_of(raising: &Raising<'_>) -> Result<GuessGround, AllocError> {
     let even = scale_of(raising.alloc, raising.arena, raising.shape, Player::Even)?;
     let predecessors = predecessors_of(raising.alloc, raising.arena)?;
     ground_over(raising, TableGround { predecessors, even })
 }
 
-/// The graph and the scales that guesses of a table are made over, from what its lifts go by.
+/// Returns the graph and the scales for guesses of a table, from the lists that its lifts use.
 pub(crate) fn ground_over(
     raising: &Raising<'_>,
     lifts: TableGround,
@@ -178,7 +178,7 @@ pub(crate) fn ground_over(
     Ok(GuessGround { graph, even, odd })
 }
 
-// How many edges and vertices there are in an arena.
+// The number of edges and vertices in an arena.
 fn size_of(arena: &Arena) -> u64 {
     let mut size = u64::from(arena.vertices());
     for v in 0..arena.vertices() {
@@ -187,7 +187,7 @@ fn size_of(arena: &Arena) -> u64 {
     size
 }
 
-/// A vertex's priority in an arena.
+/// Returns a vertex's priority in an arena.
 pub(crate) fn priority_in(arena: &Arena, v: u32) -> u32 {
     if v < arena.vertices() {
         arena.priority(v)
@@ -196,7 +196,7 @@ pub(crate) fn priority_in(arena: &Arena, v: u32) -> u32 {
     }
 }
 
-/// A vertex's owner in an arena.
+/// Returns a vertex's owner in an arena.
 pub(crate) fn owner_in(arena: &Arena, v: u32) -> Player {
     if v < arena.vertices() {
         arena.owner(v)
@@ -205,7 +205,7 @@ pub(crate) fn owner_in(arena: &Arena, v: u32) -> Player {
     }
 }
 
-/// Where a vertex's moves lead in an arena.
+/// Returns the successors of a vertex in an arena.
 pub(crate) fn kept_in(arena: &Arena, v: u32) -> &[u32] {
     if v < arena.vertices() {
         arena.kept(v)

@@ -18,19 +18,19 @@ use vpg_values::{
     value_in,
 };
 
-/// How often lifts may look at all edges and vertices in a turn; and how many turns there are.
+/// The number of times that lifts may look at all edges and vertices in a turn; and the number of turns.
 const LOOKS: u64 = 4;
 
 const TURNS: u32 = 24;
 
-/// From this turn on all that are below the top are guessed at: what was taken to stay may have to move.
+/// From this turn on all vertices below the top are guessed at: those guessed to stay may have to move.
 const LAST_TURNS: u32 = 12;
 
-/// How many turns guess the moving vertices alone.
+/// The number of turns that guess the moving vertices alone.
 const PART_TURNS: u32 = 8;
 
-/// A turn of lifts ends if as many vertices wait as before, after looks at one in so many of all edges and vertices. A
-/// guess of the moving vertices alone costs less than one of all.
+/// A turn of lifts ends if as many vertices wait as before, after looks at one in this many of all edges and vertices.
+/// A guess of the moving vertices alone costs less than one of all.
 const PATIENCE: u64 = 2;
 
 const PART_PATIENCE: u64 = 8;
@@ -58,7 +58,7 @@ fn is_of_zeros(table: &[u64]) -> bool {
 }
 
 impl Raising<'_> {
-    // Raises the table to bounds, if their certificate shows them. What that may raise waits then.
+    // Raises the table to bounds, if their certificate shows them. The vertices that may rise then wait.
     fn take_over(
         &mut self,
         ground: LiftGround<'_>,
@@ -152,7 +152,7 @@ impl Raising<'_> {
         Ok(())
     }
 
-    // Guesses the least progress table, where only the moving vertices rise, and raises the table to it as far as
+    // Guesses the least progress table, if only the moving vertices rise, and raises the table to it as far as
     // certificates show it.
     fn raise_to_guess(
         &mut self,
@@ -249,7 +249,7 @@ impl Raising<'_> {
     }
 
     // Lifts, and guesses the values that lifts leave, as long as few vertices move; returns whether none is left. Does
-    // nothing if most wait from the beginning.
+    // nothing if most vertices wait from the beginning.
     #[tactic(auto, using(crate::proofs::Kept::kept_self, crate::proofs::Kept::kept_then))]
     fn raise_parts(
         &mut self,
@@ -283,7 +283,7 @@ impl Raising<'_> {
         Ok(false)
     }
 
-    // Raises the whole table, and keeps what its lifts go by. Returns whether it is known to be settled.
+    // Raises the whole table, and keeps the lists that its lifts use. Returns whether it is known to be settled.
     fn raise_rest(
         &mut self,
         lifts: TableGround,
@@ -311,8 +311,8 @@ impl Raising<'_> {
         self.raise_whole(&ground, &mut waiting, budget)
     }
 
-    // Raises what a round of lifts left, which raised these vertices: parts first, since a change mostly needs no more.
-    // Keeps what lifts go by. Returns whether the table is known to be settled.
+    // Raises the rest after a round of lifts that raised these vertices: parts first, since a change usually needs no
+    // more. Keeps the lists that lifts use. Returns whether the table is known to be settled.
     #[tactic(auto, using(crate::proofs::Kept::kept_self, crate::proofs::Kept::kept_then))]
     fn raise_after_round(
         &mut self,
@@ -333,8 +333,8 @@ impl Raising<'_> {
         self.raise_rest(lifts, kept, &mut waiting, budget)
     }
 
-    // Lifts a round, and raises what that left. Returns whether the table is known to be settled. No lists are made if
-    // the round settles it.
+    // Lifts a round, and raises the rest. Returns whether the table is known to be settled. No lists are made if the
+    // round settles it.
     #[tactic(auto, using(crate::proofs::Kept::kept_self, crate::proofs::Kept::kept_then))]
     fn raise_with_new_lists(
         &mut self,
@@ -355,8 +355,8 @@ impl Raising<'_> {
         self.raise_after_round(lifts, kept, &risen, budget)
     }
 
-    // Lifts a round, and raises what that left, by what was made for an earlier page. Returns whether the table is
-    // known to be settled. If the lists missed an edge that mattered, nothing is kept, and the table isn't settled.
+    // Lifts a round, and raises the rest with the lists of an earlier page. Returns whether the table is known to be
+    // settled. If the lists missed an edge that mattered, nothing is kept, and the table isn't settled.
     #[tactic(auto, using(crate::proofs::Kept::kept_self, crate::proofs::Kept::kept_then))]
     fn raise_with_lists(
         &mut self,
@@ -382,8 +382,8 @@ impl Raising<'_> {
         Ok(has_settled)
     }
 
-    // Raises the table by what is kept, if that serves; else nothing is kept then. Returns whether the table is known
-    // to be settled.
+    // Raises the table by what is kept, if that serves; otherwise nothing is kept then. Returns whether the table is
+    // known to be settled.
     fn raise_with_kept_lists(
         &mut self,
         kept: &mut Option<TableGround>,
@@ -401,7 +401,7 @@ impl Raising<'_> {
         self.raise_with_lists(lifts, kept, budget)
     }
 
-    // Raises the table where it moves: by what is kept of an earlier page, and with new lists if that did not do.
+    // Raises the table where it moves: by the lists of an earlier page, and with new lists if those do not suffice.
     // Returns whether the table is known to be settled.
     #[tactic(auto, using(crate::proofs::Kept::kept_self, crate::proofs::Kept::kept_then))]
     fn raise_where_it_moves(
@@ -450,7 +450,7 @@ impl Raising<'_> {
         self.lift_round()
     }
 
-    // Raises the table by lifts and guesses, and by a round of lifts after them, also out of memory. Returns whether it
+    // Raises the table by lifts and guesses, and then by a round of lifts, even if memory runs out. Returns whether it
     // is known to be settled.
     #[tactic(auto, using(crate::proofs::Kept::kept_then, crate::proofs::Kept::round_above))]
     fn raise_and_round(
@@ -471,7 +471,7 @@ impl Raising<'_> {
         }
     }
 
-    /// Raises the table as `raise_by_bounds`, within a budget that more than one table may share, and by what is kept
+    /// Raises the table as `raise_by_bounds` does, within a budget that several tables may share, and by what is kept
     /// of the game. Returns whether it is a progress table then.
     #[tactic(auto, using(crate::proofs::Kept::kept_self, crate::proofs::Kept::round_stays))]
     pub(crate) fn raise(
@@ -494,15 +494,15 @@ impl Raising<'_> {
     }
 }
 
-/// Raises a table towards the least progress table on or above it, and says whether it is a progress table then.
+/// Raises a table towards the least progress table on or above it, and returns whether it is a progress table then.
 ///
-/// A table that is one stays as it is. Lifts come first where the table is not of zeros, and guesses at what moves;
-/// where those leave something, what Odd is taken to win is raised to the top, and lifts and guesses of values follow,
-/// each taken over as far as certificates show it; a round of lifts comes last, also out of memory. `dual_shape` is
-/// the shape of the arena's dual, whose priorities are one greater: another shape costs certificates, and never the
-/// clauses. The budget is the number of edges and vertices that all of it may look at; one more valuing of a strategy,
-/// one certificate and a few passes over the edges come on top. When it is spent, what is known until then is certified
-/// and raised. Out of memory the table has what was raised until then.
+/// A table that is one stays as it is. If the table is not of zeros, lifts come first, and guesses at what moves. If
+/// these leave something, the vertices that Odd is guessed to win are raised to the top, and lifts and guesses of
+/// values follow. Each guess counts as far as certificates show it. A round of lifts comes last, even if memory runs
+/// out. `dual_shape` is the shape of the arena's dual, whose priorities are one greater: another shape costs
+/// certificates, and never the clauses. The budget is the number of edges and vertices that all of it may look at; one
+/// more valuation of a strategy, one certificate and a few passes over the edges come on top. When it is spent, all
+/// that is known is certified and raised. If memory runs out, the table keeps what was raised until then.
 pub fn raise_by_bounds(
     alloc: Global,
     shape: &Shape,
@@ -517,7 +517,7 @@ pub fn raise_by_bounds(
     ensures above { IsBelowTable table.old table.new }
     ensures below { (other : List ℕ) → IsTableOf shape.now arena.now other → IsProgressTable shape.now arena.now other →
         IsBelowTable table.old other → IsBelowTable table.new other }
-    // It is on or above what a round of lifts makes of it, also out of memory.
+    // The table is on or above itself after a round of lifts, even if memory runs out.
     ensures round { IsBelowTable (after_rounds shape.now arena.now 1 table.old) table.new }
 {
     let mut budget = Budget::new(budget);

@@ -18,7 +18,7 @@ pub(crate) struct RaisedTable {
     pub(crate) settled: bool,
 }
 
-/// A copy of one of an order's tables, raised.
+/// Returns a copy of one of an order's tables, raised.
 pub(crate) fn raised(
     alloc: Global,
     order: &Order,
@@ -48,7 +48,7 @@ pub(crate) fn raised(
     Ok(RaisedTable { table, settled })
 }
 
-// The hopeful table has half of the budget, and the dual one what is left then.
+// The hopeful table has half of the budget, and the dual one the rest.
 fn both_raised(
     alloc: Global,
     order: &Order,
@@ -93,7 +93,7 @@ fn both_raised(
     Ok((hopeful, dual))
 }
 
-// A harvest with a note where both tables are known to be progress tables.
+// A harvest with a note if both tables are known to be progress tables.
 fn noted_where(harvest: Harvest, hopeful_settled: bool, dual_settled: bool) -> Harvest
     requires { IsTrue hopeful_settled → IsTrue dual_settled → IsSettledHarvest harvest }
     ensures { result ≡ harvest }
@@ -107,7 +107,7 @@ fn noted_where(harvest: Harvest, hopeful_settled: bool, dual_settled: bool) -> H
     harvest.noted()
 }
 
-/// The order with these tables, raised from its own.
+/// Returns the order with these tables, raised from its own.
 pub(crate) fn harvest_of(order: Order, hopeful: RaisedTable, dual: RaisedTable) -> Harvest
     requires hopeful { IsRaised Which.Hopeful order hopeful.table }
     requires dual { IsRaised Which.Dual order dual.table }
@@ -138,8 +138,8 @@ pub(crate) fn harvest_of(order: Order, hopeful: RaisedTable, dual: RaisedTable) 
     noted_where(harvest, hopeful_settled, dual_settled)
 }
 
-/// The order with both its tables raised as by `raise_by_bounds`, within one budget, and by what is kept of its game,
-/// which is kept on. The one error is out of memory, on which the order comes back.
+/// Returns the order with both its tables raised as by `raise_by_bounds`, within one budget, and by what is kept of its
+/// game, which is kept on. The only error is a lack of memory; then the order comes back.
 pub fn harvest_by_bounds(
     alloc: Global,
     order: Order,
@@ -149,7 +149,7 @@ pub fn harvest_by_bounds(
     ensures order { IfOk result (λ harvest. IsSameOrder harvest.order order) }
     // Its tables are on or above the order's, and below every progress table of the order's two games.
     ensures harvest { IfOk result IsHarvest }
-    // And on or above what a round of lifts makes of the order's.
+    // They are also on or above the order's tables after a round of lifts.
     ensures round { IfOk result
         (λ harvest. (which : Which) →
         IsBelowTable (after_rounds (order_levels which order) (order_arena which order) 1 (order_table which order))

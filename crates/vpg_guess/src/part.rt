@@ -1,4 +1,4 @@
-//! The part of a game that moves, under numbers of its own: all else is taken to keep its value.
+//! The moving part of a game, under numbers of its own: all else is guessed to keep its value.
 use crate::ground::{kept_in, owner_in, priority_in, scale_of_part};
 use crate::raising::Raising;
 use std::alloc::{AllocError, Global};
@@ -18,7 +18,7 @@ pub(crate) struct Part {
     moving: Vec<u32>,
 }
 
-// Not derived, so that letting one go is one call: a derived way would be proved anew at each exit that owns one.
+// Not derived: a derived `drop` would be proved again at each exit that owns such a value.
 impl Drop for Part {
     fn drop(self) {
         let Part {
@@ -37,7 +37,7 @@ struct Numbered {
     count: u32,
 }
 
-// Not derived, so that letting one go is one call: a derived way would be proved anew at each exit that owns one.
+// Not derived: a derived `drop` would be proved again at each exit that owns such a value.
 impl Drop for Numbered {
     fn drop(self) {
         let Numbered {
@@ -77,7 +77,7 @@ impl Numbered {
         }
     }
 
-    // The values that a table of the whole game has there.
+    // The values of a table of the whole game at these vertices.
     fn values(&self, alloc: Global, table: &[u64]) -> Result<Vec<u64>, AllocError> {
         let mut values = Found::with(Vec::with_capacity(alloc, self.vertices.len())?);
         for v in self.vertices.items() {
@@ -150,7 +150,7 @@ fn ground_of(
 }
 
 impl Part {
-    /// The part of these vertices, each of which stands there once.
+    /// Returns the part of these vertices, each of which is there once.
     pub(crate) fn of(raising: &Raising<'_>, moving: &[u32]) -> Result<Part, AllocError> {
         let alloc = raising.alloc;
         let numbered = number(alloc, raising.arena, moving)?;
@@ -165,7 +165,7 @@ impl Part {
         })
     }
 
-    // A guess of the values of what moves, tops with them.
+    // A guess of the values of the moving vertices, tops with them.
     fn guess(&self, alloc: Global, budget: &mut Budget) -> Result<Guess, AllocError> {
         let lost = self.ground.lost(alloc, &self.table)?;
         let mut share = budget.take_half();
@@ -181,7 +181,7 @@ impl Part {
         )
     }
 
-    /// Bounds and ranks for a guess of the values of what moves; `None` if it exceeds the table nowhere.
+    /// Returns bounds and ranks for a guess of the moving values; `None` if it exceeds the table nowhere.
     pub(crate) fn ranked(
         &self,
         alloc: Global,

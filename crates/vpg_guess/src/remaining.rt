@@ -1,4 +1,4 @@
-//! Lifts of what remains: each vertex of which a successor rose, round after round in the order of the vertices.
+//! Lifts of the vertices with a successor that rose, round after round in the order of the vertices.
 ghost use Rattle.std.specs.Prelude.{◌≡◌, IsTrue};
 ghost use Rattle.vpg_guess.specs.Kept.{IsRaisedFrom, IsSettled, after_round};
 
@@ -11,43 +11,43 @@ use vpg_measure::lifts::{Outcome, raise, settle_alone};
 use vpg_regions::{Budget, Found, PerVertex, VertexSet};
 use vpg_values::{LiftGround, Scale, value_in};
 
-/// Rounds go on while the number of waiting vertices falls by one in so many.
+/// Rounds go on while the number of waiting vertices falls by one in this many.
 const FALL: usize = 16;
 
-/// Where more than one in so many rose at once, all are looked at again.
+/// If more than one in this many rose at once, all are looked at again.
 const MANY: usize = 4;
 
-/// How many rounds of lifts come first where all wait, and how many vertices are asked before each whether they would
-/// rise.
+/// The number of rounds of lifts that come first if all wait, and the number of vertices that are asked before each
+/// whether they would rise.
 const ROUNDS: u32 = 2;
 
 const ASKED: u32 = 256;
 
-/// Most would rise where all but one in so many of them would.
+/// Most would rise if all but one in this many of them would.
 const MOST: u32 = 8;
 
-/// How often a vertex rises in the first turn before it is taken to climb.
+/// The number of times that a vertex rises in the first turn before it is guessed to climb.
 const CLIMBS: u8 = 2;
 
-/// A hurried turn ends after so many looks for each vertex that waits, and for a few more.
+/// A hurried turn ends after this many looks for each vertex that waits, and for a few more.
 const LOOKS_EACH: u64 = 128;
 
 const FEW: u64 = 16;
 
-/// What goes round is guessed at alone where it is less than one in so many of what moves; and again where it is half
-/// of what it was then.
+/// The vertices that go round are guessed at alone if they are less than one in this many of those that move; and again
+/// if they are half as many as then.
 const LOCAL: usize = 16;
 
-/// How many edges and vertices a turn of lifts looks at while as many wait as before, until it ends.
+/// The number of edges and vertices that a turn of lifts looks at while as many wait as before, until it ends.
 #[derive(Clone, Copy)]
 pub(crate) struct Patience {
     pub(crate) most: u64,
-    /// Whether it is less where few wait, since they go round soon.
+    /// Whether it is less if few wait, since they go round soon.
     pub(crate) is_hurried: bool,
 }
 
 impl Patience {
-    // How much it is while so many wait.
+    // The number while this many wait.
     fn at(self, count: usize) -> u64 {
         if !self.is_hurried {
             return self.most;
@@ -57,28 +57,28 @@ impl Patience {
     }
 }
 
-/// The vertices that are to be looked at: those whose lift may exceed their value. And how often each rose in this
-/// turn, and in which turn each was found to move last.
+/// The vertices to be looked at: those with a lift that may exceed their value. It also has how often each rose in this
+/// turn, and the last turn in which each was found to move.
 pub(crate) struct Waiting {
     waits: VertexSet,
-    // so many rounds of lifts may come before the next turn; none where not all wait that are below the top
+    // this many rounds of lifts may come before the next turn; none if not all below the top wait
     rounds: u32,
     // whether most still rose after these
     is_climbing: bool,
     raises: PerVertex<u8>,
-    // the last turn at whose end it moved; zero for none
+    // the last turn at the end of which it moved; zero for none
     moved: PerVertex<u8>,
     turn: u8,
-    // how often a vertex rises in a turn before it is taken to climb
+    // the number of times that a vertex rises in a turn before it is guessed to climb
     climbs: u8,
-    // how often fewer waited than before, and how often they had when each vertex rose last
+    // the number of times that fewer waited than before, and that number when each vertex rose last
     falls: u16,
     rose: PerVertex<u16>,
-    // how many went round when those alone were guessed at last
+    // the number of vertices that went round when those alone were guessed at last
     round: usize,
 }
 
-// Not derived, so that letting one go is one call: a derived way would be proved anew at each exit that owns one.
+// Not derived: a derived `drop` would be proved again at each exit that owns such a value.
 impl Drop for Waiting {
     fn drop(self) {
         let Waiting {
@@ -97,7 +97,7 @@ impl Drop for Waiting {
 }
 
 impl Waiting {
-    /// All wait that are below the top.
+    /// Returns the state in which all below the top wait.
     pub(crate) fn all(
         alloc: Global,
         ground: LiftGround<'_>,
@@ -108,8 +108,8 @@ impl Waiting {
         Ok(waiting)
     }
 
-    /// Those wait that a round of lifts left, which raised these vertices, in this order: what comes after a vertex has
-    /// seen it rise.
+    /// Returns the state after a round of lifts that raised these vertices, in this order: a vertex after a raised one
+    /// has seen it rise.
     pub(crate) fn left_by_round(
         alloc: Global,
         ground: LiftGround<'_>,
@@ -123,7 +123,7 @@ impl Waiting {
         Ok(waiting)
     }
 
-    // Those that move to v and do not come after it are to be looked at where that may raise them.
+    // Marks the vertices that move to v and do not come after it, if that may raise them.
     fn wake_before(&mut self, ground: LiftGround<'_>, table: &[u64], v: u32) {
         let value = value_in(table, v);
         for u in ground.predecessors.before(v) {
@@ -133,7 +133,7 @@ impl Waiting {
         }
     }
 
-    // None waits.
+    // The state in which none waits.
     fn none(alloc: Global, vertices: u32) -> Result<Waiting, AllocError> {
         Ok(Waiting {
             waits: VertexSet::none(alloc, vertices)?,
@@ -149,7 +149,7 @@ impl Waiting {
         })
     }
 
-    // All wait that are below the top.
+    // Lets all wait that are below the top.
     fn add_all(&mut self, ground: LiftGround<'_>, table: &[u64]) {
         for v in 0..ground.vertices() {
             if value_in(table, v) < ground.even.top {
@@ -165,13 +165,12 @@ impl Waiting {
         ground.vertices() as usize / 2 < self.waits.size()
     }
 
-    /// Rounds of lifts may come first: all wait that are below the top.
+    /// Begins with rounds of lifts: all wait that are below the top.
     pub(crate) fn begin_rounds(&mut self) {
         self.rounds = ROUNDS;
     }
 
-    // Those that move to v, which rose, are to be looked at again. To ask first whether that may raise them takes
-    // longer.
+    // Marks the vertices that move to v, which rose. To ask first whether that may raise them takes longer.
     #[inline(always)]
     fn wake(&mut self, ground: LiftGround<'_>, v: u32) {
         self.raises.set(v, self.raises.get(v).saturating_add(1));
@@ -181,20 +180,20 @@ impl Waiting {
         }
     }
 
-    /// All that are below the top are to be looked at again, by rounds of lifts first.
+    /// Marks all vertices below the top to be looked at again, by rounds of lifts first.
     pub(crate) fn wake_all(&mut self, ground: LiftGround<'_>, table: &[u64]) {
         self.add_all(ground, table);
         self.begin_rounds();
     }
 
-    /// If any wait, all that are below the top are to be looked at again, by rounds of lifts first.
+    /// Marks all vertices below the top to be looked at again, by rounds of lifts first, if any wait.
     pub(crate) fn wake_the_rest(&mut self, ground: LiftGround<'_>, table: &[u64]) {
         if self.waits.size() > 0 {
             self.wake_all(ground, table);
         }
     }
 
-    /// Those that move to what rose are to be looked at again.
+    /// Marks the vertices that move to risen ones to be looked at again.
     pub(crate) fn wake_risen(&mut self, ground: LiftGround<'_>, table: &[u64], risen: &[u32]) {
         if ground.vertices() as usize / MANY < risen.len() {
             self.wake_all(ground, table);
@@ -205,8 +204,8 @@ impl Waiting {
         }
     }
 
-    // Whether a round of lifts comes next: where nothing seems to rise, since it may show that, and the first time most
-    // do. Where most do again, they climb.
+    // Whether a round of lifts comes next: if nothing seems to rise, since the round may show that, and the first time
+    // that most do. If most rise again, they climb.
     fn asks_for_round(&mut self, arena: &Arena, ground: LiftGround<'_>, table: &[u64]) -> bool {
         if self.rounds == 0 {
             return false;
@@ -222,15 +221,15 @@ impl Waiting {
         }
     }
 
-    // A turn begins: nothing rose yet.
+    // Begins a turn: nothing rose yet.
     fn begin_turn(&mut self) {
         self.rounds = 0;
         self.turn = self.turn.saturating_add(1);
         self.raises.fill(0);
     }
 
-    /// Those that wait or climbed when this turn ended, and from where moves lead there over others that did so when an
-    /// earlier one ended; none where nothing waits.
+    /// Returns the vertices that wait or climbed when this turn ended, and those with moves that lead there over others
+    /// that did so when an earlier turn ended. None are returned if nothing waits.
     pub(crate) fn moving(
         &mut self,
         alloc: Global,
@@ -257,7 +256,8 @@ impl Waiting {
         moving.list()
     }
 
-    /// What a guess at a part is made of: what moves, or of it what goes round, where that is far less.
+    /// Returns the vertices for a guess at a part: those that move, or those of them that go round, if these are far
+    /// fewer.
     pub(crate) fn part(
         &mut self,
         alloc: Global,
@@ -299,7 +299,7 @@ impl Waiting {
     }
 }
 
-/// How many of the vertices that were asked would rise.
+/// The number of asked vertices that would rise.
 #[derive(Clone, Copy)]
 enum Rising {
     Nothing,
@@ -426,7 +426,7 @@ impl Raising<'_> {
         }
     }
 
-    /// Lifts rounds, where they come first; returns whether one raised nothing. They wake nothing: all wait.
+    /// Lifts rounds, if they come first; returns whether one raised nothing. They wake nothing: all wait.
     #[tactic(auto, using(crate::proofs::Kept::kept_self, crate::proofs::Kept::kept_then))]
     pub(crate) fn lift_all(
         &mut self,
@@ -449,8 +449,8 @@ impl Raising<'_> {
         false
     }
 
-    /// Lifts until nothing waits, or so many edges and vertices were looked at, or the budget is spent; or until so
-    /// many were looked at as patience has, and as many wait as before.
+    /// Lifts until nothing waits, or this many edges and vertices were looked at, or the budget is spent. It also ends
+    /// once the patience's number was looked at and as many wait as before.
     pub(crate) fn lift_remaining(
         &mut self,
         ground: LiftGround<'_>,

@@ -4,7 +4,7 @@ use vpg_hope::Arena;
 use vpg_players::Player;
 use vpg_values::{Scale, value_in};
 
-/// Whether a lift raises a vertex, whose value is a number over some edge. The scale is the arena's for Even, so its
+/// Whether a lift raises a vertex whose value is a number over some edge. The scale is the arena's for Even, so its
 /// priorities are read there, beside the owner. It takes no division, so it is faster than a lift.
 #[inline(always)]
 pub(crate) fn would_rise(even: &Scale, arena: &Arena, table: &[u64], v: u32) -> bool {
@@ -12,7 +12,7 @@ pub(crate) fn would_rise(even: &Scale, arena: &Arena, table: &[u64], v: u32) -> 
     even.limit_at(priority_in(arena, v), value_in(table, v)) <= best
 }
 
-// The value that a vertex's owner moves to, where it has these successors.
+// The value that a vertex's owner moves to, if it has these successors.
 #[inline(always)]
 fn best_in(even: &Scale, table: &[u64], owner: Player, successors: &[u32]) -> u64 {
     match owner {

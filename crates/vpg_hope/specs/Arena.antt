@@ -11,7 +11,7 @@ vertex_at arena v = slice_index_or arena v isolated
 
 -- ---- how an arena is kept
 
--- a row names one of two lists: that which the arena may share with others, and its own
+-- a row names one of two lists: the one that the arena may share with others, or its own
 abbrev pub list_of : List ℕ → List ℕ → Row → List ℕ
 list_of shared own row = if row.is_own then own else shared
 

@@ -7,7 +7,7 @@ use Rattle.vpg_hope.specs.Selection.{vertex_under, IsHeldUnmarked}
 use Rattle.vpg_hope.specs.declared.arena.Row.{Row}
 use Rattle.vpg_kept.specs.declared.selection.Selection.{Selection}
 
--- its vertices without a mark are as they are selected, and its own list is short
+-- its vertices without a mark are as the selection has them, and its own list is short
 pub record IsHeldDraft (selection : Selection) (marks : List Bool) (graph : GuardedGame Formula)
     (rows : List Row) (shared own : List ℕ) : Type 0 where
   pub lists : AreRows rows shared own
@@ -15,7 +15,7 @@ pub record IsHeldDraft (selection : Selection) (marks : List Bool) (graph : Guar
   pub few : length own ≤ 262144
   pub held : IsHeldUnmarked selection marks graph (row_vertices rows shared own)
 
--- each vertex is as it is selected
+-- each vertex is as the selection has it
 pub record IsSelectedDraft (selection : Selection) (graph : GuardedGame Formula)
     (rows : List Row) (shared own : List ℕ) : Type 0 where
   pub lists : AreRows rows shared own

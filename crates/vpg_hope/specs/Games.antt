@@ -14,7 +14,7 @@ pub record Vertex : Type 0 where
 abbrev pub Game : Type 0
 Game = List Vertex
 
--- past the last vertex there is nothing but vertices without a move
+-- past the last vertex there are only vertices without a move
 abbrev pub isolated : Vertex
 isolated = record { owner = Even; priority = 0; successors = [] }
 

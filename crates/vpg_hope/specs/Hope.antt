@@ -9,7 +9,7 @@ use Rattle.vpg_players.specs.Players.{opponent}
 pub use Rattle.vpg_kept.specs.Selection.{keeps_in_hope}
 use Rattle.vpg_hope.specs.Games.{Game}
 
--- the plain game with the edges whose guard a test keeps; the test may depend on who moves
+-- the plain game with the edges of guards that a test keeps; the test may depend on who moves
 abbrev pub restrict : {Guard : Type 0} → (Player → Guard → Bool) → GuardedGame Guard → Game
 restrict keeps game = map (λ vertex. record {
   owner = vertex.owner;
@@ -17,25 +17,25 @@ restrict keeps game = map (λ vertex. record {
   successors = map (λ edge. edge.to) (filter (λ edge. keeps vertex.owner edge.guard) vertex.edges);
 }) game
 
--- the game of a product: the edges whose guard is true in it
+-- the game of a product: the edges with guards that are true in it
 abbrev pub product_game : {Guard : Type 0} → (Guard → Bool) → GuardedGame Guard → Game
 product_game truth game = restrict (λ mover guard. truth guard) game
 
--- Even's vertices keep the edges whose value is not `No`, Odd's those whose value is `Yes`
+-- Even's vertices keep the edges with a value other than `No`, Odd's those with the value `Yes`
 abbrev pub hopeful_game : {Guard : Type 0} → (Guard → Tri) → GuardedGame Guard → Game
 hopeful_game value game = restrict (λ mover guard. keeps_in_hope mover (value guard)) game
 
--- The cautious game: each player keeps what the opponent would in hope, Even the edges that must be there, Odd those
--- that may.
+-- The cautious game: each player keeps what the opponent would keep in the hopeful one. Even keeps the edges that must
+-- be there, Odd those that may.
 abbrev pub cautious_game : {Guard : Type 0} → (Guard → Tri) → GuardedGame Guard → Game
 cautious_game value game = restrict (λ mover guard. keeps_in_hope (opponent mover) (value guard)) game
 
--- what is known of a guard of the game is true of it
+-- the known value of each guard of the game is its truth
 abbrev pub AgreesWithTruth : {Guard : Type 0} → (Guard → Tri) → (Guard → Bool) → GuardedGame Guard → Type 0
 AgreesWithTruth value truth game =
     AllGuards (λ guard. (value guard ≡ Yes → truth guard ≡ true) × (value guard ≡ No → truth guard ≡ false)) game
 
--- what is known stays known
+-- known values stay as they are
 abbrev pub Extends : {Guard : Type 0} → (Guard → Tri) → (Guard → Tri) → GuardedGame Guard → Type 0
 Extends later earlier game =
     AllGuards (λ guard. (earlier guard ≡ Yes → later guard ≡ Yes) × (earlier guard ≡ No → later guard ≡ No)) game

@@ -15,7 +15,7 @@ abbrev pub NotBothWin : Type 0
 NotBothWin =
     (game : Game) (for_even for_odd : Strategy) (v : ℕ) → Wins game Even for_even v → Wins game Odd for_odd v → ⊥
 
--- A strategy wins for a player exactly where it wins for the other player in the dual.
+-- A strategy wins for a player exactly if it wins for the other player in the dual.
 abbrev pub DualExchangesWins : Type 0
 DualExchangesWins = (game : Game) (player : Player) (strategy : Strategy) (v : ℕ) → IsClosed game → v < length game →
     Wins game player strategy v ↔ Wins (dual_game game) (opponent player) strategy v
@@ -26,13 +26,13 @@ HopefulIsEasier Guard =
     (value : Guard → Tri) (truth : Guard → Bool) (game : GuardedGame Guard) → AgreesWithTruth value truth game →
     IsEasier (hopeful_game value game) (product_game truth game)
 
--- and as much as the hopeful game where more is known
+-- and as much as the hopeful game when more is known
 abbrev pub EarlierIsEasier : Type 0 → Type 0
 EarlierIsEasier Guard =
     (earlier later : Guard → Tri) (game : GuardedGame Guard) → Extends later earlier game →
     IsEasier (hopeful_game earlier game) (hopeful_game later game)
 
--- where everything is known the hopeful game is that of the product
+-- if everything is known, the hopeful game is that of the product
 abbrev pub FullIsProduct : Type 0 → Type 0
 FullIsProduct Guard =
     (value : Guard → Tri) (truth : Guard → Bool) (game : GuardedGame Guard) → IsFullOf value truth game →

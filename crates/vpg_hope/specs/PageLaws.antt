@@ -1,4 +1,4 @@
--- What the hopeful game means where choices of a diagram's features make features known.
+-- The hopeful and the cautious game when choices of a diagram's features make features known.
 use Rattle.std.specs.Prelude.{◌≡◌, Bool, List}
 use Rattle.vpg_guards.specs.declared.tri.Tri.{Tri}
 use Rattle.vpg_guards.specs.Formula.{Formula, truth, IsBelow}
@@ -18,7 +18,7 @@ RemainingProductsAreHarder =
     IsDiagram lines → IsKnownTable lines choices known → IsRemaining lines choices set →
     IsEasier (hopeful_game (kleene known) game) (product_game (truth set) game)
 
--- and the hopeful game of the dual does so for the dual of each of these games, in which Even stands for Odd
+-- the hopeful game of the dual favours Even, who stands for Odd, at least as much as the dual of each of these games
 abbrev pub DualsOfRemainingProductsAreHarder : Type 0
 DualsOfRemainingProductsAreHarder =
     (lines : List Line) (choices : List Literal) (known : List Tri) (set : List Bool) (game : GuardedGame Formula) →
@@ -39,7 +39,7 @@ MoreChoicesAreHarder =
     AreAmong few many → IsKnownTable lines few known → IsKnownTable lines many more →
     IsEasier (hopeful_game (kleene known) game) (hopeful_game (kleene more) game)
 
--- where every feature is known, both are exact: the game of the one product that agrees with the choices, and its dual
+-- if every feature is known, both are exact: the game of the one product that agrees with the choices, and its dual
 abbrev pub FullPagesHaveTheProductsGame : Type 0
 FullPagesHaveTheProductsGame =
     (lines : List Line) (choices : List Literal) (known : List Tri) (game : GuardedGame Formula) →

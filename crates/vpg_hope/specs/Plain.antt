@@ -22,7 +22,7 @@ projection set game = record { ids = vertex_ids game.vertices; game = product_ga
 abbrev pub unguarded_edge : ℕ → GuardedEdge Formula
 unguarded_edge w = record { to = w; guard = always }
 
--- the vertices of a plain game as those of a guarded one in which every guard is `true`
+-- the vertices of a plain game as those of a guarded one with every guard `true`
 abbrev pub unguarded : List ℕ → Game → List NamedVertex
 unguarded [] vertices = []
 unguarded (id ∷ ids) [] = []
@@ -30,6 +30,6 @@ unguarded (id ∷ ids) (vertex ∷ vertices) =
     record { id = id; owner = vertex.owner; priority = vertex.priority; edges = map unguarded_edge vertex.successors }
     ∷ unguarded ids vertices
 
--- A plain game is written as that guarded game. It names no feature, and a guard that is `true` isn't written.
+-- A plain game is written as that guarded game. It names no feature, and the guard `true` isn't written.
 abbrev pub plain_text : IdentifiedGame → List ℕ
 plain_text plain = game_text [] (record { vertices = unguarded plain.ids plain.game; features = 0 })

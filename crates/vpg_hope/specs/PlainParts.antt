@@ -1,4 +1,4 @@
--- What the parts of the code that write a plain game add.
+-- The texts that the parts of the code add when they write a plain game.
 use Rattle.std.specs.Prelude.{ℕ, List, [], ◌∷◌, ◌++◌, decimal, slice_index, slice_index_or}
 use Rattle.vpg_game.specs.Game.{no_vertex}
 use Rattle.vpg_game.specs.Writing.{vertex_text}

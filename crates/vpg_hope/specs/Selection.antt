@@ -1,4 +1,4 @@
--- What an arena takes over from a guarded game, vertex by vertex.
+-- The vertices that an arena takes from a guarded game.
 use Rattle.std.specs.Prelude.{◌≡◌, ℕ, ◌<◌, List, length, Bool, false, slice_index_or, All}
 use Rattle.vpg_guards.specs.Formula.{Formula}
 use Rattle.vpg_guards.specs.Known.{kleene}
@@ -22,7 +22,7 @@ vertex_under selection vertex = record {
 abbrev pub AreStill : List Tri → List Tri → List (GuardedEdge Formula) → Type 0
 AreStill before now edges = All (λ edge. kleene before edge.guard ≡ kleene now edge.guard) edges
 
--- a vertex without a mark is as it is selected
+-- a vertex without a mark is as the selection has it
 abbrev pub IsHeldUnmarked : Selection → List Bool → GuardedGame Formula → Game → Type 0
 IsHeldUnmarked selection marks graph arena =
     (v : ℕ) → v < length graph → slice_index_or marks v false ≡ false →

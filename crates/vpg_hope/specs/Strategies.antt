@@ -1,5 +1,5 @@
--- Positional strategies, the plays that they allow, and winning. The standard of parity games; that who cannot move
--- loses is this project's own.
+-- Positional strategies, the plays that they allow, and winning. The standard of parity games; that a player who cannot
+-- move loses is this project's own.
 use Rattle.std.specs.Prelude.{◌≡◌, ◌≢◌, ℕ, suc, ◌≤◌, max, Option, Some, List, [], ◌∷◌, map, All, AllPairs, Contains}
 use Rattle.vpg_players.specs.declared.player.Player.{Player}
 use Rattle.vpg_players.specs.Players.{WinsAt}
@@ -25,14 +25,14 @@ pub data Walk (game : Game) (player : Player) (strategy : Strategy) : ℕ → �
   moves : {v w u m : ℕ} → AllowsMove game player strategy v w → Walk game player strategy w u m →
       Walk game player strategy v u (max (priority_of game v) m)
 
--- from this vertex the player never comes to stand without a chosen edge, and each cycle that can be reached has the
--- player's parity
+-- from this vertex the player never reaches one of its own without a chosen edge, and each cycle that can be reached
+-- has the player's parity
 pub record Wins (game : Game) (player : Player) (strategy : Strategy) (v : ℕ) : Type 0 where
   pub can_move : (u : ℕ) → Reaches game player strategy v u → owner_of game u ≡ player → (w : ℕ) ×
       AllowsMove game player strategy u w
   pub cycles : (u m : ℕ) → Reaches game player strategy v u → Walk game player strategy u u m → WinsAt player m
 
--- moves from the first vertex to the second that leave these vertices one after another
+-- moves from the first vertex to the second that leave these vertices in this order
 pub data Path (game : Game) (player : Player) (strategy : Strategy) : ℕ → ℕ → List ℕ → Type 0 where
   done : {v : ℕ} → Path game player strategy v v []
   step : {v w u : ℕ} {vs : List ℕ} → AllowsMove game player strategy v w → Path game player strategy w u vs →

@@ -1,4 +1,4 @@
--- Games that differ at marked vertices alone. This project's own.
+-- Games that differ only at marked vertices. This project's own.
 use Rattle.std.specs.Prelude.{◌≡◌, ℕ, List, Bool, false, slice_index_or}
 use Rattle.vpg_hope.specs.Games.{Game, isolated}
 

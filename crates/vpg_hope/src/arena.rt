@@ -1,4 +1,4 @@
-//! Plain games kept for look-ups: what measures are lifted over.
+//! Plain games kept for look-ups: measures are lifted over them.
 ghost use Rattle.std.specs.Prelude.{◌≡◌, ℕ, ◌<◌, ◌+◌, ◌^◌, ◌++◌, [], length, map, IfOk, OnOk, All, true, false};
 ghost use Rattle.std.specs.Arc.{arc_slice_items};
 ghost use Rattle.vpg_guards.specs.Known.{kleene};
@@ -33,13 +33,13 @@ struct Row {
 /// Clauses see it as a list of vertices, which is a game of `specs/Games`.
 pub struct Arena {
     rows: Vec<Row>,
-    // of all vertices, one after another: shared with the arenas made from this one
+    // the successors of all vertices, one after another: shared with the arenas made from this one
     shared: ArcSlice<u32>,
-    // of the vertices that have others than there, and what they had before
+    // the successors of the vertices that differ from there, and of those that differed before
     own: Vec<u32>,
 }
 
-// Not derived, so that letting one go is one call: a derived way would be proved anew at each exit that owns one.
+// Not derived: a derived `drop` would be proved again at each exit that owns such a value.
 impl Drop for Arena {
     fn drop(self) {
         let Arena {
@@ -62,7 +62,7 @@ impl Model for Arena {
     ghost invariant = { λ a. AreRows a.rows.items (arc_slice_items a.shared) a.own.items };
 }
 
-/// A list of the same numbers, with room for this many.
+/// Returns a list of the same numbers, with room for this many.
 fn copy_with_room(alloc: Global, numbers: &[u32], room: usize) -> Result<Vec<u32>, AllocError>
     ensures { IfOk result (λ copy. copy.items ≡ numbers.now) }
 {
@@ -71,7 +71,7 @@ fn copy_with_room(alloc: Global, numbers: &[u32], room: usize) -> Result<Vec<u32
     Ok(copy)
 }
 
-/// Adds the kept successors of a vertex to an arena's own list, and gives its row.
+/// Adds the kept successors of a vertex to an arena's own list, and returns its row.
 fn push_row(
     own: &mut Vec<u32>,
     game: &GuardedGame,
@@ -114,7 +114,7 @@ struct Draft {
 }
 
 impl Draft {
-    /// A copy of an arena's rows and of its own list, with room there for a sixteenth of what it shares.
+    /// Returns a copy of an arena's rows and of its own list, with room there for a sixteenth of what it shares.
     fn of(
         alloc: Global,
         rows: &[Row],
@@ -132,7 +132,7 @@ impl Draft {
         Ok(Draft { rows, shared, own })
     }
 
-    /// The arena that was made.
+    /// Returns the arena that was made.
     fn arena(self) -> Arena
         requires { AreRows self.rows.items (arc_slice_items self.shared) self.own.items }
         ensures { result ≡ row_vertices self.rows.items (arc_slice_items self.shared) self.own.items }
@@ -145,7 +145,8 @@ impl Draft {
     }
 }
 
-/// Gives marked vertices what is selected of them, each looked at once for both drafts. The others have it already.
+/// Gives marked vertices their selected successors, looking at each once for both drafts. The others have theirs
+/// already.
 fn replace_marked(
     one: &mut Draft,
     two: &mut Draft,
@@ -176,8 +177,9 @@ fn replace_marked(
 }
 
 impl Arena {
-    /// The hopeful game: Even's vertices keep the edges whose guard isn't known false, Odd's keep those whose guard is
-    /// known true. Each guard is looked at once. `specs/Hope` defines it, after FASE 2020 and strong Kleene logic.
+    /// Returns the hopeful game: Even's vertices keep the edges unless their guard is known false, Odd's keep those
+    /// with a guard known true. Each guard is looked at once. `specs/Hope` defines it, after FASE 2020 and strong
+    /// Kleene logic.
     pub fn hopeful(alloc: Global, game: &GuardedGame, known: &Partial) -> Result<Arena, AllocError>
         requires { length known.now ≡ game.now.features }
         ensures { IfOk result (λ arena. arena ≡ hopeful_game (kleene known.now) (graph_of game.now)) }
@@ -185,8 +187,8 @@ impl Arena {
         Arena::selected(alloc, game, Selection::Hopeful(known.values()))
     }
 
-    /// The hopeful game of the dual, in which owners are exchanged and priorities are one greater.
-    /// It is made from the game itself: no dual is built.
+    /// Returns the hopeful game of the dual: owners are exchanged and priorities are one greater. It is made from the
+    /// game itself: no dual is built.
     pub fn hopeful_of_dual(
         alloc: Global,
         game: &GuardedGame,
@@ -198,8 +200,8 @@ impl Arena {
         Arena::selected(alloc, game, Selection::HopefulOfDual(known.values()))
     }
 
-    /// The cautious game: Even's vertices keep the edges whose guard is known true, Odd's keep those whose guard isn't
-    /// known false. What Even wins there by some moves, these moves win in each product that agrees with what is known.
+    /// Returns the cautious game: Even's vertices keep the edges with a guard known true, Odd's keep the edges unless
+    /// their guard is known false. Moves by which Even wins there win in each product that agrees with what is known.
     pub fn cautious(alloc: Global, game: &GuardedGame, known: &Partial) -> Result<Arena, AllocError>
         requires { length known.now ≡ game.now.features }
         ensures { IfOk result (λ arena. arena ≡ cautious_game (kleene known.now) (graph_of game.now)) }
@@ -207,7 +209,7 @@ impl Arena {
         Arena::selected(alloc, game, Selection::Cautious(known.values()))
     }
 
-    /// The cautious game of the dual, made from the game itself: no dual is built.
+    /// Returns the cautious game of the dual, made from the game itself: no dual is built.
     pub fn cautious_of_dual(
         alloc: Global,
         game: &GuardedGame,
@@ -219,9 +221,9 @@ impl Arena {
         Arena::selected(alloc, game, Selection::CautiousOfDual(known.values()))
     }
 
-    /// Both hopeful games under what is known now, that of the game and that of its dual, from these, which are those
-    /// under what was known before. Guards are looked at only at the vertices that a feature names of which something
-    /// else is known now; all else is copied. More may be known than before, or less.
+    /// Returns both hopeful games under what is known now, that of the game and that of its dual. They are made from
+    /// these two, which are those under what was known before. Guards are looked at only at the vertices that name a
+    /// feature of another value now; all else is copied. More may be known than before, or less.
     pub fn both_updated(
         &self,
         of_dual: &Arena,
@@ -243,9 +245,9 @@ impl Arena {
         self.reselected(of_dual, alloc, game, first, second, &marks)
     }
 
-    /// What is selected twice of a game, where only marked vertices are looked at, each once for both: the others keep
-    /// what they have in these. What marked vertices keep stands behind an arena's own list; once one of these is long,
-    /// new lists are made.
+    /// Returns two selections of a game; only marked vertices are looked at, each once for both. The others keep what
+    /// they have in these arenas. The successors of marked vertices come after an arena's own list. If one of these
+    /// lists gets long, new lists are made.
     fn reselected(
         &self,
         other: &Arena,
@@ -276,7 +278,7 @@ impl Arena {
         Ok((one.arena(), two.arena()))
     }
 
-    /// The same, with the successors of all vertices in one new list.
+    /// Returns the arena of a selection, with the successors of all vertices in one new list.
     fn gathered(
         &self,
         alloc: Global,
@@ -308,7 +310,7 @@ impl Arena {
         Arena::over(alloc, rows, successors)
     }
 
-    /// An arena whose vertices have all their successors in one list.
+    /// Returns an arena with all successors in one list.
     fn over(alloc: Global, rows: Vec<Row>, successors: Vec<u32>) -> Result<Arena, AllocError>
         requires { AreRows rows.items successors.items [] }
         ensures { IfOk result (λ arena. arena ≡ row_vertices rows.items successors.items []) }
@@ -349,7 +351,7 @@ impl Arena {
         Ok(())
     }
 
-    /// What is selected of a game, in one pass over its edges.
+    /// Returns the plain game that a selection takes from a game, in one pass over its edges.
     pub(crate) fn selected(
         alloc: Global,
         game: &GuardedGame,
@@ -376,14 +378,14 @@ impl Arena {
         Arena::over(alloc, rows, successors)
     }
 
-    /// How many vertices it has.
+    /// Returns the number of vertices.
     pub fn vertices(&self) -> u32
         ensures { result ≡ length self.now }
     {
         self.rows.len() as u32
     }
 
-    /// Who moves at a vertex.
+    /// Returns who moves at a vertex.
     pub fn owner(&self, v: u32) -> Player
         requires { v < length self.now }
         ensures { result ≡ (vertex_at self.now v).owner }
@@ -391,7 +393,7 @@ impl Arena {
         self.rows[v as usize].owner
     }
 
-    /// The priority of a vertex.
+    /// Returns the priority of a vertex.
     pub fn priority(&self, v: u32) -> u32
         requires { v < length self.now }
         ensures { result ≡ (vertex_at self.now v).priority }
@@ -399,7 +401,7 @@ impl Arena {
         self.rows[v as usize].priority
     }
 
-    /// The kept successors of a vertex, in the order named. Each is a vertex of the arena.
+    /// Returns the kept successors of a vertex, in the order named. Each is a vertex of the arena.
     pub fn kept(&self, v: u32) -> &[u32]
         requires { v < length self.now }
         ensures kept { result.now ≡ (vertex_at self.now v).successors }

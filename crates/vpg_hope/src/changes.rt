@@ -1,4 +1,4 @@
-//! The vertices that a change of what is known concerns.
+//! The vertices that change when more or less is known.
 ghost use Rattle.std.specs.Prelude.{◌≡◌, ◌≢◌, ◌<◌, ◌≤◌, ℕ, All, Contains, IfOk, length, slice_index_or, false, true};
 ghost use Rattle.vpg_game.specs.Game.{graph_of, vertex_in};
 ghost use Rattle.vpg_game.specs.Naming.{features_named};
@@ -20,7 +20,7 @@ fn mark_each(marks: &mut [bool], vertices: &[usize])
     }
 }
 
-/// Marks the vertices that name the feature, where something else is known of it now.
+/// Marks the vertices that name the feature, if its value is another one now.
 fn mark_changed(marks: &mut [bool], game: &GuardedGame, feature: u16, before: Tri, now: Tri)
     requires { length marks.old ≡ length (graph_of game.now) }
     ensures count { length marks.new ≡ length marks.old }
@@ -35,8 +35,7 @@ fn mark_changed(marks: &mut [bool], game: &GuardedGame, feature: u16, before: Tr
     mark_each(marks, game.naming(feature));
 }
 
-/// Marks the vertices that name a feature of which something else is known now. At the others each guard has the value
-/// that it had.
+/// Marks the vertices that name a feature with another value now. At the others each guard keeps its value.
 fn mark_all(marks: &mut [bool], game: &GuardedGame, before: &[Tri], now: &[Tri])
     requires count { length marks.old ≡ length (graph_of game.now) }
     requires few { length before.now ≤ 512 }
@@ -50,7 +49,7 @@ fn mark_all(marks: &mut [bool], game: &GuardedGame, before: &[Tri], now: &[Tri])
     }
 }
 
-/// For each vertex whether it names a feature of which something else is known now.
+/// Returns for each vertex whether it names a feature with another value now.
 pub(crate) fn concerned(
     alloc: Global,
     game: &GuardedGame,

@@ -12,7 +12,7 @@ use std::marker::Model;
 use vpg_game::{GuardedGame, Player};
 use vpg_kept::Selection;
 
-/// A plain game with the identifiers of its vertices: what is left of a guarded game in a product.
+/// A plain game with the identifiers of its vertices: the game of a product.
 ///
 /// Clauses see it as an `IdentifiedGame` of `specs/Plain`.
 pub struct PlainGame {
@@ -20,7 +20,7 @@ pub struct PlainGame {
     arena: Arena,
 }
 
-// Not derived, so that letting one go is one call: a derived way would be proved anew at each exit that owns one.
+// Not derived: a derived `drop` would be proved again at each exit that owns such a value.
 impl Drop for PlainGame {
     fn drop(self) {
         let PlainGame { ids: _, arena: _ } = self;
@@ -39,7 +39,7 @@ impl Model for PlainGame {
 }
 
 impl PlainGame {
-    /// The game of a set of features.
+    /// Returns the game of a set of features.
     pub(crate) fn of(
         alloc: Global,
         game: &GuardedGame,
@@ -53,9 +53,10 @@ impl PlainGame {
         Ok(PlainGame { ids, arena })
     }
 
-    /// Writes the game behind what is there, in PGSolver's format: `parity`, the greatest identifier and `;`, then a
-    /// line for each vertex in file order with its identifier, its priority, its owner (0 for Even, 1 for Odd), a blank
-    /// and its successors with commas between where it has any, and `;`. Where no memory is left, nothing is written.
+    /// Writes the game after what is there, in PGSolver's format. First come `parity`, the greatest identifier and `;`,
+    /// then a line for each vertex in file order. A line has the identifier, the priority, the owner (0 for Even, 1 for
+    /// Odd), a blank and the successors with commas between if there are any, and `;`. If memory runs out, nothing is
+    /// written.
     pub fn write(&self, alloc: Global, out: &mut Vec<u8>) -> Result<(), AllocError>
         ensures ok { OnOk result (out.new.items ≡ out.old.items ++ plain_text self.now) }
         ensures err { OnErr result (out.new.items ≡ out.old.items) }
@@ -96,7 +97,7 @@ impl PlainGame {
     }
 }
 
-/// The identifiers of a game's vertices.
+/// Returns the identifiers of a game's vertices.
 fn ids_of(alloc: Global, game: &GuardedGame) -> Result<Vec<u32>, AllocError>
     ensures { IfOk result (λ ids. ids.items ≡ vertex_ids game.now.vertices) }
 {
@@ -108,7 +109,7 @@ fn ids_of(alloc: Global, game: &GuardedGame) -> Result<Vec<u32>, AllocError>
     Ok(ids)
 }
 
-/// The greatest of some identifiers, or 0.
+/// Returns the greatest of some identifiers, or 0.
 fn greatest_of(ids: &[u32]) -> u32
     ensures { result ≡ greatest ids.now }
 {

@@ -15,13 +15,13 @@ pub enum ProjectFault {
     /// The set of features is no product of the diagram.
     #[error("NotAProduct")]
     NotAProduct,
-    /// There was no memory.
+    /// Memory ran out.
     #[error("Memory")]
     Memory,
 }
 
-/// The plain game of a product, given as one value for each feature: all vertices, and the edges whose guard the
-/// product satisfies (FASE 2020). A set that is no product of the diagram is refused.
+/// Returns the plain game of a product, given as one value for each feature: all vertices, and the edges with guards
+/// that the product satisfies (FASE 2020). A set that is no product of the diagram is refused.
 pub fn project(
     alloc: Global,
     game: &GuardedGame,

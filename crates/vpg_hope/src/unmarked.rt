@@ -1,4 +1,4 @@
-//! Which vertices of both hopeful games a change of what is known leaves as they were.
+//! The vertices that a change of known features leaves as they were, in both hopeful games.
 ghost use Rattle.std.specs.Prelude.{◌≡◌, IfOk, length};
 ghost use Rattle.vpg_game.specs.Game.{graph_of};
 ghost use Rattle.vpg_game.specs.Guarded.{dual};
@@ -11,8 +11,8 @@ use std::alloc::{AllocError, Global};
 use vpg_game::GuardedGame;
 use vpg_partial::Partial;
 
-/// A mark for each vertex that names a feature of which something else is known now. Every other vertex keeps the edges
-/// that it kept, in the hopeful game and in that of the dual. More may be known than before, or less.
+/// Returns a mark for each vertex that names a feature with another value now. Every other vertex keeps the edges that
+/// it kept, in the hopeful game and in that of the dual. More may be known than before, or less.
 pub fn concerned_vertices(
     alloc: Global,
     game: &GuardedGame,

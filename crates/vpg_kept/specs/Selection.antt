@@ -20,7 +20,7 @@ keeps_in_hope Odd No = false
 keeps_in_hope Odd Unknown = false
 keeps_in_hope Odd Yes = true
 
--- over how many features its guards may be
+-- the number of features that its guards may be over
 abbrev pub features_under : Selection → ℕ
 features_under (Hopeful known) = length known.now
 features_under (HopefulOfDual known) = length known.now
@@ -28,7 +28,7 @@ features_under (Cautious known) = length known.now
 features_under (CautiousOfDual known) = length known.now
 features_under (Product set) = length set.now
 
--- who moves in the plain game where this player moves in the guarded one
+-- who moves in the plain game, if this player moves in the guarded one
 abbrev pub owner_under : Selection → Player → Player
 owner_under (Hopeful known) owner = owner
 owner_under (HopefulOfDual known) owner = opponent owner
@@ -36,7 +36,7 @@ owner_under (Cautious known) owner = owner
 owner_under (CautiousOfDual known) owner = opponent owner
 owner_under (Product set) owner = owner
 
--- the priority in the plain game where it is this one in the guarded one
+-- the priority in the plain game if it is this one in the guarded one
 abbrev pub priority_under : Selection → ℕ → ℕ
 priority_under (Hopeful known) priority = priority
 priority_under (HopefulOfDual known) priority = suc priority

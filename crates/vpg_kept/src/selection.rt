@@ -1,4 +1,4 @@
-//! What a plain game takes over from a guarded one.
+//! The owners, priorities and edges that a plain game takes from a guarded one.
 ghost use Rattle.std.specs.Prelude.{◌≡◌, ◌+◌, ◌<◌, ◌^◌, ◌++◌, length, All, OnOk};
 ghost use Rattle.vpg_guards.specs.Formula.{IsBelow};
 ghost use Rattle.vpg_guards.specs.Known.{kleene};
@@ -10,7 +10,7 @@ use vpg_edges::Edge;
 use vpg_guards::{Guard, Tri};
 use vpg_players::Player;
 
-/// What a plain game takes over from a guarded one, with the values of the features that decide its guards.
+/// A choice of owners, priorities and edges of a guarded game, with the values of the features that decide its guards.
 #[derive(Clone, Copy)]
 pub enum Selection<'a> {
     /// The hopeful game, by what is known.
@@ -25,7 +25,7 @@ pub enum Selection<'a> {
     Product(&'a [bool]),
 }
 
-/// Whether a vertex of this owner keeps an edge whose guard has this value: Even's unless it is no, Odd's where it is
+/// Whether a vertex of this owner keeps an edge with this value of its guard: Even's unless it is no, Odd's if it is
 /// yes.
 fn keeps_in_hope(owner: Player, value: Tri) -> bool
     ensures { result ≡ keeps_in_hope owner value }
@@ -36,7 +36,7 @@ fn keeps_in_hope(owner: Player, value: Tri) -> bool
     }
 }
 
-/// The value of a guard, by what is known: most edges have the guard that is always true.
+/// Returns the value of a guard, by what is known: most edges have the guard that is always true.
 fn value(guard: &Guard, known: &[Tri]) -> Tri
     requires { IsBelow (length known.now) (formula_of guard.now) }
     ensures { result ≡ kleene known.now (formula_of guard.now) }
@@ -48,7 +48,7 @@ fn value(guard: &Guard, known: &[Tri]) -> Tri
 }
 
 impl Selection<'_> {
-    /// Who moves in the plain game where this player moves in the guarded one.
+    /// Returns who moves in the plain game, if this player moves in the guarded one.
     pub fn owner(self, owner: Player) -> Player
         ensures { result ≡ owner_under self.entry owner }
     {
@@ -58,7 +58,7 @@ impl Selection<'_> {
         }
     }
 
-    /// The priority in the plain game.
+    /// Returns the priority in the plain game.
     pub fn priority(self, priority: u32) -> u32
         requires { priority + 1 < 2 ^ 32 }
         ensures { result ≡ priority_under self.entry priority }

@@ -1,11 +1,11 @@
--- How labels are put into the text of a game, byte by byte: words for private functions. This project's own.
+-- Putting labels into the text of a game, byte by byte, for the contracts of private functions. This project's own.
 use Rattle.std.specs.Prelude.{ℕ, suc, List, [], ◌∷◌, ◌++◌, Bool, true, false, ◌==◌, if◌then◌else◌, codes}
 use Rattle.std.specs.Char.{is_ascii_digit}
 use Rattle.vpg_labels.specs.Labels.{label_of}
 use Rattle.vpg_labels.specs.declared.labels.Mode.{Mode}
 use Rattle.vpg_labels.specs.declared.labels.Mode.TheVariants.{Front, Header, Start, Between, Guard, Quoted}
 
--- where the text stands behind a byte
+-- where the text stands after a byte
 abbrev pub mode_behind : Mode → ℕ → Mode
 mode_behind Front b =
     if is_ascii_digit b then Between else (if b == 112 then Header else (if b == 115 then Start else Front))
@@ -15,7 +15,7 @@ mode_behind Between b = if b == 34 then Quoted else (if b == 91 then Guard else 
 mode_behind Guard b = if b == 93 then Between else Guard
 mode_behind Quoted b = if b == 34 then Between else Quoted
 
--- the vertex behind a byte
+-- the vertex after a byte
 abbrev pub vertex_behind : Mode → ℕ → ℕ → ℕ
 vertex_behind Front v b = v
 vertex_behind Header v b = v
@@ -33,7 +33,7 @@ abbrev pub start_text : Bool → List ℕ
 start_text false = []
 start_text true = codes "start 0;\n"
 
--- what is put in front of a byte: the start before the first entry, the label before the end of each
+-- the text in front of a byte: the start before the first entry, the label before the end of each
 abbrev pub before_text : List (List ℕ) → Bool → Mode → ℕ → ℕ → List ℕ
 before_text labels is_started Front v b = if is_ascii_digit b then start_text is_started else []
 before_text labels is_started Header v b = []
@@ -42,7 +42,7 @@ before_text labels is_started Between v b = if b == 59 then label_text labels v 
 before_text labels is_started Guard v b = []
 before_text labels is_started Quoted v b = []
 
--- the byte, but for a start and for names
+-- the byte, unless it is of a start or a name
 abbrev pub kept_text : Mode → ℕ → List ℕ
 kept_text Front b = if b == 115 then [] else b ∷ []
 kept_text Header b = b ∷ []
@@ -51,7 +51,7 @@ kept_text Between b = if b == 34 then [] else b ∷ []
 kept_text Guard b = b ∷ []
 kept_text Quoted b = []
 
--- The text with labels, from here on, where the present entry is that of this vertex.
+-- The text with labels, from here on, if the present entry is that of this vertex.
 abbrev pub labelled_text : List (List ℕ) → Bool → Mode → ℕ → List ℕ → List ℕ
 labelled_text labels is_started mode v [] = []
 labelled_text labels is_started mode v (b ∷ text) =

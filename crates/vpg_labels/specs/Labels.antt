@@ -1,5 +1,5 @@
--- The text of a game in which entries have names, and which may say where it starts. PGSolver's format; where both are
--- put is this project's own.
+-- The text of a game with names for its entries, and perhaps with the vertex where it starts. PGSolver's format; that
+-- both may be put is this project's own.
 use Rattle.std.specs.Prelude.{◌≡◌, ℕ, zero, suc, List, [], ◌∷◌, ◌++◌, Bool, true, false, not, ◌&&◌, ◌==◌, Option, Some, None, filter, slice_index_or}
 use Rattle.vpg_game.specs.Game.{NamedGame, SpellsGame}
 use Rattle.vpg_game.specs.Grammar.{Number, Name, Entry, Heading, File, IsFile, file_text}
@@ -11,11 +11,11 @@ use Rattle.vpg_names.specs.Spelled.{Told, told_by}
 abbrev pub is_plain : ℕ → Bool
 is_plain b = not (b == 34) && (not (b == 10) && not (b == 13))
 
--- the label of a vertex, without other bytes
+-- the label of a vertex, without quotes and ends of lines
 abbrev pub label_of : List (List ℕ) → ℕ → List ℕ
 label_of labels v = filter is_plain (slice_index_or labels v [])
 
--- the labels of so many vertices, from this one on
+-- the labels of this many vertices, from this one on
 abbrev pub labels_from : List (List ℕ) → ℕ → ℕ → List (List ℕ)
 labels_from labels v zero = []
 labels_from labels v (suc n) = label_of labels v ∷ labels_from labels (suc v) n
@@ -25,7 +25,7 @@ abbrev pub name_blanks : Option Name → List ℕ
 name_blanks None = []
 name_blanks (Some name) = name.before
 
--- the entry of a vertex, with its label for a name
+-- the entry of a vertex, with its label as its name
 abbrev pub labelled_entry : List (List ℕ) → ℕ → Entry → Entry
 labelled_entry labels v e = record {
   id = e.id;
@@ -36,7 +36,7 @@ labelled_entry labels v e = record {
   before_end = [];
 }
 
--- entries of vertices from this one on, likewise
+-- the entries of the vertices from this one on, with their labels
 abbrev pub labelled_entries : List (List ℕ) → ℕ → List Entry → List Entry
 labelled_entries labels v [] = []
 labelled_entries labels v (e ∷ es) = labelled_entry labels v e ∷ labelled_entries labels (suc v) es
@@ -48,13 +48,13 @@ abbrev pub heading_blanks : Option Heading → List ℕ
 heading_blanks None = []
 heading_blanks (Some h) = h.before
 
--- `start 0;` behind these blanks, if there is to be a start
+-- `start 0;` after these blanks, if there is to be a start
 abbrev pub start_behind : Bool → List ℕ → Option Heading
 start_behind false blanks = None
 start_behind true blanks =
     Some (record { before = blanks; number = record { before = 32 ∷ []; digits = 48 ∷ [] }; before_end = [] })
 
--- the blanks in front of the first entry: a line feed behind a start
+-- the blanks in front of the first entry: a line feed after a start
 abbrev pub first_blanks : Bool → List ℕ → List ℕ
 first_blanks false blanks = blanks
 first_blanks true blanks = 10 ∷ []
@@ -76,7 +76,7 @@ first_behind blanks e = record {
 abbrev pub blanks_between : File → List ℕ
 blanks_between f = heading_blanks f.start ++ f.first.id.before
 
--- the file, in which each entry has the label of its vertex for a name, and which has the start 0 or none
+-- the file with the label of each vertex as the name of its entry, and with the start 0 or none
 abbrev pub labelled_file : List (List ℕ) → Bool → File → File
 labelled_file labels is_started f = record {
   header = f.header;
@@ -91,7 +91,7 @@ abbrev pub start_told : Bool → Option ℕ
 start_told false = None
 start_told true = Some 0
 
--- The text spells the game; taken so, it gives its vertices these names and starts there.
+-- The text spells the game, and in it gives its vertices these names and starts there.
 pub record SpellsNamed (features : List (List ℕ)) (text : List ℕ) (game : NamedGame) (told : Told) : Type 0 where
   pub spells : SpellsGame features text game
   pub file : File

@@ -68,7 +68,7 @@ fn put_plain(bytes: &[u8], out: &mut Vec<u8>) -> Result<(), AllocError>
     Ok(())
 }
 
-/// The bytes of a vertex's label.
+/// Returns the bytes of a vertex's label.
 fn label_at(labels: &[Label], v: usize) -> &[u8]
     ensures { result.now ≡ slice_index_or labels.now v [] }
 {
@@ -88,7 +88,7 @@ fn put_label(labels: &[Label], v: usize, out: &mut Vec<u8>) -> Result<(), AllocE
     Ok(())
 }
 
-/// Where a text stands: what the next byte is in, and the vertex of the present entry.
+/// The place of a byte in a text: what it is in, and the vertex of the present entry.
 #[derive(Clone, Copy)]
 struct Place {
     mode: Mode,
@@ -113,7 +113,7 @@ impl Place {
         Place { mode, v: self.v }
     }
 
-    /// Writes what comes in front of a byte: the start, or the label of an entry.
+    /// Writes the text that comes in front of a byte: the start, or the label of an entry.
     fn put_before(
         self,
         labels: &[Label],
@@ -133,7 +133,7 @@ impl Place {
         }
     }
 
-    /// Writes the byte, but for those of a start and of names.
+    /// Writes the byte, unless it is of a start or a name.
     fn put_kept(self, b: u8, out: &mut Vec<u8>) -> Result<(), AllocError>
         ensures { OnOk result (out.new.items ≡ out.old.items ++ kept_text self.mode b) }
     {
@@ -147,7 +147,7 @@ impl Place {
     }
 }
 
-/// Writes the next byte of a text, behind what comes in front of it.
+/// Writes the next byte of a text, after the text that comes in front of it.
 fn put_byte(
     labels: &[Label],
     is_started: bool,
@@ -166,16 +166,16 @@ fn put_byte(
     Ok(place.behind(b))
 }
 
-/// Returns the text of a game in which each entry has the label of its vertex for a name, less its quotes and ends of
-/// lines. With `is_started` the text says that the game starts at the vertex 0, and else nowhere. Names and a start
-/// that the text has are left out. Of a text that spells no game it may return anything.
+/// Returns the text of a game with the label of each vertex as the name of its entry, less its quotes and ends of
+/// lines. With `is_started` the text says that the game starts at the vertex 0, otherwise it names no start. Names and
+/// a start in `text` are left out. If `text` spells no game, the result may be anything.
 pub fn with_labels(
     alloc: Global,
     text: &[u8],
     labels: &[Label],
     is_started: bool,
 ) -> Result<Vec<u8>, AllocError>
-    // However the text is taken for a game, all else stays as it is.
+    // However the text is read as a game, all else stays.
     ensures labelled { (features : List (List ℕ)) (file : File) → IsFile features file → text.now ≡ file_text file →
         IfOk result (λ out. out.items ≡ file_text (labelled_file labels.now is_started file)) }
     // So it spells the same game, with these names and this start.

@@ -1,4 +1,4 @@
--- How a message points into a file, and where a fault stands as a reader gives it. This project's own.
+-- How a message points into a file, and where a reader says that a fault is. This project's own.
 use Rattle.std.specs.Prelude.{◌≡◌, ℕ, ◌+◌, ◌||◌, ◌==◌, nat_lt, if◌then◌else◌, List, ◌∷◌, ◌++◌, Option, Some, None, map, take, codes, decimal}
 use Rattle.vpg_guards.specs.declared.fault.GuardFault.{GuardFault}
 use Rattle.vpg_guards.specs.declared.fault.GuardFault.TheVariants as guard
@@ -14,11 +14,11 @@ use Rattle.vpg_places.specs.Places.{line_of, column_of}
 use Rattle.vpg_places.specs.declared.place.Place.{Place}
 use Rattle.vpg_lint.specs.declared.message.Message.{Message}
 
--- a byte that is shown: `?` where it is a control character
+-- a byte that is shown: `?` if it is a control character
 abbrev pub shown_byte : ℕ → ℕ
 shown_byte byte = if nat_lt byte 32 || (byte == 127) then 63 else byte
 
--- a file's name, a line and a column, each with a colon behind it
+-- a file's name, a line and a column, each with a colon after it
 abbrev pub place_text : List ℕ → ℕ → ℕ → List ℕ
 place_text name line column = map shown_byte name ++ 58 ∷ decimal line ++ 58 ∷ decimal column ++ codes ": "
 
@@ -45,12 +45,12 @@ offset_of (game.MissingVertex id) = None
 offset_of game.TooWide = None
 offset_of game.Memory = None
 
--- the place is that of the byte at an offset, or of the end of the text where the offset is greater
+-- the place is that of the byte at an offset, or of the end of the text if the offset is greater
 pub record IsPlaceOf (text : List ℕ) (at : ℕ) (place : Place) : Type 0 where
   pub line : place.line ≡ line_of (take at text)
   pub column : place.column ≡ column_of (take at text)
 
--- the line that the reader of a diagram says has the fault, the first where it says none
+-- the faulty line that the reader of a diagram names, or the first line if it names none
 abbrev pub line_of_fault : DiagramFault → ℕ
 line_of_fault (diagram.Syntax line) = line
 line_of_fault diagram.NoRoot = 1
@@ -61,7 +61,7 @@ line_of_fault (diagram.TooMany line) = line
 line_of_fault (diagram.BadRange line) = line
 line_of_fault diagram.Memory = 1
 
--- the line that the reader of a system says has the fault, the first where it says none
+-- the faulty line that the reader of a system names, or the first line if it names none
 abbrev pub line_in_system : SystemFault → ℕ
 line_in_system (system.NoHeader line) = line
 line_in_system (system.TooMany line) = line

@@ -1,4 +1,4 @@
-//! What a fault of a diagram's text means.
+//! Messages about faults of a diagram's text.
 ghost use Rattle.std.specs.Prelude.{◌≡◌, IfOk};
 ghost use Rattle.vpg_places.specs.Places.{line_text, IsColumnOf};
 ghost use Rattle.vpg_lint.specs.Messages.{line_of_fault};
@@ -26,7 +26,7 @@ fn is_remark(word: &[u8]) -> bool {
     word.starts_with(b"#") || word.starts_with(b"//") || word.starts_with(b"--")
 }
 
-/// Appends the word that begins a line, where it was perhaps meant by this one.
+/// Appends the word that was perhaps meant as the first of a line.
 fn put_meant(alloc: Global, word: &[u8], out: &mut Said) {
     match nearest_form(alloc, &LINES, word) {
         Ok(Some(kind)) if kind.as_bytes() != word => {
@@ -63,7 +63,7 @@ fn put_name_hint(word: &[u8], out: &mut Said) {
     }
 }
 
-/// Appends a hint about a word that was expected to be something else.
+/// Appends a hint about a word that does not fit its place.
 fn put_departure_hint(form: &Form, departure: Departure, word: &[u8], out: &mut Said) {
     match departure.expected {
         None if word == b":".as_slice() => put_hint(b"no `:` stands in such a line", out),
@@ -78,7 +78,7 @@ fn put_departure_hint(form: &Form, departure: Departure, word: &[u8], out: &mut 
     }
 }
 
-/// Appends where a line departs from its form.
+/// Appends where a line departs from its form, and returns that place.
 fn put_departure(faulty: &Faulty<'_>, form: &Form, departure: Departure, out: &mut Said) -> usize {
     // The first word of the line is not among those of the form.
     let place = departure.place.saturating_add(1);
@@ -97,7 +97,7 @@ fn put_departure(faulty: &Faulty<'_>, form: &Form, departure: Departure, out: &m
     at
 }
 
-/// Appends what is wrong with the form of a line.
+/// Appends what is wrong with the form of a line, and returns its place in the line.
 fn put_form(alloc: Global, faulty: &Faulty<'_>, out: &mut Said) -> usize {
     let Some((first, rest)) = faulty.words.split_first() else {
         return faulty.put_found(0, KINDS, out);
@@ -115,7 +115,8 @@ fn put_form(alloc: Global, faulty: &Faulty<'_>, out: &mut Said) -> usize {
     }
 }
 
-/// The same, and what the whole text looks like where its first line is no line.
+/// Appends what is wrong with the form of a line, and what the whole text looks like if its first line is no line.
+/// Returns the place in the line.
 fn put_syntax(alloc: Global, faulty: &Faulty<'_>, out: &mut Said) -> usize {
     let at = put_form(alloc, faulty, out);
     if faulty.line.number == 1 || faulty.text.starts_with(&MARK) {
@@ -124,7 +125,7 @@ fn put_syntax(alloc: Global, faulty: &Faulty<'_>, out: &mut Said) -> usize {
     at
 }
 
-/// The place of the first word of a line that no earlier line names, of those that one has to name.
+/// Returns the place of the first unknown name in a line: no earlier line has it, though one has to.
 fn unknown_place(faulty: &Faulty<'_>, form: &Form, known: &[&[u8]]) -> Option<usize> {
     for (place, part) in form.parts.iter().enumerate() {
         let place = place.saturating_add(1);
@@ -137,7 +138,7 @@ fn unknown_place(faulty: &Faulty<'_>, form: &Form, known: &[&[u8]]) -> Option<us
     None
 }
 
-/// Appends a hint about a name that no earlier line has: a later one has it, or one has a name that is much like it.
+/// Appends a hint about a name that no earlier line has: a later line has it, or an earlier one has a similar name.
 fn put_unknown_hint(
     alloc: Global,
     declared: &[Declared<'_>],
@@ -160,7 +161,7 @@ fn put_unknown_hint(
     }
 }
 
-/// Appends what is wrong with the name at a place, which no earlier line has.
+/// Appends what is wrong with the name at a place, which no earlier line has. Returns its place in the line.
 fn put_unnamed(
     alloc: Global,
     faulty: &Faulty<'_>,
@@ -174,14 +175,14 @@ fn put_unnamed(
     at
 }
 
-/// Appends that no earlier line names anything.
+/// Appends that no earlier line names anything. Returns the place in the line.
 fn put_no_names(faulty: &Faulty<'_>, out: &mut Said) -> usize {
     let at = faulty.put_found(0, b"`root` and the name of the root", out);
     put_hint(b"the first line names the root", out);
     at
 }
 
-/// Appends which name of a line no earlier line has. Those have these.
+/// Appends which name of a line is unknown, if earlier lines have these names. Returns its place in the line.
 fn put_unknown_of(
     alloc: Global,
     faulty: &Faulty<'_>,
@@ -199,7 +200,7 @@ fn put_unknown_of(
     }
 }
 
-/// Appends which name of a line no earlier line has.
+/// Appends which name of a line no earlier line has. Returns its place in the line.
 fn put_unknown(
     alloc: Global,
     faulty: &Faulty<'_>,
@@ -212,7 +213,7 @@ fn put_unknown(
     }
 }
 
-/// The first child of a line that has been a child before, and the line where.
+/// Returns the first child of a line that has been a child before, and that earlier line.
 fn second_parent<'t>(declared: &[Declared<'t>], line: usize) -> Option<(Declared<'t>, usize)> {
     for it in declared {
         if it.line == line {
@@ -226,7 +227,7 @@ fn second_parent<'t>(declared: &[Declared<'t>], line: usize) -> Option<(Declared
     None
 }
 
-/// Appends which child of a line has a parent.
+/// Appends which child of a line has a parent. Returns its place in the line.
 fn put_two_parents(faulty: &Faulty<'_>, declared: &[Declared<'_>], out: &mut Said) -> usize {
     let Some((it, earlier)) = second_parent(declared, faulty.line.number) else {
         return faulty.put_found(0, b"children without a parent", out);
@@ -240,7 +241,7 @@ fn put_two_parents(faulty: &Faulty<'_>, declared: &[Declared<'_>], out: &mut Sai
     it.at.saturating_sub(faulty.line.from)
 }
 
-/// Appends that there is a second root.
+/// Appends that there is a second root. Returns its place in the line.
 fn put_two_roots(faulty: &Faulty<'_>, declared: &[Declared<'_>], out: &mut Said) -> usize {
     let at = faulty.put_found(0, b"no second `root`", out);
     if let Some(root) = declared.first() {
@@ -249,7 +250,7 @@ fn put_two_roots(faulty: &Faulty<'_>, declared: &[Declared<'_>], out: &mut Said)
     at
 }
 
-/// Appends what is wrong with a line of a text that names these features.
+/// Appends what is wrong with a line of a text that names these features. Returns its place in the line.
 fn put_of_names(
     alloc: Global,
     faulty: &Faulty<'_>,
@@ -264,7 +265,7 @@ fn put_of_names(
     }
 }
 
-/// The same, where memory for these features is not refused.
+/// Appends what is wrong with a line, if memory for the features is not refused. Returns its place in the line.
 fn put_named(alloc: Global, faulty: &Faulty<'_>, fault: DiagramFault, out: &mut Said) -> usize {
     match declared_of(alloc, faulty.text) {
         Ok(declared) => put_of_names(alloc, faulty, &declared, fault, out),
@@ -272,7 +273,7 @@ fn put_named(alloc: Global, faulty: &Faulty<'_>, fault: DiagramFault, out: &mut 
     }
 }
 
-/// Appends what there is too much of.
+/// Appends what there is too much of. Returns its place in the line.
 fn put_too_many(faulty: &Faulty<'_>, out: &mut Said) -> usize {
     let word = faulty.word(0).bytes;
     if word == b"requires".as_slice() || word == b"excludes".as_slice() {
@@ -281,7 +282,7 @@ fn put_too_many(faulty: &Faulty<'_>, out: &mut Said) -> usize {
     faulty.put_found(0, b"at most 512 features", out)
 }
 
-/// The digits of a number without zeros in front.
+/// Returns the digits of a number without leading zeros.
 fn significant(digits: &[u8]) -> &[u8] {
     let zeros = digits.iter().take_while(|b| **b == b'0').count();
     digits.get(zeros..).unwrap_or(digits)
@@ -301,7 +302,7 @@ pub(crate) fn is_less(a: &[u8], b: &[u8]) -> bool {
     false
 }
 
-/// Appends what is wrong with the range of a group.
+/// Appends what is wrong with the range of a group. Returns its place in the line.
 fn put_bad_range(faulty: &Faulty<'_>, out: &mut Said) -> usize {
     let (low, high) = (faulty.word(2), faulty.word(3));
     if is_less(high.bytes, low.bytes) {
@@ -310,20 +311,20 @@ fn put_bad_range(faulty: &Faulty<'_>, out: &mut Said) -> usize {
     faulty.put_found(3, b"at most the number of children of this line", out)
 }
 
-/// Appends that a text is blank.
+/// Appends that a text is blank. Returns the place in the line.
 fn put_no_root(faulty: &Faulty<'_>, out: &mut Said) -> usize {
     let at = faulty.put_found(0, b"`root` and the name of the root", out);
     put_hint(b"the text is blank", out);
     at
 }
 
-/// Appends that memory ran out.
+/// Appends that memory ran out. Returns the place in the line.
 fn put_memory(out: &mut Said) -> usize {
     out.put(b"memory ran out\n");
     0
 }
 
-/// Appends what is wrong with a line. Where it stands in the line.
+/// Appends what is wrong with a line. Returns its place in the line.
 fn put_line_fault(
     alloc: Global,
     faulty: &Faulty<'_>,
@@ -342,7 +343,7 @@ fn put_line_fault(
     }
 }
 
-/// The number of the line that has a fault.
+/// Returns the number of the line that has a fault.
 fn line_of_fault(fault: DiagramFault) -> usize
     ensures { result ≡ line_of_fault fault }
 {
@@ -357,7 +358,7 @@ fn line_of_fault(fault: DiagramFault) -> usize
     }
 }
 
-/// Appends what is wrong with a line of a text. Where it stands in the line.
+/// Appends what is wrong with a line of a text. Returns its place in the line.
 fn put_fault(
     alloc: Global,
     text: &[u8],
@@ -371,8 +372,8 @@ fn put_fault(
     }
 }
 
-/// What the fault means with which `Diagram::read` refused a text. It stands on the line that the reader says, at the
-/// word that is wrong.
+/// Returns the message on the fault with which `Diagram::read` refused a text. Its place is the line that the reader
+/// names, at the word that is wrong.
 pub fn explain_diagram(
     alloc: Global,
     text: &[u8],

@@ -12,7 +12,7 @@ pub(crate) struct Faulty<'t> {
 }
 
 impl<'t> Faulty<'t> {
-    /// The word at a place, or an empty one at the line's end.
+    /// Returns the word at a place, or an empty one at the line's end.
     pub(crate) fn word(&self, place: usize) -> Word<'t> {
         match self.words.get(place) {
             Some(word) => *word,
@@ -23,7 +23,7 @@ impl<'t> Faulty<'t> {
         }
     }
 
-    /// Appends what was found at a place, and what was expected. Where it stands in the line.
+    /// Appends what was found at a place, and what was expected. Returns its place in the line.
     pub(crate) fn put_found(&self, place: usize, expected: &[u8], out: &mut Said) -> usize {
         let word = self.word(place);
         put_found(word.bytes, b"the line", expected, out);

@@ -1,4 +1,4 @@
-//! What a fault of a game's text means.
+//! Messages about faults of a game's text.
 ghost use Rattle.std.specs.Prelude.{◌≡◌, ◌≤◌, length, min, IfOk, IfSome};
 ghost use Rattle.vpg_places.specs.Places.{IsWithin};
 ghost use Rattle.vpg_lint.specs.Messages.{offset_in_guard, offset_of, IsPlaceOf};
@@ -13,12 +13,12 @@ use vpg_game::GameFault;
 use vpg_guards::{GuardFault, Names};
 use vpg_places::{Last, Number, Scan, numbers_of, place_of};
 
-/// A byte of a word. Those above 127 spell letters of other alphabets.
+/// Whether the byte can be in a word. Those above 127 spell letters of other alphabets.
 fn is_word_byte(b: u8) -> bool {
     b.is_ascii_alphanumeric() || b == b'_' || b >= 128
 }
 
-/// How many bytes of the word at the front of a text there are, one where it is none.
+/// Returns the length in bytes of the word at the front of a text, or one if there is none.
 fn word_len(text: &[u8]) -> usize
     ensures { result ≤ length text.now }
 {
@@ -30,12 +30,12 @@ fn word_len(text: &[u8]) -> usize
     text.len()
 }
 
-/// What stands behind an offset.
+/// Returns the text after an offset.
 pub(crate) fn behind(text: &[u8], at: usize) -> &[u8] {
     text.get(at..).unwrap_or(&[])
 }
 
-/// The word, or the one byte, at an offset.
+/// Returns the word, or the one byte, at an offset.
 pub(crate) fn word_at(text: &[u8], at: usize) -> &[u8] {
     let rest = behind(text, at);
     &rest[..word_len(rest)]
@@ -46,12 +46,12 @@ pub(crate) fn put_found_at(text: &[u8], at: usize, expected: &[u8], out: &mut Sa
     put_found(word_at(text, at), b"the text", expected, out)
 }
 
-/// The number of the line in which an offset stands.
+/// Returns the number of the line with an offset.
 pub(crate) fn line_of(text: &[u8], at: usize) -> usize {
     place_of(text, at.min(text.len())).line
 }
 
-/// A hint of a byte that other formats have and this one has not.
+/// Returns a hint on a byte that other formats use and this one does not.
 fn hint_of_byte(found: &[u8]) -> Option<&'static [u8]> {
     match found {
         [b'#', ..] | [b'/', ..] | [b'%', ..] => {
@@ -66,7 +66,7 @@ fn hint_of_byte(found: &[u8]) -> Option<&'static [u8]> {
     }
 }
 
-/// A hint of a byte in an entry with so many numbers.
+/// Returns a hint on a byte in an entry with this many numbers.
 fn hint_in_entry(numbers: usize, last: Last, found: &[u8]) -> Option<&'static [u8]> {
     let form: &'static [u8] = b"an entry is IDENTIFIER PRIORITY OWNER SUCCESSORS \"NAME\";";
     match (found.first().copied(), last) {
@@ -87,7 +87,7 @@ fn hint_in_entry(numbers: usize, last: Last, found: &[u8]) -> Option<&'static [u
     }
 }
 
-/// Appends a hint of what stands at an offset.
+/// Appends a hint on what is at an offset.
 fn put_syntax_hint(text: &[u8], at: usize, scan: &Scan, out: &mut Said) {
     let found = behind(text, at);
     let byte = hint_of_byte(found);
@@ -101,7 +101,7 @@ fn put_syntax_hint(text: &[u8], at: usize, scan: &Scan, out: &mut Said) {
     }
 }
 
-/// Appends what stands where it can't.
+/// Appends what stands at an offset where it cannot.
 fn put_syntax(text: &[u8], at: usize, out: &mut Said) {
     let scan = Scan::of(text, at);
     put_found_at(text, at, scan.expected(), out);
@@ -126,7 +126,7 @@ fn put_nearest(alloc: Global, names: &Names, word: &[u8], out: &mut Said) {
     }
 }
 
-/// A hint of a byte that can't stand in a guard.
+/// Returns a hint on a byte that cannot stand in a guard.
 fn hint_in_guard(found: &[u8]) -> Option<&'static [u8]> {
     match found {
         [b'&', ..] => Some(b"one `&` joins two parts"),
@@ -144,7 +144,7 @@ fn hint_in_guard(found: &[u8]) -> Option<&'static [u8]> {
     }
 }
 
-/// Words that other formats have for the signs of guards.
+/// Returns a hint on a word that other formats use for a sign of guards.
 fn hint_of_sign(word: &[u8]) -> Option<&'static [u8]> {
     if word.eq_ignore_ascii_case(b"and") {
         Some(b"`&` stands for and")
@@ -161,7 +161,7 @@ fn hint_of_sign(word: &[u8]) -> Option<&'static [u8]> {
     }
 }
 
-/// Says that a word is the name of no feature, and what it was perhaps meant to be.
+/// Says that a word is the name of no feature, and which name was perhaps meant.
 fn say_unknown(alloc: Global, names: &Names, word: &[u8], out: &mut Said) {
     put_found(
         word,
@@ -175,7 +175,7 @@ fn say_unknown(alloc: Global, names: &Names, word: &[u8], out: &mut Said) {
     }
 }
 
-/// Appends that a word is the name of no feature, and what it was perhaps meant to be.
+/// Appends that a word is the name of no feature, and which name was perhaps meant.
 pub fn put_unknown(
     alloc: Global,
     names: &Names,
@@ -188,7 +188,7 @@ pub fn put_unknown(
     out.extend_from_slice(&text)
 }
 
-/// Appends what stands where it can't in a guard.
+/// Appends what stands in a guard where it cannot.
 fn put_guard_syntax(text: &[u8], at: usize, out: &mut Said) {
     let expected = b"a guard of names, `true`, `false`, `!`, `&`, `|`, `(` and `)`";
     put_found_at(text, at, expected, out);
@@ -198,7 +198,7 @@ fn put_guard_syntax(text: &[u8], at: usize, out: &mut Said) {
     }
 }
 
-/// Appends what a guard's fault means, which stands at an offset of the text.
+/// Appends the meaning of a guard's fault at an offset of the text.
 pub(crate) fn put_guard_fault(
     alloc: Global,
     text: &[u8],
@@ -215,7 +215,7 @@ pub(crate) fn put_guard_fault(
     }
 }
 
-/// The first number of some that names a vertex so, behind another.
+/// Returns the first number after another that names a vertex so.
 fn find(numbers: &[Number], id: u32, successors: bool, from: usize) -> Option<Number> {
     for number in numbers {
         let is_wanted = if successors {
@@ -230,12 +230,13 @@ fn find(numbers: &[Number], id: u32, successors: bool, from: usize) -> Option<Nu
     None
 }
 
-/// Where the first entry with an identifier begins, behind an offset.
+/// Returns the offset at which the first entry with an identifier begins, after an offset.
 fn entry_at(numbers: &[Number], id: u32, from: usize) -> usize {
     find(numbers, id, false, from).map_or(0, |number| number.at)
 }
 
-/// Says that two entries have one identifier, where entries begin with these. Where the second begins.
+/// Says that two entries have one identifier, given the identifiers that begin entries. Returns where the second
+/// begins.
 fn put_second(text: &[u8], id: u32, numbers: &[Number], out: &mut Said) -> usize {
     let first = entry_at(numbers, id, 0);
     let second = entry_at(numbers, id, first.saturating_add(1));
@@ -248,7 +249,7 @@ fn put_second(text: &[u8], id: u32, numbers: &[Number], out: &mut Said) -> usize
     second
 }
 
-/// Appends that two entries have one identifier. Where the second begins.
+/// Appends that two entries have one identifier. Returns where the second begins.
 fn put_double(alloc: Global, text: &[u8], id: u32, out: &mut Said) -> usize {
     match numbers_of(alloc, text, true) {
         Ok(numbers) => put_second(text, id, &numbers, out),
@@ -256,7 +257,7 @@ fn put_double(alloc: Global, text: &[u8], id: u32, out: &mut Said) -> usize {
     }
 }
 
-/// Appends that a successor has no entry. Where it stands.
+/// Appends that a successor has no entry. Returns where the successor is.
 fn put_missing(alloc: Global, text: &[u8], id: u32, out: &mut Said) -> usize {
     let at = match numbers_of(alloc, text, false) {
         Ok(numbers) => find(&numbers, id, true, 0).map_or(0, |number| number.at),
@@ -276,7 +277,7 @@ fn put_too_wide(out: &mut Said) {
     )
 }
 
-/// Where a guard's fault stands in the guard.
+/// Returns where in the guard its fault is.
 pub(crate) fn offset_in_guard(fault: GuardFault) -> usize
     ensures { result ≡ offset_in_guard fault }
 {
@@ -288,7 +289,7 @@ pub(crate) fn offset_in_guard(fault: GuardFault) -> usize
     }
 }
 
-/// Where the reader says that a fault stands, the greatest offset where it is greater.
+/// Returns where the reader says that a fault is, or the greatest offset if it is greater.
 fn offset_of(fault: GameFault) -> usize
     ensures { IfSome (offset_of fault) (λ at. result ≡ min at usize.MAX) }
 {
@@ -303,7 +304,7 @@ fn offset_of(fault: GameFault) -> usize
     }
 }
 
-/// Appends what a fault means that stands at an offset.
+/// Appends the meaning of a fault at an offset.
 fn put_placed(
     alloc: Global,
     text: &[u8],
@@ -331,7 +332,7 @@ fn put_placed(
     }
 }
 
-/// Appends what a fault means. Where it stands.
+/// Appends the meaning of a fault. Returns where it is.
 fn put_fault(alloc: Global, text: &[u8], names: &Names, fault: GameFault, out: &mut Said) -> usize
     ensures { IfSome (offset_of fault) (λ offset. result ≡ min offset usize.MAX) }
 {
@@ -346,9 +347,9 @@ fn put_fault(alloc: Global, text: &[u8], names: &Names, fault: GameFault, out: &
     }
 }
 
-/// What the fault means with which `GuardedGame::read` refused a text, over features of these names. It stands where
-/// the reader says, in the middle of a guard too; a vertex that is missing or double where it is named, and what has no
-/// place at the front.
+/// Returns the message on the fault with which `GuardedGame::read` refused a text, over features of these names. Its
+/// place is the one that the reader gives, in the middle of a guard too. A missing or double vertex has the place where
+/// it is named, and a fault without a place the front of the text.
 pub fn explain_game(
     alloc: Global,
     text: &[u8],

@@ -1,4 +1,4 @@
-//! Hints that a whole text gives: it has a mark in front, or is another kind of file.
+//! Hints on a whole text: it has a mark in front, or is another kind of file.
 use crate::message::put_hint;
 use crate::said::Said;
 use vpg_places::{COMMANDS, LINES, form_of};
@@ -6,7 +6,7 @@ use vpg_places::{COMMANDS, LINES, form_of};
 /// The byte order mark in UTF-8.
 pub(crate) const MARK: [u8; 3] = [239, 187, 191];
 
-/// What a text looks like.
+/// A kind of text, by its looks.
 #[derive(Clone, Copy)]
 pub(crate) enum Kind {
     Game,
@@ -20,14 +20,14 @@ fn is_letter(b: u8) -> bool {
     b.is_ascii_alphabetic()
 }
 
-/// The letters in front of a text, blanks left out.
+/// Returns the letters in front of a text, without blanks.
 fn front(text: &[u8]) -> &[u8] {
     let text = text.strip_prefix(&MARK).unwrap_or(text).trim_ascii_start();
     let letters = text.iter().take_while(|b| is_letter(**b)).count();
     text.get(..letters).unwrap_or(text)
 }
 
-/// What the front of a text looks like.
+/// Returns the kind that the front of a text looks like.
 fn kind_of(text: &[u8]) -> Option<Kind> {
     let word = front(text);
     if word == b"parity".as_slice() {
@@ -49,7 +49,7 @@ fn kind_of(text: &[u8]) -> Option<Kind> {
     None
 }
 
-/// Appends what a text is that should be of a kind, where it looks like another.
+/// Appends which kind a text looks like, if that is not the wanted one.
 pub(crate) fn put_text_hint(text: &[u8], wanted: Kind, out: &mut Said) {
     if text.starts_with(&MARK) {
         put_hint(

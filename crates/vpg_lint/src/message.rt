@@ -7,14 +7,14 @@ use itoa::Buffer;
 use std::alloc::AllocError;
 use vpg_places::{Place, begins_character};
 
-/// What is said of a fault: where it stands, and lines that say what was found there, what was expected, and hints.
+/// A message on a fault: its place, and lines that say what was found there, what was expected, and hints.
 #[derive(Drop)]
 pub struct Message {
     pub place: Place,
     pub words: Vec<u8>,
 }
 
-/// Behind so many bytes a word is cut.
+/// A word is cut after this many bytes.
 const MOST_SHOWN: usize = 60;
 
 /// Appends a number.
@@ -25,7 +25,7 @@ pub fn put_number(n: usize, out: &mut Vec<u8>) -> Result<(), AllocError>
     out.extend_from_slice(buffer.format(n as u64).as_bytes())
 }
 
-/// A byte, `?` where it is a control character.
+/// Returns the byte, or `?` for a control character.
 fn shown_byte(b: u8) -> u8
     ensures { result ≡ shown_byte b }
 {

@@ -1,4 +1,4 @@
-//! The name that a word was perhaps meant to be.
+//! The name that was perhaps meant by a word.
 ghost use Rattle.std.specs.Prelude.{◌<◌, IfOk, IfSome, length};
 
 use std::alloc::{AllocError, Global};
@@ -6,18 +6,18 @@ use strsim::levenshtein;
 use vpg_guards::{LONGEST_NAME, Names};
 use vpg_places::{Form, begins_character};
 
-/// The most edits that lead from a word to a name that is told.
+/// The greatest number of edits from a word to a name that is proposed.
 const MOST_EDITS: usize = 3;
 
 /// A word of more bytes is no name with a few letters changed.
 const LONGEST: usize = LONGEST_NAME + MOST_EDITS;
 
-/// More edits than lead to a name that is told.
+/// Returns a number of edits that is too great for a name to be proposed.
 fn too_many_edits(word: &str) -> usize {
     MOST_EDITS.min(word.len() / 2) + 1
 }
 
-/// The text of a word that may be a name with a few letters changed.
+/// Returns the text of a word, if it may be a name with a few letters changed.
 fn text_of(word: &[u8]) -> Option<&str> {
     if word.len() > LONGEST {
         return None;
@@ -25,7 +25,7 @@ fn text_of(word: &[u8]) -> Option<&str> {
     str::from_utf8(word).ok()
 }
 
-/// How many characters of a text begin with a byte that another text lacks.
+/// Returns the number of characters of a text whose first byte is not in another text.
 fn lacking(text: &str, other: &str) -> usize {
     let mut count = 0usize;
     for b in text.as_bytes() {
@@ -36,7 +36,7 @@ fn lacking(text: &str, other: &str) -> usize {
     count
 }
 
-/// How many edits lead from a word to a text, where they are fewer than a limit, and else at least the limit.
+/// Returns the number of edits from a word to a text if it is below the limit, otherwise at least the limit.
 fn edits_below(alloc: Global, limit: usize, word: &str, text: &str) -> Result<usize, AllocError> {
     // Each character that the other text lacks takes an edit of its own.
     if lacking(word, text) >= limit || lacking(text, word) >= limit {
@@ -45,7 +45,8 @@ fn edits_below(alloc: Global, limit: usize, word: &str, text: &str) -> Result<us
     levenshtein(alloc, word, text)
 }
 
-/// Of the names that few edits lead to, fewer than half the word's bytes, the first with the fewest.
+/// Returns the nearest name: of those that few edits lead to, fewer than half the word's bytes, the first with the
+/// fewest.
 pub fn nearest(alloc: Global, names: &Names, word: &str) -> Result<Option<u16>, AllocError>
     ensures { IfOk result (λ found. IfSome found (λ f. f < length names.now)) }
 {
@@ -89,7 +90,7 @@ pub fn nearest_of<'t>(
     Ok(found)
 }
 
-/// The same edits. Letters count alike, whether large or small, where nothing else differs.
+/// Returns the number of edits from a word to a text. Large and small letters count alike if nothing else differs.
 fn edits_to(alloc: Global, limit: usize, word: &str, text: &str) -> Result<usize, AllocError> {
     if text.as_bytes().eq_ignore_ascii_case(word.as_bytes()) {
         return Ok(0);
@@ -97,7 +98,7 @@ fn edits_to(alloc: Global, limit: usize, word: &str, text: &str) -> Result<usize
     edits_below(alloc, limit, word, text)
 }
 
-/// The same of the words that begin these forms.
+/// Returns the nearest of the words that begin these forms.
 pub(crate) fn nearest_form(
     alloc: Global,
     forms: &[Form],

@@ -1,4 +1,4 @@
-//! What a fault of a text of requirements means.
+//! Messages about faults of a text of requirements.
 ghost use Rattle.std.specs.Prelude.{◌≡◌, IfOk, IfSome};
 ghost use Rattle.vpg_places.specs.Places.{IsWithin};
 ghost use Rattle.vpg_lint.specs.Messages.{offset_in_requirements, IsPlaceOf};
@@ -17,7 +17,7 @@ use vpg_places::{Word, place_of};
 /// How an entry is written.
 const ENTRY: &[u8] = b"an entry is written `NAME = FORMULA;`";
 
-/// The word of a list at a place, empty where there is none.
+/// Returns the word of a list at a place, empty if there is none.
 fn word<'t>(words: &[Word<'t>], place: usize) -> &'t [u8] {
     match words.get(place) {
         Some(word) => word.bytes,
@@ -25,7 +25,7 @@ fn word<'t>(words: &[Word<'t>], place: usize) -> &'t [u8] {
     }
 }
 
-/// The last word but so many.
+/// Returns the word this many places before the last.
 fn last<'t>(words: &[Word<'t>], before: usize) -> &'t [u8] {
     match words.len().checked_sub(before.saturating_add(1)) {
         Some(place) => word(words, place),
@@ -51,7 +51,7 @@ fn is_one_of(word: &[u8], others: &[&str]) -> bool {
     others.iter().any(|it| it.as_bytes() == word)
 }
 
-/// What is expected behind a word between `<` and `>`, or `[` and `]`.
+/// Returns what is expected after a word between `<` and `>`, or `[` and `]`.
 fn expected_in_path(before: &[u8]) -> &'static [u8] {
     match before {
         [b'<' | b'[' | b'(' | b'!' | b'.' | b'+' | b'&' | b'|'] => {
@@ -61,7 +61,7 @@ fn expected_in_path(before: &[u8]) -> &'static [u8] {
     }
 }
 
-/// Whether a word ends a formula, where it stands behind another.
+/// Whether a word ends a formula if it comes after another.
 fn ends_formula(before: &[u8], word: &[u8]) -> bool {
     match word {
         [b')' | b'"', ..] => true,
@@ -76,7 +76,7 @@ fn ends_formula(before: &[u8], word: &[u8]) -> bool {
     }
 }
 
-/// What is expected behind the last word outside of paths, where it stands behind another.
+/// Returns what is expected after the last word outside of paths, if it comes after another.
 fn expected_behind(before: &[u8], word: &[u8]) -> &'static [u8] {
     if word.is_empty() {
         return b"a formula, or entries `NAME = FORMULA;`";
@@ -96,7 +96,7 @@ fn expected_behind(before: &[u8], word: &[u8]) -> &'static [u8] {
     }
 }
 
-/// What is expected behind words.
+/// Returns what is expected after words.
 fn expected(words: &[Word<'_>]) -> &'static [u8] {
     if ends_in_path(words) {
         expected_in_path(last(words, 0))
@@ -105,7 +105,7 @@ fn expected(words: &[Word<'_>]) -> &'static [u8] {
     }
 }
 
-/// A hint of a sign that other formats have and this one has not.
+/// Returns a hint on a sign that other formats use and this one does not.
 fn hint_of_sign(found: &[u8]) -> Option<&'static [u8]> {
     match found {
         [b'#', ..] | [b'/', ..] => Some(b"a comment begins with `%`"),
@@ -120,7 +120,7 @@ fn hint_of_sign(found: &[u8]) -> Option<&'static [u8]> {
     }
 }
 
-/// A hint of a word that other languages have and this one has not.
+/// Returns a hint on a word that other languages use and this one does not.
 fn hint_of_word(word: &[u8]) -> Option<&'static [u8]> {
     if is_one_of(word, &["and", "AND", "or", "OR", "not", "NOT", "implies"]) {
         Some(b"`&&`, `||`, `!` and `=>` stand for and, or, not and implies")
@@ -137,7 +137,7 @@ fn hint_of_word(word: &[u8]) -> Option<&'static [u8]> {
     }
 }
 
-/// A hint of a word that cannot stand behind a formula.
+/// Returns a hint on a word that cannot come after a formula.
 fn hint_of_two(words: &[Word<'_>], found: &[u8]) -> Option<&'static [u8]> {
     let begins = found
         .first()
@@ -149,7 +149,7 @@ fn hint_of_two(words: &[Word<'_>], found: &[u8]) -> Option<&'static [u8]> {
     }
 }
 
-/// Appends a hint of what stands behind words at an offset.
+/// Appends a hint on what comes after words at an offset.
 fn put_syntax_hint(text: &[u8], at: usize, words: &[Word<'_>], out: &mut Said) {
     let found = behind(text, at);
     let hint = hint_of_word(word_at(text, at))
@@ -163,13 +163,13 @@ fn put_syntax_hint(text: &[u8], at: usize, words: &[Word<'_>], out: &mut Said) {
     }
 }
 
-/// The words before an offset.
+/// Returns the words before an offset.
 fn words_before<'a, 't>(words: &'a [Word<'t>], at: usize) -> &'a [Word<'t>] {
     let count = words.iter().take_while(|word| word.at < at).count();
     words.get(..count).unwrap_or(words)
 }
 
-/// Appends what stands where it can't.
+/// Appends what stands at an offset where it cannot.
 fn put_syntax(text: &[u8], at: usize, words: &[Word<'_>], out: &mut Said) {
     let before = words_before(words, at);
     put_found_at(text, at, expected(before), out);
@@ -195,7 +195,7 @@ fn names_variable(words: &[Word<'_>], place: usize) -> bool {
     place > 0 && is_one_of(word(words, place.saturating_sub(1)), &["mu", "nu"])
 }
 
-/// Where the first word stands that names an entry, or a variable, as another word does.
+/// Returns the place of the first word that names an entry, or a variable, like this one.
 fn declared(text: &[u8], words: &[Word<'_>], name: &[u8], entries: bool) -> Option<usize> {
     for (place, it) in words.iter().enumerate() {
         let declares = if entries {
@@ -210,7 +210,7 @@ fn declared(text: &[u8], words: &[Word<'_>], name: &[u8], entries: bool) -> Opti
     None
 }
 
-/// The names of entries and of variables before an offset.
+/// Returns the names of entries and of variables before an offset.
 fn known_before<'t>(
     alloc: Global,
     text: &[u8],
@@ -250,7 +250,7 @@ fn add_words(known: &mut Vec<&[u8]>) -> Result<(), AllocError> {
     Ok(())
 }
 
-/// The name, or the word, that another was perhaps meant to be.
+/// Returns the name, or the word, that was perhaps meant.
 fn nearest_before<'t>(
     alloc: Global,
     text: &[u8],
@@ -263,7 +263,7 @@ fn nearest_before<'t>(
     nearest_of(alloc, &known, name)
 }
 
-/// Appends the name, or the word, that another was perhaps meant to be.
+/// Appends the name, or the word, that was perhaps meant.
 fn put_nearest(
     alloc: Global,
     text: &[u8],
@@ -282,7 +282,7 @@ fn put_nearest(
     }
 }
 
-/// Appends that a name is that of nothing.
+/// Appends that a name names nothing.
 fn put_unknown(alloc: Global, text: &[u8], at: usize, words: &[Word<'_>], out: &mut Said) {
     let name = word_at(text, at);
     put_found_at(
@@ -327,7 +327,7 @@ fn put_negated(text: &[u8], at: usize, out: &mut Said) {
     put_hint(b"`!`, `never` and the left side of `=>` negate", out)
 }
 
-/// Appends what a fault means that stands at an offset of a text of these words.
+/// Appends the meaning of a fault at an offset of a text of these words.
 fn put_placed(
     alloc: Global,
     text: &[u8],
@@ -354,7 +354,7 @@ fn put_placed(
     }
 }
 
-/// Where the reader says that a fault stands, at the front where it says nothing.
+/// Returns where the reader says that a fault is, or the front if it says nothing.
 fn offset_of(fault: RequirementFault) -> usize
     ensures { IfSome (offset_in_requirements fault) (λ at. result ≡ at) }
 {
@@ -369,7 +369,8 @@ fn offset_of(fault: RequirementFault) -> usize
     }
 }
 
-/// What the fault means with which `Requirements::read` refused a text. It stands where the reader says.
+/// Returns the message on the fault with which `Requirements::read` refused a text. Its place is the one that the
+/// reader gives.
 pub fn explain_requirements(
     alloc: Global,
     text: &[u8],
@@ -388,7 +389,7 @@ pub fn explain_requirements(
     said.into_message(place_of(text, at.min(text.len())))
 }
 
-/// Where the entry of a name stands, at the front where there is none.
+/// Returns where the entry of a name is, or the front if there is none.
 fn entry_at(alloc: Global, text: &[u8], name: &[u8], out: &mut Said) -> usize {
     match tokens_of(alloc, text) {
         Ok(words) => declared(text, &words, name, true).unwrap_or(0),
@@ -396,7 +397,7 @@ fn entry_at(alloc: Global, text: &[u8], name: &[u8], out: &mut Said) -> usize {
     }
 }
 
-/// That the entry of a name has too many parts. It stands where the entry is named.
+/// Returns the message that the entry of a name has too many parts. Its place is the entry's name.
 pub fn explain_parts(alloc: Global, text: &[u8], name: &[u8]) -> Result<Message, AllocError>
     ensures { IfOk result (λ message. IsWithin text.now message.place.line message.place.column) }
 {

@@ -1,17 +1,17 @@
-//! What is said of a fault, as it is put together.
+//! The text of a message while it is put together.
 ghost use Rattle.std.specs.Prelude.{◌≡◌, IfOk};
 
 use crate::message::{Message, put_number, put_shown};
 use std::alloc::{AllocError, Global};
 use vpg_places::Place;
 
-/// A text that grows. Where memory refused that, it is noted, and told at the end.
+/// A text that grows. If memory was refused, this is noted, and reported at the end.
 pub(crate) struct Said {
     text: Vec<u8>,
     is_refused: bool,
 }
 
-// Not derived, so that letting one go is one call.
+// Not derived: a derived `drop` would be proved again at each exit that owns such a value.
 impl Drop for Said {
     fn drop(self) {
         let Said {
@@ -34,7 +34,7 @@ impl Said {
         self.is_refused = true;
     }
 
-    /// The same, in place of where something stands.
+    /// Notes that memory was refused, and returns 0 as the place.
     pub(crate) fn refused(&mut self) -> usize {
         self.is_refused = true;
         0
@@ -64,7 +64,7 @@ impl Said {
         self.note(put);
     }
 
-    /// The whole text.
+    /// Returns the whole text.
     pub(crate) fn into_text(self) -> Result<Vec<u8>, AllocError> {
         let Said { text, is_refused } = self;
         if is_refused {
@@ -74,7 +74,7 @@ impl Said {
         }
     }
 
-    /// The message that says it of a place.
+    /// Returns the message at a place.
     pub(crate) fn into_message(self, place: Place) -> Result<Message, AllocError>
         ensures { IfOk result (λ message. message.place ≡ place) }
     {

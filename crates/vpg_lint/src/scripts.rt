@@ -1,4 +1,4 @@
-//! What a fault of a script's line means.
+//! Messages about faulty lines of a script.
 ghost use Rattle.std.specs.Prelude.{◌≡◌, IfOk};
 ghost use Rattle.vpg_places.specs.Places.{IsColumnOf};
 
@@ -11,7 +11,7 @@ use crate::said::Said;
 use std::alloc::{AllocError, Global};
 use vpg_places::{COMMANDS, Departure, Form, Line, Part, form_of, words_of};
 
-/// The most bytes of a line.
+/// The greatest length of a line, in bytes.
 const LONGEST_LINE: usize = 4096;
 
 /// The rule for words that stand for vertices.
@@ -57,7 +57,7 @@ fn put_command_hint(alloc: Global, word: &[u8], out: &mut Said) {
     }
 }
 
-/// Appends what is wrong with a word that should be a command.
+/// Appends what is wrong with a word that should be a command. Returns its place in the line.
 fn put_unknown(alloc: Global, faulty: &Faulty<'_>, place: usize, out: &mut Said) -> usize {
     let at = faulty.put_found(place, b"a command", out);
     put_command_hint(alloc, faulty.word(place).bytes, out);
@@ -80,7 +80,8 @@ fn put_argument_hint(departure: Departure, word: &[u8], out: &mut Said) {
     }
 }
 
-/// Appends where the arguments of a command depart from its form. Those behind a place are its arguments.
+/// Appends where the arguments of a command depart from its form. Those after a place are its arguments. Returns the
+/// place in the line.
 fn put_departure(
     faulty: &Faulty<'_>,
     form: &Form,
@@ -99,7 +100,7 @@ fn put_departure(
     at
 }
 
-/// The greatest number that a command of this form takes, in digits, and what is expected of it.
+/// Returns the greatest number that a command of this form takes, in digits, and what is expected of the number.
 fn limit_of(form: &Form) -> (&'static [u8], &'static [u8]) {
     if form.word == "settle" {
         (b"1000000000", b"at most 1,000,000,000 sweeps")
@@ -116,7 +117,7 @@ fn limit_of(form: &Form) -> (&'static [u8], &'static [u8]) {
     }
 }
 
-/// The place of the first word that is a number above a limit, from a place on.
+/// Returns the place of the first word, from a place on, that is a number above a limit.
 fn great_place(faulty: &Faulty<'_>, first: usize, limit: &[u8]) -> usize {
     for (place, word) in faulty.words.iter().enumerate() {
         let is_number = word.bytes.iter().all(|b| b.is_ascii_digit());
@@ -127,13 +128,13 @@ fn great_place(faulty: &Faulty<'_>, first: usize, limit: &[u8]) -> usize {
     first
 }
 
-/// Appends which number of a line is too great.
+/// Appends which number of a line is too great. Returns its place in the line.
 fn put_too_great(faulty: &Faulty<'_>, form: &Form, first: usize, out: &mut Said) -> usize {
     let (limit, expected) = limit_of(form);
     faulty.put_found(great_place(faulty, first, limit), expected, out)
 }
 
-/// Appends what is wrong with the arguments of a command, which stands at a place.
+/// Appends what is wrong with the arguments of a command at a place. Returns their place in the line.
 fn put_arguments(faulty: &Faulty<'_>, form: &Form, command: usize, out: &mut Said) -> usize {
     let first = command.saturating_add(1);
     let arguments = faulty.words.get(first..).unwrap_or(&[]);
@@ -143,7 +144,7 @@ fn put_arguments(faulty: &Faulty<'_>, form: &Form, command: usize, out: &mut Sai
     }
 }
 
-/// Appends what is wrong with a line. Where it stands in the line.
+/// Appends what is wrong with a line. Returns its place in the line.
 fn put_refused(alloc: Global, faulty: &Faulty<'_>, out: &mut Said) -> usize {
     let command = if is_label(faulty.word(0).bytes) { 1 } else { 0 };
     match form_of(&COMMANDS, faulty.word(command).bytes) {
@@ -152,13 +153,13 @@ fn put_refused(alloc: Global, faulty: &Faulty<'_>, out: &mut Said) -> usize {
     }
 }
 
-/// Appends that a line is too long. Where it should end.
+/// Appends that a line is too long. Returns where it should end.
 fn put_long(out: &mut Said) -> usize {
     out.put(b"the line goes on; expected at most 4,096 bytes\n");
     LONGEST_LINE
 }
 
-/// Appends what is wrong with any line, also with one that is too long.
+/// Appends what is wrong with any line, also with one that is too long. Returns its place in the line.
 fn put_line(alloc: Global, line: Line<'_>, out: &mut Said) -> usize {
     let text = line.bytes;
     if text.len() > LONGEST_LINE {
@@ -170,7 +171,7 @@ fn put_line(alloc: Global, line: Line<'_>, out: &mut Said) -> usize {
     }
 }
 
-/// Why a line of a script, of this number, is no command.
+/// Returns the message why a line of a script, of this number, is no command.
 pub fn explain_line(alloc: Global, number: usize, line: &[u8]) -> Result<Message, AllocError>
     ensures line { IfOk result (λ message. message.place.line ≡ number) }
     ensures column { IfOk result (λ message. IsColumnOf line.now message.place.column) }

@@ -1,4 +1,4 @@
-//! What a fault of a system's text means.
+//! Messages about faults of a system's text.
 ghost use Rattle.std.specs.Prelude.{◌≡◌, IfOk};
 ghost use Rattle.vpg_places.specs.Places.{line_text, IsColumnOf};
 ghost use Rattle.vpg_lint.specs.Messages.{line_in_system};
@@ -28,7 +28,7 @@ fn is_number(word: &[u8]) -> bool {
     !word.is_empty() && word.iter().all(|b| b.is_ascii_digit())
 }
 
-/// Adds the bytes of a line from one offset to another, where there are any.
+/// Adds the bytes of a line from one offset to another, if there are any.
 fn push_word<'t>(
     line: &'t [u8],
     begin: usize,
@@ -44,7 +44,7 @@ fn push_word<'t>(
     }
 }
 
-/// The words of a line: each sign is one, and so is what stands between signs and blanks.
+/// Returns the words of a line: each sign is one, and so is the text between signs and blanks.
 fn words_of<'t>(alloc: Global, line: &'t [u8]) -> Result<Vec<Word<'t>>, AllocError> {
     let mut words = Vec::new(alloc);
     let mut begin = 0usize;
@@ -73,7 +73,7 @@ fn fits_header(place: usize, word: &[u8]) -> bool {
     }
 }
 
-/// What a header has at a place.
+/// Returns what a header has at a place.
 fn expected_in_header(place: usize) -> &'static [u8] {
     match place {
         0 => b"`des`",
@@ -87,7 +87,7 @@ fn expected_in_header(place: usize) -> &'static [u8] {
     }
 }
 
-/// The place at which a line is no header.
+/// Returns the place where a line departs from the form of a header.
 fn header_departure(faulty: &Faulty<'_>) -> usize {
     for place in 0..8 {
         if !fits_header(place, faulty.word(place).bytes) {
@@ -97,7 +97,7 @@ fn header_departure(faulty: &Faulty<'_>) -> usize {
     8
 }
 
-/// Appends why a line is no header.
+/// Appends why a line is no header. Returns the place in the line.
 fn put_no_header(faulty: &Faulty<'_>, out: &mut Said) -> usize {
     let place = header_departure(faulty);
     let at = faulty.put_found(place, expected_in_header(place), out);
@@ -109,7 +109,7 @@ fn put_no_header(faulty: &Faulty<'_>, out: &mut Said) -> usize {
     at
 }
 
-/// Appends what a header counts too much of.
+/// Appends what a header counts too much of. Returns its place in the line.
 fn put_too_many(faulty: &Faulty<'_>, out: &mut Said) -> usize {
     if is_less(b"1048576", faulty.word(4).bytes) {
         return faulty.put_found(4, b"at most 1,048,576 transitions", out);
@@ -117,7 +117,7 @@ fn put_too_many(faulty: &Faulty<'_>, out: &mut Said) -> usize {
     faulty.put_found(6, b"at most 65,536 states", out)
 }
 
-/// The place of the last `,` of a line, and how many there are.
+/// Returns the place of the last `,` of a line, and the number of all.
 fn last_comma(words: &[Word<'_>]) -> (usize, usize) {
     let mut last = 0;
     let mut count = 0usize;
@@ -130,7 +130,7 @@ fn last_comma(words: &[Word<'_>]) -> (usize, usize) {
     (last, count)
 }
 
-/// The place at which a line with two `,` is no transition, and what is expected there.
+/// Returns the place where a line with two `,` departs from the form of a transition, and what is expected there.
 fn departure_behind(faulty: &Faulty<'_>, last: usize) -> (usize, &'static [u8]) {
     let (target, close) = (last.saturating_add(1), last.saturating_add(2));
     let end = last.saturating_add(3);
@@ -145,7 +145,7 @@ fn departure_behind(faulty: &Faulty<'_>, last: usize) -> (usize, &'static [u8]) 
     }
 }
 
-/// The place at which a line is no transition, and what is expected there.
+/// Returns the place where a line departs from the form of a transition, and what is expected there.
 fn departure(faulty: &Faulty<'_>) -> (usize, &'static [u8]) {
     let (last, commas) = last_comma(&faulty.words);
     if faulty.word(0).bytes != b"(".as_slice() {
@@ -161,7 +161,7 @@ fn departure(faulty: &Faulty<'_>) -> (usize, &'static [u8]) {
     }
 }
 
-/// Appends why a line is no transition.
+/// Appends why a line is no transition. Returns the place in the line.
 fn put_syntax(faulty: &Faulty<'_>, out: &mut Said) -> usize {
     let (place, expected) = departure(faulty);
     let at = faulty.put_found(place, expected, out);
@@ -177,7 +177,7 @@ fn is_written(line: &Line<'_>) -> bool {
     line.bytes.iter().any(|b| !is_blank(*b))
 }
 
-/// The header, and how many lines that are not blank stand behind it.
+/// Returns the header, and how many lines that are not blank stand after it.
 fn header_in<'t>(lines: &[Line<'t>]) -> Option<(Line<'t>, usize)> {
     let mut header = None;
     let mut behind = 0usize;
@@ -192,13 +192,13 @@ fn header_in<'t>(lines: &[Line<'t>]) -> Option<(Line<'t>, usize)> {
     header.map(|it| (it, behind))
 }
 
-/// The header of a text, and how many lines that are not blank stand behind it.
+/// Returns the header of a text, and how many lines that are not blank stand after it.
 fn header_of<'t>(alloc: Global, text: &'t [u8]) -> Result<Option<(Line<'t>, usize)>, AllocError> {
     let lines = lines_of(alloc, text)?;
     Ok(header_in(&lines))
 }
 
-/// Appends that a header, behind which so many lines stand, counts others than there are.
+/// Appends that a header with this many lines after it counts a different number. Returns the place in the line.
 fn put_count_of(faulty: &Faulty<'_>, header: Line<'_>, behind: usize, out: &mut Said) -> usize {
     if header.number == faulty.line.number {
         let at = faulty.put_found(4, b"the number of transitions below", out);
@@ -210,7 +210,7 @@ fn put_count_of(faulty: &Faulty<'_>, header: Line<'_>, behind: usize, out: &mut 
     at
 }
 
-/// Appends that a header counts other transitions than there are.
+/// Appends that a header counts a different number of transitions. Returns the place in the line.
 fn put_wrong_count(alloc: Global, faulty: &Faulty<'_>, out: &mut Said) -> usize {
     match header_of(alloc, faulty.text) {
         Ok(Some((header, behind))) => put_count_of(faulty, header, behind, out),
@@ -219,7 +219,7 @@ fn put_wrong_count(alloc: Global, faulty: &Faulty<'_>, out: &mut Said) -> usize 
     }
 }
 
-/// Appends which state a header, of these words, does not count.
+/// Appends which state a header of these words does not count. Returns its place in the line.
 fn put_state_of(faulty: &Faulty<'_>, is_header: bool, states: &[u8], out: &mut Said) -> usize {
     let place = if is_header {
         2
@@ -238,7 +238,7 @@ fn put_state_of(faulty: &Faulty<'_>, is_header: bool, states: &[u8], out: &mut S
     at
 }
 
-/// Appends which state a header does not count.
+/// Appends which state a header does not count. Returns its place in the line.
 fn put_state_in(alloc: Global, faulty: &Faulty<'_>, header: Line<'_>, out: &mut Said) -> usize {
     match words_of(alloc, header.bytes) {
         Ok(words) => {
@@ -252,7 +252,7 @@ fn put_state_in(alloc: Global, faulty: &Faulty<'_>, header: Line<'_>, out: &mut 
     }
 }
 
-/// Appends which state the header does not count.
+/// Appends which state the header does not count. Returns its place in the line.
 fn put_no_state(alloc: Global, faulty: &Faulty<'_>, out: &mut Said) -> usize {
     match header_of(alloc, faulty.text) {
         Ok(Some((header, _))) => put_state_in(alloc, faulty, header, out),
@@ -261,7 +261,7 @@ fn put_no_state(alloc: Global, faulty: &Faulty<'_>, out: &mut Said) -> usize {
     }
 }
 
-/// What stands between the first `,` of a line and the last, without the blanks round it, and where it begins.
+/// Returns the text between the first `,` of a line and the last, without the blanks round it, and where it begins.
 fn label_in<'t>(faulty: &Faulty<'t>) -> (usize, &'t [u8]) {
     let (last, _) = last_comma(&faulty.words);
     let from = faulty.word(2).at.saturating_add(1);
@@ -275,7 +275,7 @@ fn label_in<'t>(faulty: &Faulty<'t>) -> (usize, &'t [u8]) {
     (from.saturating_add(blanks), label.trim_ascii_end())
 }
 
-/// A label without quotes round it.
+/// Returns a label without quotes round it.
 fn unquoted(label: &[u8]) -> &[u8] {
     match label {
         [b'"', inside @ .., b'"'] => inside.trim_ascii(),
@@ -283,7 +283,7 @@ fn unquoted(label: &[u8]) -> &[u8] {
     }
 }
 
-/// A hint of a label that is no name with at most one guard.
+/// Returns a hint on a label that is no name with at most one guard.
 fn hint_of_label(label: &[u8]) -> Option<&'static [u8]> {
     match label {
         [b'[', ..] => Some(b"the name of the action is missing before the guard"),
@@ -292,7 +292,7 @@ fn hint_of_label(label: &[u8]) -> Option<&'static [u8]> {
     }
 }
 
-/// Appends why a label is none.
+/// Appends why a label is none. Returns its place in the line.
 fn put_label(faulty: &Faulty<'_>, out: &mut Said) -> usize {
     let (at, label) = label_in(faulty);
     let expected = b"the name of an action, and then perhaps a guard between `[` and `]`";
@@ -303,7 +303,7 @@ fn put_label(faulty: &Faulty<'_>, out: &mut Said) -> usize {
     at
 }
 
-/// Appends what a guard's fault means, where the guard stands at an offset of the line.
+/// Appends the meaning of a guard's fault, if the guard is at an offset of the line. Returns its place in the line.
 fn put_guard(
     alloc: Global,
     faulty: &Faulty<'_>,
@@ -317,13 +317,13 @@ fn put_guard(
     at
 }
 
-/// Appends that memory ran out.
+/// Appends that memory ran out. Returns the place in the line.
 fn put_memory(out: &mut Said) -> usize {
     out.put(b"memory ran out\n");
     0
 }
 
-/// Appends what is wrong with a line. Where it stands in the line.
+/// Appends what is wrong with a line. Returns its place in the line.
 fn put_line_fault(
     alloc: Global,
     faulty: &Faulty<'_>,
@@ -343,7 +343,7 @@ fn put_line_fault(
     }
 }
 
-/// The number of the line that has a fault.
+/// Returns the number of the line that has a fault.
 fn line_of_fault(fault: SystemFault) -> usize
     ensures { result ≡ line_in_system fault }
 {
@@ -359,7 +359,7 @@ fn line_of_fault(fault: SystemFault) -> usize
     }
 }
 
-/// Appends what is wrong with a line of a text. Where it stands in the line.
+/// Appends what is wrong with a line of a text. Returns its place in the line.
 fn put_fault(
     alloc: Global,
     text: &[u8],
@@ -374,8 +374,8 @@ fn put_fault(
     }
 }
 
-/// What the fault means with which `System::read` refused a text, over features of these names. It stands on the line
-/// that the reader says, at the word that is wrong, in the middle of a guard too.
+/// Returns the message on the fault with which `System::read` refused a text, over features of these names. Its place
+/// is the line that the reader names, at the word that is wrong, in the middle of a guard too.
 pub fn explain_system(
     alloc: Global,
     text: &[u8],

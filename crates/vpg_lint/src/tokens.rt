@@ -2,7 +2,7 @@
 use std::alloc::{AllocError, Global};
 use vpg_places::Word;
 
-/// What the bytes of a text up to a place are in the middle of.
+/// The kind of word that a place of a text is in the middle of.
 #[derive(Clone, Copy)]
 enum Within {
     Nothing,
@@ -88,7 +88,7 @@ impl<'t> Tokens<'t> {
     }
 }
 
-/// The words of a text: names, what stands in quotes, and each other byte by itself. Comments are left out.
+/// Returns the words of a text: names, quoted texts, and each other byte by itself. Comments are left out.
 pub(crate) fn tokens_of<'t>(alloc: Global, text: &'t [u8]) -> Result<Vec<Word<'t>>, AllocError> {
     let mut tokens = Tokens {
         text,

@@ -1,21 +1,21 @@
--- Which actions an action formula admits, by their names, and the action formula over numbered actions that it stands
--- for. Action formulas are mCRL2's, without data; how names are compared is this project's own.
+-- The actions that an action formula admits, by their names, and the action formula over numbered actions that it
+-- stands for. Action formulas are mCRL2's, without data; the comparison of names is this project's own.
 use Rattle.std.specs.Prelude.{ℕ, suc, List, [], ◌∷◌, filter, Bool, true, false, not, ◌&&◌, ◌||◌, if◌then◌else◌, bytes_eq, slice_index_or}
 use Rattle.vpg_requirement.specs.Actions as numbered
 use Rattle.vpg_requirement.specs.Actions.{ActionFormula, permits}
 use Rattle.vpg_formula.specs.Words.{is_blank}
 use Rattle.vpg_formula.specs.Regular.{Label, Regular, every_action, no_action, action, other_than, both_of, either_of, sequence, choice, repeated, repeated_once}
 
--- a text but for its blanks
+-- a text without its blanks
 abbrev pub without_blanks : List ℕ → List ℕ
 without_blanks text = filter (λ b. not (is_blank b)) text
 
--- Whether an action is named: in quotes by just its bytes, and without by its bytes but for blanks.
+-- Whether a label names the action: in quotes by exactly its bytes, and without quotes by its bytes apart from blanks.
 abbrev pub is_named : Label → List ℕ → Bool
 is_named label name =
     if label.quoted then bytes_eq label.name name else bytes_eq (without_blanks label.name) (without_blanks name)
 
--- Whether an action formula admits the action of this name. What is no action formula admits none.
+-- Whether an action formula admits the action of this name. A regular formula that is no action formula admits none.
 abbrev pub admits : Regular → List ℕ → Bool
 admits every_action name = true
 admits no_action name = false
@@ -28,7 +28,7 @@ admits (choice x y) name = false
 admits (repeated x) name = false
 admits (repeated_once x) name = false
 
--- the name of an action that is numbered
+-- the name of a numbered action
 abbrev pub name_at : List (List ℕ) → ℕ → List ℕ
 name_at names a = slice_index_or names a []
 
@@ -36,14 +36,14 @@ name_at names a = slice_index_or names a []
 abbrev pub none_of_them : ActionFormula
 none_of_them = numbered.other_than numbered.every_action
 
--- the actions that a label names, of those with these names, which are numbered from here on
+-- the actions that a label names, among those with these names, numbered from here on
 abbrev pub actions_named : Label → ℕ → List (List ℕ) → ActionFormula
 actions_named label a [] = none_of_them
 actions_named label a (name ∷ names) =
     if is_named label name then numbered.either_of (numbered.action a) (actions_named label (suc a) names)
     else actions_named label (suc a) names
 
--- The action formula over numbers, where actions have these names in the order of their numbers.
+-- The action formula over numbers, if actions have these names in the order of their numbers.
 abbrev pub actions_of : List (List ℕ) → Regular → ActionFormula
 actions_of names every_action = numbered.every_action
 actions_of names no_action = none_of_them

@@ -1,5 +1,5 @@
--- Regular formulas as sets of words, and the paths of a system whose actions are such a word. That modalities over
--- regular formulas speak of such paths is mCRL2's definition, after Mateescu and Sighireanu 2003.
+-- Regular formulas as sets of words, and the paths of a system with such a word as their actions. Modalities over
+-- regular formulas are about such paths by mCRL2's definition, after Mateescu and Sighireanu 2003.
 use Rattle.std.specs.Prelude.{◌≡◌, ℕ, ◌<◌, ◌⊎◌, List, [], ◌∷◌, ◌++◌, length, All, true, Contains}
 use Rattle.vpg_requirement.specs.Systems.{Step, PlainSystem}
 use Rattle.vpg_requirement.specs.Words.{IsNext}
@@ -40,11 +40,11 @@ IsPath names system s (name ∷ word) t =
     (step : Step) × Contains system.steps step × (step.source ≡ s) × (name_at names step.label ≡ name) ×
     IsPath names system step.target word t
 
--- some path in the language leads from the state to where the fact holds
+-- some path in the language leads from the state to one where the fact holds
 abbrev pub SomePath : List (List ℕ) → PlainSystem → Regular → (ℕ → Type 0) → ℕ → Type 0
 SomePath names system x P s = (w : Word) × (t : ℕ) × IsIn x w × IsPath names system s w t × P t
 
--- each path in the language leads from the state to where the fact holds
+-- each path in the language leads from the state to one where the fact holds
 abbrev pub EveryPath : List (List ℕ) → PlainSystem → Regular → (ℕ → Type 0) → ℕ → Type 0
 EveryPath names system x P s = (w : Word) (t : ℕ) → IsIn x w → IsPath names system s w t → P t
 
@@ -54,8 +54,8 @@ IsStepBy names system x s t =
     (step : Step) × Contains system.steps step × (step.source ≡ s) × (step.target ≡ t) ×
     (admits x (name_at names step.label) ≡ true)
 
--- Each run comes to such an action: there is a step, and each step by another action leads to where each run comes to
--- one.
+-- Each run comes to such an action: there is a step, and from the target of each step by another action each run comes
+-- to one.
 pub data ComesToStep (names : List (List ℕ)) (system : PlainSystem) (x : Regular) : ℕ → Type 0 where
   forced : {s : ℕ} → (t : ℕ) × IsNext system s t →
       ((t : ℕ) → IsStepBy names system (other_than x) s t → ComesToStep names system x t) →

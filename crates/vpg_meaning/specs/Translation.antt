@@ -1,5 +1,5 @@
--- The formula that a written requirement stands for: names of variables become numbers, words what they stand for, and
--- regular formulas fixpoints, as mCRL2 defines them. Earlier entries are put in place of their names.
+-- The formula of a written requirement: names of variables become numbers, words become their formulas, and regular
+-- formulas fixpoints, as mCRL2 defines them. Earlier entries are put in place of their names.
 use Rattle.std.specs.Prelude.{ℕ, suc, List, [], ◌∷◌, true, false, if◌then◌else◌, bytes_eq}
 use Rattle.vpg_requirement.specs.Fixpoints.{Kind, least, greatest}
 use Rattle.vpg_requirement.specs.Formulas as formulas
@@ -43,13 +43,13 @@ box_along names (repeated_once x) f =
     box_along names x
     (formulas.binding greatest (formulas.conjunction (shift 0 f) (box_along names x (bound 0))))
 
--- the formula of the entry of this name; where there is none, `false`
+-- the formula of the entry of this name; if there is none, `false`
 abbrev pub entry_formula : List (List ℕ × Formula) → List ℕ → Formula
 entry_formula [] x = nowhere
 entry_formula (e ∷ entries) x = if bytes_eq x e.0 then e.1 else entry_formula entries x
 
--- What a name stands for inside fixpoints of these names, innermost first: the variable of the innermost of that name,
--- counted from here on, or else an earlier entry.
+-- The formula of a name inside fixpoints of these names, innermost first: the variable of the innermost fixpoint of
+-- that name, counted from here on, or otherwise an earlier entry.
 abbrev pub formula_named : List (List ℕ × Formula) → List (List ℕ) → ℕ → List ℕ → Formula
 formula_named entries [] i x = entry_formula entries x
 formula_named entries (y ∷ scope) i x = if bytes_eq x y then bound i else formula_named entries scope (suc i) x
@@ -58,7 +58,7 @@ abbrev pub kind_of : Fixpoint → Kind
 kind_of mu = least
 kind_of nu = greatest
 
--- what stands in front of a formula, with the formula
+-- a formula with this in front of it
 abbrev pub formula_behind : List (List ℕ) → Prefix → Formula → Formula
 formula_behind names negated f = formulas.negation f
 formula_behind names (some_path x) f = diamond_along names x f
@@ -70,8 +70,8 @@ formula_behind names inevitably f = words.inevitably f
 formula_behind names again_and_again f = words.again_and_again f
 formula_behind names (after x) f = words.after (actions_of names x) f
 
--- The formula that is written, where actions have these names, inside fixpoints of these names, innermost first, behind
--- these entries.
+-- The formula of a written requirement, if actions have these names, inside fixpoints of these names, innermost first,
+-- after these entries.
 abbrev pub formula_of : List (List ℕ) → List (List ℕ × Formula) → List (List ℕ) → Written → Formula
 formula_of names entries scope (constant true) = everywhere
 formula_of names entries scope (constant false) = nowhere
@@ -89,13 +89,13 @@ formula_of names entries scope (implication f g) =
 formula_of names entries scope (binding kind x f) =
     formulas.binding (kind_of kind) (formula_of names entries (x ∷ scope) f)
 
--- the formulas of entries by their names, the last one first, behind those of earlier ones
+-- the formulas of entries by their names, the last one first, after those of earlier ones
 abbrev pub formulas_behind : List (List ℕ) → List (List ℕ × Formula) → List Entry → List (List ℕ × Formula)
 formulas_behind names earlier [] = earlier
 formulas_behind names earlier (e ∷ entries) =
     formulas_behind names ((e.name, formula_of names earlier [] e.formula) ∷ earlier) entries
 
--- The formulas of entries in their order, behind those of earlier ones by their names.
+-- The formulas of entries in their order, after those of earlier ones by their names.
 abbrev pub formulas_in_order : List (List ℕ) → List (List ℕ × Formula) → List Entry → List Formula
 formulas_in_order names earlier [] = []
 formulas_in_order names earlier (e ∷ entries) =

@@ -9,8 +9,8 @@ use Rattle.vpg_measure.specs.Lifts.{IsTableOf, IsProgressTable, IsBelowTable}
 use Rattle.vpg_measure.specs.Orders.{OrderView, IsOrder, IsRaised, order_table, order_levels, order_arena}
 use Rattle.vpg_verdict.specs.declared.which.Which.{Which}
 
--- where a progress table of the dual game is below the top, every progress table of the game is at the top; the levels
--- of both may be any
+-- where a progress table of the dual game is below the top, every progress table of the game is at the top; the two
+-- games may have any levels
 abbrev pub DualProgressMeansTop : Type 0
 DualProgressMeansTop =
     (levels dual_levels : List Level) (arena : List Node) (table dual_table : List ℕ) → IsClosed arena →

@@ -1,5 +1,5 @@
 -- Bounds to which a table may be raised, and the ranks that certify them. This project's own, over the progress
--- measures of Jurdzinski 2000. A bound is handed back along edges by prog. The ranks fit along the same edges in the
+-- measures of Jurdzinski 2000. A bound is passed back along edges by prog. The ranks fit along the same edges in the
 -- dual game, so that Odd wins each play that stays on them for ever.
 use Rattle.std.specs.Prelude.{ℕ, suc, ◌<◌, ◌≤◌, List, length, slice_index}
 use Rattle.vpg_game.specs.declared.levels.Level.{Level}
@@ -8,8 +8,8 @@ use Rattle.vpg_players.specs.Players.{opponent}
 use Rattle.vpg_hope.specs.Arena.{Vertex as Node, vertex_at}
 use Rattle.vpg_measure.specs.Lifts.{FitsEdges}
 
--- the edge to w from a vertex of priority p with this bound and rank: the bound is at most the prog of w's bound, the
--- rank at least that of w's rank in the dual
+-- The edge to w from a vertex of priority p with this bound and rank. The bound is at most the prog of w's bound, and
+-- the rank at least that of w's rank in the dual.
 abbrev pub Supports : (levels dual_levels : List Level) (bounds ranks : List ℕ) (p bound rank w : ℕ) → Type 0
 Supports levels dual_levels bounds ranks p bound rank w =
     (bound ≤ prog_of levels p (slice_index bounds w)) × (prog_of dual_levels (suc p) (slice_index ranks w) ≤ rank)

@@ -1,4 +1,4 @@
--- What the decisions of a page make of its game. This project's own.
+-- The games that the decisions of a page make of its game. This project's own.
 use Rattle.std.specs.Prelude.{◌≡◌, List}
 use Rattle.vpg_guards.specs.declared.tri.Tri.{Tri}
 use Rattle.vpg_guards.specs.Known.{kleene}
@@ -30,7 +30,7 @@ abbrev pub games_arena : Which → GamesView → Game
 games_arena Hopeful games = games.hopeful_arena
 games_arena Dual games = games.dual_arena
 
--- they are what these choices of features make of the game, which has a dual
+-- they are the games that these choices of features make of the game, which has a dual
 pub record ArePageGames (game : NamedGame) (diagram : NamedDiagram) (choices : List Literal)
     (games : GamesView) : Type 0 where
   pub is_game : IsGame game
@@ -40,6 +40,6 @@ pub record ArePageGames (game : NamedGame) (diagram : NamedDiagram) (choices : L
   pub levels : (which : Which) → games_levels which games ≡ levels_for which (graph_of game)
   pub arena : (which : Which) → games_arena which games ≡ arena_for (kleene games.known) which (graph_of game)
 
--- they are what some choices of features make of the game
+-- they are the games that some choices of features make of the game
 abbrev pub AreGamesOf : NamedGame → NamedDiagram → GamesView → Type 0
 AreGamesOf game diagram games = (choices : List Literal) × ArePageGames game diagram choices games

@@ -1,5 +1,5 @@
--- What fits at a vertex, lifts, rounds and strategies. Jurdzinski 2000; rounds, and that the first successor is
--- chosen, are this project's own.
+-- Numbers that fit at a vertex, lifts, rounds and strategies. Jurdzinski 2000; rounds, and the choice of the first
+-- successor, are this project's own.
 use Rattle.std.specs.Prelude.{ℕ, zero, suc, ◌≡◌, ◌≢◌, ◌<◌, ◌≤◌, ◌==◌, nat_lt, ◌&&◌, Bool, true, false, if◌then◌else◌, min, max, List, [], ◌∷◌, length, map, ◌⊎◌, Option, None, Some, slice_get, slice_index, slice_set, All, Any}
 use Rattle.std.specs.List.{find}
 use Rattle.vpg_game.specs.declared.levels.Level.{Level}
@@ -19,7 +19,7 @@ pub record IsTableOf (ls : List Level) (arena : List Vertex) (table : List ℕ) 
 
 -- ---- what fits
 
--- a number fits an edge from priority p to a value where its measure does
+-- a number fits an edge from priority p to a value if its measure does
 abbrev pub NumberFitsEdge : List Level → ℕ → ℕ → ℕ → Type 0
 NumberFitsEdge ls p n r = Fits ls p (measure_of ls n) (measure_of ls r)
 
@@ -48,7 +48,7 @@ abbrev pub greatest_of : List ℕ → ℕ
 greatest_of [] = 0
 greatest_of (n ∷ ns) = max n (greatest_of ns)
 
--- Even takes the least, or the top of none; Odd the greatest, or zero of none
+-- Even takes the least, or the top if there is none; Odd the greatest, or zero if there is none
 abbrev pub best_for : Player → ℕ → List ℕ → ℕ
 best_for Even top progs = least_of top progs
 best_for Odd top progs = greatest_of progs
@@ -63,7 +63,7 @@ lift_of ls table x = best_for x.owner (top_of ls) (map (λ w. prog_of ls x.prior
 abbrev pub raised : List Level → List Vertex → List ℕ → ℕ → List ℕ
 raised ls arena table v = slice_set table v (max (slice_index table v) (lift_of ls table (vertex_at arena v)))
 
--- the vertices before v, each seeing earlier raises
+-- the table after the vertices before v were lifted, each seeing earlier raises
 abbrev pub raised_before : List Level → List Vertex → ℕ → List ℕ → List ℕ
 raised_before ls arena zero table = table
 raised_before ls arena (suc v) table = raised ls arena (raised_before ls arena v table) v
@@ -71,7 +71,7 @@ raised_before ls arena (suc v) table = raised ls arena (raised_before ls arena v
 abbrev pub round_of : List Level → List Vertex → List ℕ → List ℕ
 round_of ls arena table = raised_before ls arena (length arena) table
 
--- the table after so many rounds
+-- the table after this many rounds
 abbrev pub after_rounds : List Level → List Vertex → ℕ → List ℕ → List ℕ
 after_rounds ls arena zero table = table
 after_rounds ls arena (suc k) table = round_of ls arena (after_rounds ls arena k table)
@@ -80,8 +80,8 @@ after_rounds ls arena (suc k) table = round_of ls arena (after_rounds ls arena k
 abbrev pub EachRaised : List Level → List Vertex → List ℕ → ℕ → Type 0
 EachRaised ls arena table k = (j : ℕ) → j < k → after_rounds ls arena (suc j) table ≢ after_rounds ls arena j table
 
--- Settled: after fewer rounds than allowed, each of which raised something, the next raised nothing. RanOut: all the
--- rounds raised something.
+-- Settled: a round within the limit raised nothing, and each before it raised something. RanOut: all the rounds raised
+-- something.
 abbrev pub EndsAs : Outcome → List Level → List Vertex → ℕ → List ℕ → List ℕ → Type 0
 EndsAs Settled ls arena rounds old new =
     (k : ℕ) × (k < rounds) × EachRaised ls arena old k × (new ≡ after_rounds ls arena k old) ×

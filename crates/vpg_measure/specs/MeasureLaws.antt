@@ -62,7 +62,7 @@ OddLiftsToGreatest =
     (shape : Shape) (game : Game) (table : Table) (v : ℕ) (m : Measure) → IsClosed game → IsTable shape game table →
     owner_of game v ≡ Odd → IsGreatestOfProgs shape game table v m → IsLift shape game table v m
 
--- a value fits exactly where the lift does not exceed it
+-- a value fits exactly if the lift does not exceed it
 abbrev pub FitsFromLift : Type 0
 FitsFromLift =
     (shape : Shape) (game : Game) (table : Table) (v : ℕ) (m n : Measure) → IsMeasure shape n →
@@ -87,7 +87,7 @@ LiftStaysBelow =
     IsProgressMeasure shape game progress → IsBelow game table progress → IsLift shape game table v m →
     AtMost m (progress v)
 
--- so a raise to the lift keeps a table below every progress table, also where the lift is that of an older table
+-- so a raise to the lift keeps a table below every progress table, also a raise to the lift of an older table
 abbrev pub RaiseStaysBelow : Type 0
 RaiseStaysBelow = (shape : Shape) (game : Game) (seen : Table) (v : ℕ) (m : Measure) → IsClosed game → v < length game →
     IsBelowAllProgress shape game seen → IsLift shape game seen v m → IsBelowAllAt shape game v m
@@ -146,7 +146,7 @@ EveryPlayIsWon =
     Wins game player strategy (play 0) →
     IsGreatestRecurring game play p → WinsAt player p
 
--- closed walks and simple cycles ask the same
+-- closed walks and simple cycles decide alike
 abbrev pub SimpleCyclesDecide : Type 0
 SimpleCyclesDecide = (game : Game) (player : Player) (strategy : Strategy) (v : ℕ) →
     ((u m : ℕ) → Reaches game player strategy v u → Walk game player strategy u u m → WinsAt player m) ↔
@@ -159,13 +159,13 @@ HarderProgressIsEasier =
     (easy hard : Game) → IsEasier easy hard → (shape : Shape) (table : Table) → IsProgressMeasure shape hard table →
     IsProgressMeasure shape easy table
 
--- A table below every progress table is so in every harder game.
+-- A table below every progress table is below every one in each harder game.
 abbrev pub BelowStaysInHarder : Type 0
 BelowStaysInHarder =
     (easy hard : Game) → IsEasier easy hard → (shape : Shape) (table : Table) → IsBelowAllProgress shape easy table →
     IsBelowAllProgress shape hard table
 
--- A value below that of every progress table at a vertex is so in every harder game.
+-- A value below that of every progress table at a vertex is so in each harder game.
 abbrev pub ValueStaysInHarder : Type 0
 ValueStaysInHarder =
     (easy hard : Game) → IsEasier easy hard → (shape : Shape) (v : ℕ) (m : Measure) → IsBelowAllAt shape easy v m →
@@ -177,7 +177,7 @@ WinStaysInEasier =
     (easy hard : Game) → IsEasier easy hard → (strategy : Strategy) (v : ℕ) → Wins hard Even strategy v →
     Wins easy Even strategy v
 
--- so a value that was below every progress table stays so when more is known
+-- so a value below every progress table stays so when more is known
 abbrev pub ValueStaysWhenMoreIsKnown : Type 0 → Type 0
 ValueStaysWhenMoreIsKnown Guard =
     (earlier later : Guard → Tri) (game : GuardedGame Guard) (shape : Shape) (v : ℕ) (m : Measure) →
@@ -200,7 +200,7 @@ SureWins Guard =
     (v : ℕ) → v < length game → table v ≡ Top → (truth : Guard → Bool) → AgreesWithTruth value truth game →
     (strategy : Strategy) → Wins (product_game truth game) Odd strategy v → ⊥
 
--- where everything is known, Even wins in the product from each possible vertex, by successors of least prog
+-- if everything is known, Even wins in the product from each possible vertex, by successors of least prog
 abbrev pub PossibleWins : Type 0 → Type 0
 PossibleWins Guard =
     (value : Guard → Tri) (truth : Guard → Bool) (game : GuardedGame Guard) → IsFullOf value truth game →
@@ -209,7 +209,7 @@ PossibleWins Guard =
     FollowsLeast shape (hopeful_game value game) table strategy → (v : ℕ) → v < length game → table v ≢ Top →
     Wins (product_game truth game) Even strategy v
 
--- where everything is known, Odd wins in the product from each unsure vertex
+-- if everything is known, Odd wins in the product from each unsure vertex
 abbrev pub UnsureLoses : Type 0 → Type 0
 UnsureLoses Guard =
     (value : Guard → Tri) (truth : Guard → Bool) (game : GuardedGame Guard) → IsFullOf value truth game →
@@ -217,7 +217,7 @@ UnsureLoses Guard =
     IsProgressMeasure shape (hopeful_game value (dual game)) table → (v : ℕ) → v < length game → table v ≢ Top →
     (strategy : Strategy) × Wins (product_game truth game) Odd strategy v
 
--- where everything is known, no vertex is both possible and unsure
+-- if everything is known, no vertex is both possible and unsure
 abbrev pub NotPossibleAndUnsure : Type 0 → Type 0
 NotPossibleAndUnsure Guard =
     (value : Guard → Tri) (truth : Guard → Bool) (game : GuardedGame Guard) → IsFullOf value truth game →

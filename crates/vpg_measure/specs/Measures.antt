@@ -4,7 +4,7 @@ use Rattle.std.specs.List.{AllZip}
 use Rattle.vpg_players.specs.Players.{IsOdd}
 use Rattle.vpg_game.specs.declared.levels.Level.{Level}
 
--- what a measure counts by: a place for each odd priority that occurs, with its count
+-- the shape that a measure counts by: a place for each odd priority that occurs, with its count
 abbrev pub Shape : Type 0
 Shape = List Level
 
@@ -51,7 +51,7 @@ above [] p components = []
 above (place ∷ shape) p [] = []
 above (place ∷ shape) p (x ∷ components) = if nat_le p place.priority then x ∷ above shape p components else []
 
--- the first measure fits a vertex of this priority with an edge to a vertex that has the second one
+-- the first measure fits a vertex of this priority with an edge to a vertex with the second one
 abbrev pub Fits : Shape → ℕ → Measure → Measure → Type 0
 Fits shape p Top Top = ⊤
 Fits shape p Top (Components b) = ⊤

@@ -31,13 +31,13 @@ TruncatedOrderIsQuotient =
     (ls : List Level) (p : ℕ) (xs ys : List ℕ) → IsMeasure ls (Components xs) → IsMeasure ls (Components ys) →
     LexBelow (above ls p xs) (above ls p ys) ↔ (value_of ls xs / weight_of p ls < value_of ls ys / weight_of p ls)
 
--- the numbers whose measure fits the edge are those from `prog_of` on
+-- the numbers with a measure that fits the edge are those from `prog_of` on
 abbrev pub ProgIsLeastFit : Type 0
 ProgIsLeastFit =
     (ls : List Level) (p r n : ℕ) → r ≤ top_of ls → n ≤ top_of ls → Fits ls p (measure_of ls n) (measure_of ls r) ↔
     (prog_of ls p r ≤ n)
 
--- in a game with these priorities: the weight of p is the product over all odd priorities below p
+-- in a game with these priorities, the weight of p is the product of the radices of all odd priorities below p
 abbrev pub WeightsAreProducts : Type 0
 WeightsAreProducts = (priorities : List ℕ) (p : ℕ) → weight_of p (levels_of priorities) ≡ product_below p priorities
 
@@ -80,7 +80,7 @@ RoundsStop =
     (ls : List Level) (arena : List Vertex) (table : List ℕ) → IsTableOf ls arena table →
     (round_of ls arena table ≡ table) ↔ IsProgressTable ls arena table
 
--- `prog_of` in the words of measures
+-- `prog_of` gives the least measure that fits
 abbrev pub ProgIsLeastMeasure : Type 0
 ProgIsLeastMeasure =
     (ls : List Level) (p : ℕ) (n : Measure) → IsMeasure ls n →

@@ -1,4 +1,4 @@
--- What holds of orders: each is the contract of a law of `laws`.
+-- Laws of orders, as statements.
 use Rattle.std.specs.Prelude.{◌≡◌, ℕ, List, length, replicate}
 use Rattle.vpg_diagram.specs.DiagramText.{NamedDiagram}
 use Rattle.vpg_game.specs.Game.{NamedGame}

@@ -24,17 +24,17 @@ pub record OrderView : Type 0 where
   pub known : List Tri
   pub hopeful : List ℕ
   pub dual : List ℕ
-  -- room for two raised tables: what stands there means nothing in an order
+  -- room for two raised tables; the values there mean nothing in an order
   pub hopeful_room : List ℕ
   pub dual_room : List ℕ
 
--- an order, and the two tables to which its own were raised
+-- an order, and its two tables raised
 pub record HarvestView : Type 0 where
   pub order : OrderView
   pub hopeful : List ℕ
   pub dual : List ℕ
 
--- the harvest whose tables stand in the order's room
+-- the harvest with the tables in the order's room
 abbrev pub harvest_of : OrderView → HarvestView
 harvest_of order = record { order = order; hopeful = order.hopeful_room; dual = order.dual_room }
 
@@ -70,13 +70,13 @@ order_levels which order = levels_for which (graph_of order.game)
 abbrev pub order_arena : Which → OrderView → Game
 order_arena which order = arena_for (kleene order.known) which (graph_of order.game)
 
--- the table is below every progress table of the game that the decisions give
+-- the table is below every progress table of the game under the decisions
 abbrev pub IsOpeningTable : NamedGame → NamedDiagram → List Decision → Which → List ℕ → Type 0
 IsOpeningTable game diagram decisions which table =
     (known : List Tri) → IsKnownTable diagram.lines (map literal_of decisions) known →
     IsTableBelow (kleene known) which (graph_of game) table
 
--- what every order keeps: above all, its tables are below every progress table of their games
+-- Properties of every order. Above all, its tables are below every progress table of their games.
 pub record IsOrder (order : OrderView) : Type 0 where
   pub game : IsGame order.game
   pub not_at_limit : ¬ IsAtLimit order.game
@@ -88,7 +88,7 @@ pub record IsOrder (order : OrderView) : Type 0 where
   pub hopeful_room : length order.hopeful_room ≡ length order.game.vertices
   pub dual_room : length order.dual_room ≡ length order.game.vertices
 
--- what every harvest keeps: its tables are on or above its order's, and below every progress table
+-- Properties of every harvest: its tables are on or above its order's, and below every progress table.
 pub record IsHarvest (harvest : HarvestView) : Type 0 where
   pub order : IsOrder harvest.order
   pub above : (which : Which) → IsBelowTable (order_table which harvest.order) (harvest_table which harvest)
@@ -111,7 +111,7 @@ IsSettledHarvest harvest =
     (which : Which) →
     IsProgressTable (order_levels which harvest.order) (order_arena which harvest.order) (harvest_table which harvest)
 
--- the same order, but for what stands in its room
+-- the same order, but for the tables in its room
 pub record IsSameOrder (one other : OrderView) : Type 0 where
   pub game : one.game ≡ other.game
   pub diagram : one.diagram ≡ other.diagram

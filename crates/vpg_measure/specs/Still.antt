@@ -1,4 +1,4 @@
--- Tables that were settled, and whether they stay so where something else is known. This project's own.
+-- Settled tables that stay so when other features are known. This project's own.
 use Rattle.std.specs.Prelude.{◌≡◌, ℕ, ◌<◌, ◌≤◌, List, Bool, false, length, slice_index, slice_index_or}
 use Rattle.vpg_diagram.specs.DiagramText.{NamedDiagram}
 use Rattle.vpg_diagram.specs.FeatureDiagram.{feature_count}
@@ -13,7 +13,7 @@ use Rattle.vpg_measure.specs.Lifts.{lift_of}
 use Rattle.vpg_measure.specs.TwoGames.{IsProgressOf}
 use Rattle.vpg_verdict.specs.declared.which.Which.TheVariants.{Hopeful, Dual}
 
--- what some choices of features make of the game, of a diagram over whose features it is
+-- the games that some choices of features make of the game, over the features of a diagram
 pub record AreGamesOver (game : NamedGame) (games : GamesView) : Type 0 where
   pub diagram : NamedDiagram
   pub features : game.features ≡ feature_count diagram.lines

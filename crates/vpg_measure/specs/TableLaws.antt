@@ -20,7 +20,7 @@ use Rattle.vpg_measure.specs.Views.{measures_of, strategy_of}
 abbrev pub LevelsAreShape : Type 0
 LevelsAreShape = (vertex_priorities : List ℕ) → IsShape vertex_priorities ((levels_of vertex_priorities))
 
--- a table of numbers is a progress table where its measures are
+-- a table of numbers is a progress table exactly if its measures are
 abbrev pub ProgressOfNumbers : Type 0
 ProgressOfNumbers = (levels : List Level) (arena : List Node) (table : List ℕ) → IsTableOf levels arena table →
     IsProgressTable levels arena table ↔ IsProgressMeasure levels arena (measures_of levels table)
@@ -48,7 +48,7 @@ SettledIsUnique =
     IsProgressTable levels arena s → IsProgressTable levels arena t →
     IsBelowProgressTables levels arena s → IsBelowProgressTables levels arena t → s ≡ t
 
--- a table is below every progress table where each of its values is
+-- a table is below every progress table exactly if each of its values is
 abbrev pub BelowIsByValue : Type 0
 BelowIsByValue = (levels : List Level) (arena : List Node) (table : List ℕ) → IsTableOf levels arena table →
     IsBelowProgressTables levels arena table ↔
@@ -60,14 +60,14 @@ ZerosAreBelow =
     (levels : List Level) (arena : List Node) → IsTableOf levels arena (replicate (length arena) 0) ×
     IsBelowProgressTables levels arena (replicate (length arena) 0)
 
--- the lift of a table that is below every progress table is below every one
+-- if a table is below every progress table, each of its lifts is
 abbrev pub LiftIsBelow : Type 0
 LiftIsBelow =
     (levels : List Level) (arena : List Node) (seen : List ℕ) (v : ℕ) → IsTableOf levels arena seen →
     IsBelowProgressTables levels arena seen → v < length arena →
     IsValueBelow levels arena v (lift_of levels seen (vertex_at arena v))
 
--- so a table stays below every progress table where a value is raised to the lift of this table, or of an older one
+-- so a table stays below every progress table if a value is raised to the lift of this table, or of an older one
 abbrev pub RaiseIsBelow : Type 0
 RaiseIsBelow =
     (levels : List Level) (arena : List Node) (table seen : List ℕ) (v : ℕ) → IsTableOf levels arena table →
@@ -116,7 +116,7 @@ DualTopRefutes =
 
 -- Guards: the arena is that of the hopeful game, or of the hopeful game of the dual
 
--- a progress table where more is known is one where less is known
+-- a progress table when more is known is one when less is known
 abbrev pub SettledInEarlier : Type 0 → Type 0
 SettledInEarlier Guard =
     (earlier later : Guard → Tri) (game : GuardedGame Guard) → Extends later earlier game →
@@ -146,7 +146,7 @@ SureNumber Guard =
     (truth : Guard → Bool) → AgreesWithTruth value truth game → (strategy : Strategy) →
     Wins (product_game truth game) Player.Odd strategy v → ⊥
 
--- where everything is known the choices win in the product from every possible vertex
+-- if everything is known, the choices win in the product from every possible vertex
 abbrev pub PossibleNumber : Type 0 → Type 0
 PossibleNumber Guard =
     (value : Guard → Tri) (truth : Guard → Bool) (game : GuardedGame Guard) → IsFullOf value truth game →
@@ -156,7 +156,7 @@ PossibleNumber Guard =
     (v : ℕ) → v < length arena → slice_index table v < top_of levels →
     Wins (product_game truth game) Player.Even (strategy_of choices) v
 
--- those of the dual win there for Odd from every unsure vertex
+-- if everything is known, the choices of the dual win in the product for Odd from every unsure vertex
 abbrev pub UnsureNumber : Type 0 → Type 0
 UnsureNumber Guard =
     (value : Guard → Tri) (truth : Guard → Bool) (game : GuardedGame Guard) → IsFullOf value truth game →
@@ -166,7 +166,7 @@ UnsureNumber Guard =
     (v : ℕ) → v < length arena → slice_index table v < top_of levels →
     Wins (product_game truth game) Player.Odd (strategy_of choices) v
 
--- where everything is known, no vertex is both possible and unsure
+-- if everything is known, no vertex is both possible and unsure
 abbrev pub NotBothNumbers : Type 0 → Type 0
 NotBothNumbers Guard =
     (value : Guard → Tri) (truth : Guard → Bool) (game : GuardedGame Guard) → IsFullOf value truth game →

@@ -1,4 +1,4 @@
--- Tables of measures: what fits at a vertex, lifts, progress tables and the least one. Jurdzinski 2000.
+-- Tables of measures: measures that fit at a vertex, lifts, progress tables and the least one. Jurdzinski 2000.
 use Rattle.std.specs.Prelude.{◌≡◌, ◌≢◌, ℕ, ◌<◌, ◌⊎◌, length, Some}
 use Rattle.vpg_players.specs.declared.player.Player.{Player}
 use Rattle.vpg_players.specs.declared.player.Player.TheVariants.{Even, Odd}
@@ -9,7 +9,7 @@ use Rattle.vpg_measure.specs.Measures.{Shape, Measure, IsMeasure, AtMost, Fits, 
 abbrev pub Table : Type 0
 Table = ℕ → Measure
 
--- the least measure that fits an edge from a vertex of this priority to one that has this value
+-- the least measure that fits an edge from a vertex of this priority to one with this value
 pub record IsProg (shape : Shape) (p : ℕ) (value m : Measure) : Type 0 where
   pub in_range : IsMeasure shape m
   pub fits : Fits shape p m value
@@ -65,7 +65,7 @@ pub record IsLeastProgress (shape : Shape) (game : Game) (table : Table) : Type 
   pub progress : IsProgressMeasure shape game table
   pub below : IsBelowAllProgress shape game table
 
--- an edge whose prog is no greater than that of any other
+-- an edge with a prog no greater than that of any other
 pub record IsLeastSuccessor (shape : Shape) (game : Game) (table : Table) (v w : ℕ) : Type 0 where
   pub is_edge : HasEdge game v w
   pub least : (x : ℕ) (m n : Measure) → HasEdge game v x → IsProg shape (priority_of game v) (table w) m →

@@ -11,7 +11,7 @@ use Rattle.vpg_verdict.specs.declared.which.Which.TheVariants.{Hopeful, Dual}
 use Rattle.vpg_measure.specs.Lifts.{IsTableOf, IsProgressTable}
 use Rattle.vpg_measure.specs.Least.{IsBelowProgressTables}
 
--- the guarded game whose hopeful game the table is of
+-- the guarded game with the hopeful game that the table is of
 abbrev pub game_for : {Guard : Type 0} → Which → GuardedGame Guard → GuardedGame Guard
 game_for Hopeful game = game
 game_for Dual game = dual game
@@ -33,7 +33,7 @@ pub record IsProgressOf {Guard : Type 0} (value : Guard → Tri) (which : Which)
   pub is_table : IsTableOf (levels_for which game) (arena_for value which game) numbers
   pub settled : IsProgressTable (levels_for which game) (arena_for value which game) numbers
 
--- a table below every progress table of its game: what an order, a harvest and the words of a board hold
+-- a table below every progress table of its game, as an order, a harvest and the words of a board hold
 pub record IsTableBelow {Guard : Type 0} (value : Guard → Tri) (which : Which) (game : GuardedGame Guard)
     (numbers : List ℕ) : Type 0 where
   pub is_table : IsTableOf (levels_for which game) (arena_for value which game) numbers

@@ -11,7 +11,7 @@ use crate::table::Table;
 use vpg_game::Player;
 use vpg_hope::Arena;
 
-/// Values to which a table is to be raised, and the ranks that are to show that no progress table is below them.
+/// Values to which a table is to be raised, with the ranks that show that no progress table is below them.
 #[derive(Drop)]
 pub struct Certificate {
     /// At most the top of the table's shape, one for each vertex.
@@ -70,7 +70,7 @@ fn all_support(
     true
 }
 
-// Whether some edge does.
+// Whether some edge from v to one of these supports the bound of v.
 fn some_supports(
     shape: &Shape,
     dual_shape: &Shape,
@@ -165,10 +165,10 @@ fn raise_all(arena: &Arena, bounds: &Table, table: &mut Table)
     }
 }
 
-/// Raises each value of a table to its bound, where the certificate supports every bound that exceeds the table, and
-/// says whether it does: `specs/Bounds` has what that asks of each edge. Where it does not, the table stays as it was.
-/// Whatever was guessed, the table stays below each progress table that it was below. One pass over the edges; takes no
-/// memory.
+/// Raises each value of a table to its bound, if the certificate supports every bound that exceeds the table, and
+/// returns whether it does. `specs/Bounds` defines this support for each edge. Otherwise the table stays as it was.
+/// Whatever was guessed, the table stays below each progress table that it was below. The call is one pass over the
+/// edges and takes no memory.
 pub fn raise_to_bounds(
     shape: &Shape,
     dual_shape: &Shape,

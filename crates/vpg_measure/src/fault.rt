@@ -10,10 +10,10 @@ pub enum OrderFault {
     /// Some priority is 65,536, so that the game has no dual.
     #[error("AtLimit")]
     AtLimit,
-    /// The decisions have a conflict, which the decision on this feature names. Where the diagram alone has one, its root does.
+    /// The decisions have a conflict, named by this feature. If the diagram alone has one, the feature is its root.
     #[error("Conflict {feature}")]
     Conflict { feature: u16 },
-    /// A growth was refused.
+    /// Memory ran out.
     #[error("Memory")]
     Memory,
 }

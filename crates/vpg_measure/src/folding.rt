@@ -1,5 +1,5 @@
-//! The lift of a vertex from the values of its kept successors, one after another: for lifters that load each value on
-//! its own and have no table. Definitions: `specs/Lifts`, after Jurdzinski 2000.
+//! The lift of a vertex from the values of its kept successors, one after another. It serves lifters that load each
+//! value on its own and have no table. Definitions: `specs/Lifts`, after Jurdzinski 2000.
 
 ghost use Rattle.std.specs.Prelude.{◌≡◌, ℕ, ◌<◌, ◌≤◌, List, [], ◌∷◌, ◌++◌, length, map, slice_index};
 ghost use Rattle.vpg_game.specs.Levels.{top_of};
@@ -10,7 +10,7 @@ use crate::shape::{Shape, prog};
 use vpg_game::Player;
 use vpg_hope::Arena;
 
-/// The best of no values: top where Even moves, 0 where Odd moves.
+/// Returns the best of no values: the top if Even moves, 0 if Odd moves.
 pub fn best_of_none(shape: &Shape, owner: Player) -> u64
     ensures { result ≡ best_for owner (top_of shape.now) [] }
 {
@@ -20,7 +20,7 @@ pub fn best_of_none(shape: &Shape, owner: Player) -> u64
     }
 }
 
-/// The better of the best so far and one more value: the least where Even moves, the greatest where Odd moves.
+/// Returns the better of the best so far and one more value: the least if Even moves, the greatest if Odd moves.
 pub fn better(owner: Player, best: u64, value: u64) -> u64
     ensures { (top : ℕ) (values : List ℕ) → best ≡ best_for owner top values →
         result ≡ best_for owner top (values ++ value ∷ []) }
@@ -31,7 +31,7 @@ pub fn better(owner: Player, best: u64, value: u64) -> u64
     }
 }
 
-/// The lift of a vertex, given the best of its kept successors' values.
+/// Returns the lift of a vertex, given the best of its kept successors' values.
 pub fn lift_to(shape: &Shape, arena: &Arena, v: u32, best: u64) -> u64
     requires vertex { v < length arena.now }
     requires best { best ≤ top_of shape.now }

@@ -1,4 +1,4 @@
-//! What decisions make of a game: what is known of each feature, and the shape and the kept edges of both games.
+//! The games of a page: what is known of each feature, and the shape and the kept edges of both games.
 
 ghost use Rattle.std.specs.Arc.{arc_value};
 ghost use Rattle.std.specs.Prelude.{◌≡◌, ◌↔◌, ℕ, length, map, IfErr, IfOk, Err};
@@ -28,7 +28,7 @@ struct SideGame {
     arena: Arena,
 }
 
-// Not derived, so that letting one go is one call: a derived way would be proved anew at each exit that owns one.
+// Not derived: a derived `drop` would be proved again at each exit that owns such a value.
 impl Drop for SideGame {
     fn drop(self) {
         let SideGame { shape: _, arena: _ } = self;
@@ -58,10 +58,10 @@ impl SideGame {
     }
 }
 
-/// What decisions on features of the diagram make known: all that questions of features alone ask for. They need no
-/// games.
+/// Returns the features that decisions make known, which must be of the diagram. Questions of features alone need no
+/// more, and no games.
 ///
-/// Errors as those of `Partial::close`, in this order: `Conflict` where the decisions have one; `Memory`.
+/// Errors as those of `Partial::close`, in this order: `Conflict` if the decisions have one; `Memory`.
 pub fn known_under(
     alloc: Global,
     diagram: &Diagram,
@@ -74,7 +74,7 @@ pub fn known_under(
     Partial::close(alloc, diagram, decisions)
 }
 
-/// The same for games, where the game has a dual.
+/// Returns the features that decisions make known, if the game has a dual.
 fn known_for(
     alloc: Global,
     game: &GuardedGame,
@@ -93,15 +93,15 @@ fn known_for(
     Ok(known_under(alloc, diagram, decisions)?)
 }
 
-/// What the decisions of a page make of its game: what is known of each feature, and for each of the two tables the
-/// shape of its measures and the edges that its game keeps.
+/// The games that the decisions of a page make of its game. It has what is known of each feature, and for each of the
+/// two tables the shape of its measures and the edges that its game keeps.
 pub struct PageGames {
     known: Partial,
     hopeful: SideGame,
     dual: SideGame,
 }
 
-// Not derived, so that letting one go is one call: a derived way would be proved anew at each exit that owns one.
+// Not derived: a derived `drop` would be proved again at each exit that owns such a value.
 impl Drop for PageGames {
     fn drop(self) {
         let PageGames {
@@ -122,10 +122,10 @@ impl Model for PageGames {
 }
 
 impl PageGames {
-    /// What decisions on features of the diagram make of the game.
+    /// Returns the games that decisions on features of the diagram make of the game.
     ///
-    /// Errors, in this order: `AtLimit` where a priority of the game is 65,536, so that it has no dual; `Conflict`
-    /// where the decisions have one; `Memory`.
+    /// Errors, in this order: `AtLimit` if a priority of the game is 65,536, so that it has no dual; `Conflict` if the
+    /// decisions have one; `Memory`.
     pub fn under(
         alloc: Global,
         game: &GuardedGame,
@@ -141,7 +141,7 @@ impl PageGames {
             (map literal_of decisions.now) f }
     {
         let known = known_for(alloc, game, diagram, decisions)?;
-        // What every game and every diagram keeps, for the proof.
+        // Properties of every game and every diagram, for the proof.
         let _features = (game.vertices(), diagram.features());
         let hopeful = SideGame::of(alloc, Which::Hopeful, game, &known)?;
         let dual = SideGame::of(alloc, Which::Dual, game, &known)?;
@@ -152,8 +152,8 @@ impl PageGames {
         })
     }
 
-    /// What other decisions on features of the diagram make of the same game, from what these make of it: guards are
-    /// looked at only at the vertices that a feature names of which something else is known then.
+    /// Returns the games that other decisions on features of the diagram make of the same game, made from these. Guards
+    /// are looked at only at the vertices that name a feature with another value then.
     ///
     /// Errors as those of `under`.
     pub fn updated(
@@ -173,7 +173,7 @@ impl PageGames {
             (map literal_of decisions.now) f }
     {
         let known = known_under(alloc, diagram, decisions)?;
-        // What every game and every diagram keeps, for the proof.
+        // Properties of every game and every diagram, for the proof.
         let _features = (game.vertices(), diagram.features());
         let arena = &self.hopeful.arena;
         let (kept, kept_of_dual) = arena.both_updated(
@@ -198,21 +198,21 @@ impl PageGames {
         })
     }
 
-    /// The games, to be shared.
+    /// Returns the games, to be shared.
     pub fn share(self, alloc: Global) -> Result<Arc<PageGames>, AllocError>
         ensures { IfOk result (λ shared. arc_value shared ≡ self) }
     {
         Ok(Arc::new(alloc, self)?)
     }
 
-    /// What is known of each feature.
+    /// Returns what is known of each feature.
     pub fn known(&self) -> &Partial
         ensures { result.now ≡ self.now.known }
     {
         &self.known
     }
 
-    /// The shape of the measures of either game.
+    /// Returns the shape of the measures of either game.
     pub fn shape(&self, which: Which) -> &Shape
         ensures { result.now ≡ games_levels which self.now }
     {
@@ -222,7 +222,7 @@ impl PageGames {
         }
     }
 
-    /// The kept edges of either game.
+    /// Returns the kept edges of either game.
     pub fn arena(&self, which: Which) -> &Arena
         ensures { result.now ≡ games_arena which self.now }
     {

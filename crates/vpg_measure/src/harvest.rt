@@ -37,7 +37,7 @@ impl Model for Harvest {
 }
 
 impl Harvest {
-    /// The order as it stands.
+    /// Returns the order as it stands.
     pub fn of_order(order: Order) -> Harvest
         ensures order { IsSameOrder result.order order }
         ensures tables { (which : Which) → harvest_table which result ≡ order_table which order }
@@ -50,7 +50,7 @@ impl Harvest {
         }
     }
 
-    /// The order with one vertex of one table lifted once, where that is greater.
+    /// Returns the order with one vertex of one table lifted once, if that is greater.
     pub fn one(order: Order, which: Which, v: u32) -> Harvest
         requires { v < length order.game.vertices }
         ensures order { IsSameOrder result.order order }
@@ -67,7 +67,7 @@ impl Harvest {
         }
     }
 
-    /// The order with both tables settled by one thread, in this many rounds each at most.
+    /// Returns the order with both tables settled by one thread, in this many rounds each at most.
     pub fn alone(order: Order, rounds: u64) -> Harvest
         ensures order { IsSameOrder result.order order }
         ensures settled { (which : Which) →
@@ -84,7 +84,7 @@ impl Harvest {
         }
     }
 
-    /// The order with these tables, one value for each vertex.
+    /// Returns the order with these tables, one value for each vertex.
     pub fn of(order: Order, hopeful: Vec<u64>, dual: Vec<u64>) -> Harvest
         requires hopeful { IsRaised Which.Hopeful order hopeful.items }
         requires dual { IsRaised Which.Dual order dual.items }
@@ -100,7 +100,7 @@ impl Harvest {
         }
     }
 
-    /// Lifts one vertex of either table once, where that is greater, and says whether its value rose.
+    /// Lifts one vertex of either table once, if that is greater, and returns whether its value rose.
     pub fn raise(&mut self, which: Which, v: u32) -> bool
         requires { v < length self.old.order.game.vertices }
         ensures order { IsSameOrder self.new.order self.old.order }
@@ -116,7 +116,7 @@ impl Harvest {
         self.order.raise_room(which, v)
     }
 
-    /// The order that it came of.
+    /// Returns the order that the harvest came from.
     pub fn order(&self) -> &Order
         ensures order { result.now ≡ self.now.order }
         ensures harvest { IsHarvest self.now }
@@ -124,7 +124,7 @@ impl Harvest {
         &self.order
     }
 
-    /// Either table.
+    /// Returns either table.
     pub fn table(&self, which: Which) -> &Table
         ensures table { result.now ≡ harvest_table which self.now }
         ensures harvest { IsHarvest self.now }
@@ -132,7 +132,7 @@ impl Harvest {
         self.order.room(which)
     }
 
-    /// The value of a vertex in either table.
+    /// Returns the value of a vertex in either table.
     pub fn value(&self, which: Which, v: u32) -> u64
         requires { v < length self.now.order.game.vertices }
         ensures { result ≡ slice_index (harvest_table which self.now) v }
@@ -140,15 +140,15 @@ impl Harvest {
         self.table(which).get(v)
     }
 
-    /// Whether both tables are progress tables. Without a note of it this is a pass over the kept edges, which ends at
-    /// the first vertex that a lift raises.
+    /// Whether both tables are progress tables. Without a note of it, the call is a pass over the kept edges, which
+    /// ends at the first vertex that a lift raises.
     pub fn check(&self) -> bool
         ensures { IsTrue result ↔ IsSettledHarvest self.now }
     {
         self.is_noted || self.looks_settled()
     }
 
-    /// The same with a note that both tables are progress tables: whoever asks again looks at no edge.
+    /// Adds a note that both tables are progress tables: a later `check` looks at no edge.
     pub fn noted(self) -> Harvest
         requires { IsSettledHarvest self }
         ensures { result ≡ self }
@@ -185,7 +185,7 @@ impl Harvest {
         )
     }
 
-    /// The order of the same page with the raised tables.
+    /// Returns the order of the same page with the raised tables.
     pub fn again(self) -> Order
         ensures { IsOrderAgain result self }
     {

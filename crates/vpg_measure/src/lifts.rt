@@ -30,7 +30,7 @@ pub enum StrategyFault {
     /// The table is no progress table.
     #[error("NotSettled")]
     NotSettled,
-    /// A growth was refused.
+    /// Memory ran out.
     #[error("Memory")]
     Memory,
 }
@@ -81,7 +81,7 @@ fn best_prog(shape: &Shape, arena: &Arena, table: &Table, v: u32) -> u64
     }
 }
 
-/// The least number that fits at a vertex, at most top.
+/// Returns the least number that fits at a vertex, at most top.
 pub fn lift(shape: &Shape, arena: &Arena, table: &Table, v: u32) -> u64
     requires vertex { v < length arena.now }
     requires table { IsTableOf shape.now arena.now table.now }
@@ -108,7 +108,7 @@ pub fn is_progress(shape: &Shape, arena: &Arena, table: &Table) -> bool
     true
 }
 
-/// Lifts one vertex, where that is greater, and says whether its value rose.
+/// Lifts one vertex, if that is greater, and returns whether its value rose.
 pub fn raise(shape: &Shape, arena: &Arena, table: &mut Table, v: u32) -> bool
     requires vertex { v < length arena.now }
     requires table { IsTableOf shape.now arena.now table.old }
@@ -128,7 +128,7 @@ pub fn raise(shape: &Shape, arena: &Arena, table: &mut Table, v: u32) -> bool
     }
 }
 
-// Lifts every vertex once, in file order, and says whether a value rose.
+// Lifts every vertex once, in file order, and returns whether a value rose.
 fn lift_all(shape: &Shape, arena: &Arena, table: &mut Table) -> bool
     requires { IsTableOf shape.now arena.now table.old }
     ensures table { IsTableOf shape.now arena.now table.new }
@@ -145,13 +145,13 @@ fn lift_all(shape: &Shape, arena: &Arena, table: &mut Table) -> bool
 }
 
 /// Lifts every vertex once a round, in file order, each seeing earlier raises, until a round raises nothing (`Settled`)
-/// or the rounds run out (`RanOut`, also where none are allowed). No value falls.
+/// or the rounds run out (`RanOut`, also if none are allowed). No value falls.
 pub fn settle_alone(shape: &Shape, arena: &Arena, table: &mut Table, rounds: u64) -> Outcome
     requires { IsTableOf shape.now arena.now table.old }
     ensures after { table.new ≡ after_rounds shape.now arena.now rounds table.old }
     ensures rounds { EndsAs result shape.now arena.now rounds table.old table.new }
 
-    // RanOut never comes where the rounds exceed what all values lack to the top.
+    // `RanOut` never comes if there are more rounds than the values are below the top in sum.
     ensures bound { result ≡ Outcome.RanOut → rounds ≤ sum_by (λ n. top_of shape.now - n) table.old }
     ensures progress { result ≡ Outcome.Settled → IsProgressTable shape.now arena.now table.new }
     ensures table { IsTableOf shape.now arena.now table.new }
@@ -185,7 +185,7 @@ fn first_of(shape: &Shape, table: &Table, kept: &[u32], priority: u32, least: u6
     None
 }
 
-// What the strategy has at a vertex.
+// The strategy's choice at a vertex.
 fn choice(shape: &Shape, arena: &Arena, table: &Table, v: u32) -> Option<u32>
     requires vertex { v < length arena.now }
     requires table { IsTableOf shape.now arena.now table.now }
@@ -206,8 +206,8 @@ fn choice(shape: &Shape, arena: &Arena, table: &Table, v: u32) -> Option<u32>
     }
 }
 
-/// For each vertex of Even below top the first kept successor of least `prog`; `None` at every other vertex. Errors, in
-/// this order: `NotSettled` where the table is no progress table; `Memory`.
+/// Returns for each vertex of Even below top the first kept successor of least `prog`; `None` for every other vertex.
+/// Errors, in this order: `NotSettled` if the table is no progress table; `Memory`.
 pub fn strategy(
     alloc: Global,
     shape: &Shape,

@@ -44,7 +44,7 @@ pub struct Order {
     is_noted: bool,
 }
 
-// Not derived, so that letting one go is one call: a derived way would be proved anew at each exit that owns one.
+// Not derived: a derived `drop` would be proved again at each exit that owns such a value.
 impl Drop for Order {
     fn drop(self) {
         let Order {
@@ -77,7 +77,7 @@ impl Model for Order {
     ghost invariant = { AreFields };
 }
 
-/// An order that is refused, with all that was handed in.
+/// A refused order: the fault, and all that was passed in.
 #[derive(Drop, Error)]
 #[error("{fault}")]
 pub struct Refused {
@@ -89,7 +89,7 @@ pub struct Refused {
     pub dual: Table,
 }
 
-// Written by hand: what is handed back is not shown.
+// Written by hand: the values that are handed back are not shown.
 impl fmt::Debug for Refused {
     fn fmt<W: fmt::Write>(&self, f: &mut fmt::Formatter<W>) -> fmt::Result {
         f.debug_struct("Refused")
@@ -113,7 +113,7 @@ fn two_rooms(
     Ok((hopeful, dual))
 }
 
-// What decisions make of a game, to be shared, and room for its two tables.
+// The games of decisions, to be shared, and room for their two tables.
 fn games_and_room(
     alloc: Global,
     game: &GuardedGame,
@@ -136,10 +136,10 @@ fn games_and_room(
 }
 
 impl Order {
-    /// The order of a page: each table has one value for each vertex, below every progress table of its game.
+    /// Returns the order of a page: each table has one value for each vertex, below every progress table of its game.
     ///
-    /// Errors, in this order: `AtLimit` where a priority of the game is 65,536, so that it has no dual; `Conflict`
-    /// where the decisions have one; `Memory`. All that was handed in comes back beside the fault.
+    /// Errors, in this order: `AtLimit` if a priority of the game is 65,536, so that it has no dual; `Conflict` if the
+    /// decisions have one; `Memory`. All that was passed in comes back with the fault.
     pub fn of(
         alloc: Global,
         game: Arc<GuardedGame>,
@@ -153,7 +153,7 @@ impl Order {
         requires hopeful { IsOpeningTable (arc_value game) (arc_value diagram) decisions.items Which.Hopeful hopeful }
         requires dual { IsOpeningTable (arc_value game) (arc_value diagram) decisions.items Which.Dual dual }
 
-        // It holds what was handed in.
+        // The order holds what was passed in.
         ensures game { IfOk result (λ order. order.game ≡ arc_value game) }
         ensures diagram { IfOk result (λ order. order.diagram ≡ arc_value diagram) }
         ensures decisions { IfOk result (λ order. order.decisions ≡ decisions.items) }
@@ -161,13 +161,13 @@ impl Order {
         ensures dual { IfOk result (λ order. order.dual ≡ dual) }
         ensures order { IfOk result IsOrder }
 
-        // The limit is told wherever a priority is at it, a conflict only where there is one.
+        // `AtLimit` is returned whenever a priority is at the limit, `Conflict` only if there is a conflict.
         ensures at_limit { IfErr result (λ refused. (refused.fault ≡ OrderFault.AtLimit) ↔ IsAtLimit (arc_value game)) }
         ensures conflict { IfErr result (λ refused. (f : ℕ) → refused.fault ≡ OrderFault.Conflict f →
             NamesConflict (clauses_of (arc_value diagram).lines) (counts_of (arc_value diagram).lines)
             (map literal_of decisions.items) f) }
 
-        // What a refused call took comes back.
+        // The arguments of a refused call come back.
         ensures game_back { IfErr result (λ refused. arc_value refused.game ≡ arc_value game) }
         ensures diagram_back { IfErr result (λ refused. arc_value refused.diagram ≡ arc_value diagram) }
         ensures decisions_back { IfErr result (λ refused. refused.decisions.items ≡ decisions.items) }
@@ -197,8 +197,8 @@ impl Order {
         }
     }
 
-    /// The order of a page whose games are made already: they are those of these decisions. No edge is looked at. Each
-    /// table has one value for each vertex, below every progress table of its game.
+    /// Returns the order of a page with games that are made already: they are those of these decisions. No edge is
+    /// looked at. Each table has one value for each vertex, below every progress table of its game.
     pub fn over(
         alloc: Global,
         game: Arc<GuardedGame>,
@@ -235,7 +235,7 @@ impl Order {
         })
     }
 
-    /// The game.
+    /// Returns the game.
     pub fn game(&self) -> &Arc<GuardedGame>
         ensures game { arc_value result.now ≡ self.now.game }
         ensures order { IsOrder self.now }
@@ -243,7 +243,7 @@ impl Order {
         &self.game
     }
 
-    /// The diagram.
+    /// Returns the diagram.
     pub fn diagram(&self) -> &Arc<Diagram>
         ensures diagram { arc_value result.now ≡ self.now.diagram }
         ensures order { IsOrder self.now }
@@ -251,7 +251,7 @@ impl Order {
         &self.diagram
     }
 
-    /// The decisions, in the page's order.
+    /// Returns the decisions, in the page's order.
     pub fn decisions(&self) -> &[Decision]
         ensures decisions { result.now ≡ self.now.decisions }
         ensures order { IsOrder self.now }
@@ -259,7 +259,7 @@ impl Order {
         &self.decisions
     }
 
-    /// What the decisions make of the game.
+    /// Returns the games that the decisions make of the game.
     pub fn games(&self) -> &Arc<PageGames>
         ensures { ArePageGames self.now.game self.now.diagram (map literal_of self.now.decisions)
             (arc_value result.now) }
@@ -267,21 +267,21 @@ impl Order {
         &self.games
     }
 
-    /// The table of the hopeful game.
+    /// Returns the table of the hopeful game.
     pub fn hopeful(&self) -> &Table
         ensures { result.now ≡ self.now.hopeful }
     {
         &self.hopeful
     }
 
-    /// The table of the hopeful game of the dual.
+    /// Returns the table of the hopeful game of the dual.
     pub fn dual(&self) -> &Table
         ensures { result.now ≡ self.now.dual }
     {
         &self.dual
     }
 
-    /// Either table.
+    /// Returns either table.
     pub fn table(&self, which: Which) -> &Table
         ensures table { result.now ≡ order_table which self.now }
         ensures order { IsOrder self.now }
@@ -292,29 +292,29 @@ impl Order {
         }
     }
 
-    /// The shape of the measures of either game.
+    /// Returns the shape of the measures of either game.
     pub fn shape(&self, which: Which) -> &Shape
         ensures { result.now ≡ order_levels which self.now }
     {
         self.games.shape(which)
     }
 
-    /// The kept edges of either game.
+    /// Returns the kept edges of either game.
     pub fn arena(&self, which: Which) -> &Arena
         ensures { result.now ≡ order_arena which self.now }
     {
         self.games.arena(which)
     }
 
-    /// Whether both tables are progress tables. Without a note of it this is a pass over the kept edges, which ends at
-    /// the first vertex that a lift raises.
+    /// Whether both tables are progress tables. Without a note of it, the call is a pass over the kept edges, which
+    /// ends at the first vertex that a lift raises.
     pub fn check(&self) -> bool
         ensures { IsTrue result ↔ IsSettledOrder self.now }
     {
         self.is_noted || self.looks_settled()
     }
 
-    /// The same with a note that both tables are progress tables: whoever asks again looks at no edge.
+    /// Adds a note that both tables are progress tables: a later `check` looks at no edge.
     pub fn noted(self) -> Order
         requires { IsSettledOrder self }
         ensures { result ≡ self }
@@ -340,9 +340,9 @@ impl Order {
     }
 }
 
-// What harvests do with an order's room.
+// The room of an order, for harvests.
 impl Order {
-    /// What stands in the room for either table.
+    /// Returns the table in the room for either table.
     pub(crate) fn room(&self, which: Which) -> &Table
         ensures { result.now ≡ order_room which self.now }
     {
@@ -361,7 +361,7 @@ impl Order {
         self.dual_room.assign(&self.dual);
     }
 
-    /// Lifts a vertex of the table in the room once, where that is greater, and says whether its value rose.
+    /// Lifts a vertex of the table in the room once, if that is greater, and returns whether its value rose.
     pub(crate) fn raise_room(&mut self, which: Which, v: u32) -> bool
         requires vertex { v < length self.old.game.vertices }
         requires table { IsTableOf (order_levels which self.old) (order_arena which self.old)
@@ -406,7 +406,7 @@ impl Order {
         self.dual_room = dual;
     }
 
-    /// The order with the tables in the room for its own, whose memory is the room then.
+    /// Exchanges the tables with those in the room.
     pub(crate) fn exchange_room(&mut self)
         requires { (which : Which) →
             IsTableBelow (kleene self.old.known) which (graph_of self.old.game) (order_room which self.old) }

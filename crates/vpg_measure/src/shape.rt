@@ -21,7 +21,7 @@ pub struct Shape {
     top: u64,
 }
 
-// Not derived, so that letting one go is one call: a derived way would be proved anew at each exit that owns one.
+// Not derived: a derived `drop` would be proved again at each exit that owns such a value.
 impl Drop for Shape {
     fn drop(self) {
         let Shape {
@@ -60,28 +60,29 @@ fn priorities(alloc: Global, game: &GuardedGame, raise: u32) -> Result<Vec<u32>,
 }
 
 impl Shape {
-    /// The shape of the measures of a game.
+    /// Returns the shape of the measures of a game.
     pub fn of(alloc: Global, game: &GuardedGame) -> Result<Shape, AllocError>
         ensures { IfOk result (λ shape. shape ≡ levels_for Which.Hopeful (graph_of game.now)) }
     {
         Shape::raised(alloc, game, 0)
     }
 
-    /// The shape of the measures of its dual, which is not built.
+    /// Returns the shape of the measures of its dual, which is not built.
     pub fn of_dual(alloc: Global, game: &GuardedGame) -> Result<Shape, AllocError>
         ensures { IfOk result (λ shape. shape ≡ levels_for Which.Dual (graph_of game.now)) }
     {
         Shape::raised(alloc, game, 1)
     }
 
-    /// The shape of the measures of the dual's dual: the game's with each priority two greater, so with the game's top.
+    /// Returns the shape of the measures of the dual's dual: the game's with each priority two greater, so with the
+    /// game's top.
     pub fn of_dual_of_dual(alloc: Global, game: &GuardedGame) -> Result<Shape, AllocError>
         ensures { IfOk result (λ shape. shape ≡ levels_of (guarded_priorities (dual (dual (graph_of game.now))))) }
     {
         Shape::raised(alloc, game, 2)
     }
 
-    // The shape of a game whose priorities are each raised by the same number.
+    // The shape of a game with each priority raised by this number.
     fn raised(alloc: Global, game: &GuardedGame, raise: u32) -> Result<Shape, AllocError>
         requires { raise ≤ 2 }
         ensures { IfOk result
@@ -91,7 +92,7 @@ impl Shape {
         Shape::over(alloc, &priorities)
     }
 
-    /// A shape of its own, of the same measures.
+    /// Returns a shape of its own, of the same measures.
     pub(crate) fn copy(&self, alloc: Global) -> Result<Shape, AllocError>
         ensures { IfOk result (λ shape. shape ≡ self.now) }
     {
@@ -102,7 +103,7 @@ impl Shape {
         })
     }
 
-    /// The shape over the priorities of some vertices.
+    /// Returns the shape over the priorities of some vertices.
     pub(crate) fn over(alloc: Global, priorities: &[u32]) -> Result<Shape, AllocError>
         requires { top_of (levels_of priorities.now) ≤ TOP_LIMIT }
         ensures { IfOk result (λ shape. shape ≡ levels_of priorities.now) }
@@ -130,7 +131,7 @@ impl Shape {
         })
     }
 
-    /// The number of the top measure.
+    /// Returns the number of the top measure.
     pub fn top(&self) -> u64
         ensures top { result ≡ top_of self.now }
         ensures limit { result ≤ TOP_LIMIT }
@@ -138,7 +139,7 @@ impl Shape {
         self.top
     }
 
-    /// The product of the radices of the odd priorities below this one: what one more at it counts.
+    /// Returns the product of the radices of the odd priorities below this one: the value of one at this priority.
     pub fn weight(&self, priority: u64) -> u64
         ensures { result ≡ weight_of priority self.now }
     {
@@ -150,7 +151,7 @@ impl Shape {
         }
     }
 
-    // The formula in mixed radix: what stands below the priority is cut off, and an odd priority counts one more.
+    // The formula in mixed radix: the part below the priority is cut off, and an odd priority adds one at its place.
     fn cut(&self, priority: u64, value: u64) -> u64
         requires { value ≤ top_of self.now }
         ensures prog { result ≡ prog_of self.now priority value }
@@ -165,7 +166,8 @@ impl Shape {
     }
 }
 
-/// The least number whose measure fits an edge from a vertex of this priority to one of this value, at most top.
+/// Returns the least number with a measure that fits an edge from a vertex of this priority to one of this value, at
+/// most top.
 pub fn prog(shape: &Shape, priority: u32, value: u64) -> u64
     requires { value ≤ top_of shape.now }
     ensures prog { result ≡ prog_of shape.now priority value }
@@ -177,7 +179,7 @@ pub fn prog(shape: &Shape, priority: u32, value: u64) -> u64
     shape.cut(priority as u64, value)
 }
 
-/// `prog` at the next priority, which is that of the same vertex in the dual.
+/// Returns `prog` at the next priority, that of the same vertex in the dual.
 pub fn next_prog(shape: &Shape, priority: u32, value: u64) -> u64
     requires { value ≤ top_of shape.now }
     ensures prog { result ≡ prog_of shape.now (suc priority) value }

@@ -1,4 +1,4 @@
-//! Whether tables that were settled stay so where something else is known.
+//! Settled tables that stay so when other features are known.
 
 ghost use Rattle.std.specs.Prelude.{◌≡◌, ◌↔◌, length, IfOk, IsTrue};
 ghost use Rattle.vpg_game.specs.Game.{graph_of};
@@ -16,8 +16,8 @@ use vpg_hope::concerned_vertices;
 use vpg_verdict::Which;
 
 impl PageGames {
-    /// Whether both tables, which are progress tables of the games before, are progress tables of these games of the
-    /// same game. Lifts are looked at only at the vertices that name a feature of which something else is known here.
+    /// Whether both tables are progress tables of these games, if they are progress tables of the games before, of the
+    /// same game. Lifts are looked at only at the vertices that name a feature with another value here.
     pub fn stay_settled(
         &self,
         alloc: Global,
@@ -36,7 +36,7 @@ impl PageGames {
         Ok(self.stays(Which::Hopeful, hopeful, &marks) && self.stays(Which::Dual, dual, &marks))
     }
 
-    /// The same for one of the two, by the marks of the vertices that are concerned.
+    /// Whether one of the two stays a progress table, by the marks of the vertices that may change.
     fn stays(&self, which: Which, table: &Table, marks: &[bool]) -> bool
         requires table { IsTableOf (games_levels which self.now) (games_arena which self.now) table.now }
         requires marks { length marks.now ≡ length (games_arena which self.now) }

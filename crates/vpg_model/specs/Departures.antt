@@ -1,10 +1,10 @@
--- Transitions and moves without where they lie in memory, and the codes by which models hold them. This project's own.
+-- Transitions and moves without their places in memory, and the codes by which models hold them. This project's own.
 use Rattle.std.specs.Prelude.{ℕ, refl}
 use Rattle.std.specs.Coded.{Coded, code_by, coded×, coded_ℕ}
 use Rattle.vpg_guards.specs.Formula.{Formula as Guard}
 use Rattle.vpg_guards.specs.Coding.{formula_code}
 
--- a transition from a state that is known
+-- a transition from a known state
 pub record Departure : Type 0 where
   pub action : ℕ
   pub guard : Guard

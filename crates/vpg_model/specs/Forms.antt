@@ -1,4 +1,4 @@
--- What a list of parts stands for: a normal form at each place, in a scope. This project's own.
+-- The normal forms of a list of parts: one at each place, in a scope. This project's own.
 use Rattle.std.specs.Prelude.{◌≡◌, ℕ, ◌<◌, List, ◌∷◌, length, map, filter, drop, Bool, ◌==◌, All}
 use Rattle.vpg_guards.specs.Formula.{Formula as Guard}
 use Rattle.vpg_requirement.specs.Actions.{ActionFormula}
@@ -67,8 +67,8 @@ situation_in form scope pair = situation pair.0 (form pair.1) (scope pair.1)
 abbrev pub HasLabels : ℕ → List (List Departure) → Type 0
 HasLabels labels states = All (λ departures. All (λ t. t.action < labels) departures) states
 
--- Parts that stand behind those that they are parts of, `true` and `false` shared, stand for normal forms, each in its
--- scope.
+-- In a list in which parts come after those that they are parts of, with `true` and `false` shared, parts stand for
+-- normal forms, each in its scope.
 abbrev pub ChainedPartsStand : Type 0
 ChainedPartsStand =
     (labels : ℕ) (sets : List (List Bool)) (parts : List Part) (actions : List ActionFormula) (chain : ℕ → List ℕ) →

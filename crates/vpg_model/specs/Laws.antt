@@ -1,4 +1,4 @@
--- What is said of pairs holds of their situations; so the game is a model of formulas, and decides them. This project's
+-- The facts on pairs hold of their situations; so the game is a model of formulas, and decides them. This project's
 -- own.
 use Rattle.std.specs.Prelude.{◌≡◌, ℕ, ◌<◌, List, [], map, length, Bool, false, slice_index}
 use Rattle.std.specs.List.{AllZip}
@@ -23,8 +23,8 @@ use Rattle.vpg_model.specs.Departures.{Departure}
 use Rattle.vpg_model.specs.Pairs.{pair_for, IsPairGame}
 use Rattle.vpg_model.specs.Forms.{AreDepartures, StandFor, HasLabels, situation_in}
 
--- The game of pairs has a row for each of their situations, and nothing but what can be reached; the vertex of a part
--- at a state has the situation of that part.
+-- The game of pairs has a row for each of their situations, and only what can be reached. The vertex of a part at a
+-- state has the situation of that part.
 abbrev pub PairGameIsBuilt : Type 0
 PairGameIsBuilt = (labels : ℕ) (system : System Guard) (states : List (List Departure)) (sets : List (List Bool))
     (parts : List Part) (form : ℕ → NormalForm) (scope : ℕ → List Binder) → AreDepartures system states →
@@ -35,17 +35,17 @@ PairGameIsBuilt = (labels : ℕ) (system : System Guard) (states : List (List De
     IsBuiltOf Even 0 system (map (situation_in form scope) pairs) game ×
     IsReached system (map (situation_in form scope) roots) (map (situation_in form scope) pairs))
 
--- the situation of each root at the first state stands at the vertex that is named for it
+-- the situation of each root at the first state is at the vertex that is named for it
 abbrev pub AreRooted : ℕ → List ℕ → (ℕ → NormalForm) → (ℕ → List Binder) → List Situation → List ℕ → Type 0
 AreRooted first roots form scope places vertices =
     AllZip (λ k v. (v < length places) × (situation_at places v ≡ situation first (form k) (scope k))) roots vertices
 
--- the normal form has one vertex at most
+-- the normal form has at most one vertex
 abbrev pub HasOneVertex : NormalForm → List Situation → Type 0
 HasOneVertex form places = (u v : ℕ) → u < v → v < length places → (situation_at places u).part ≡ form →
     (situation_at places v).part ≡ form → ⊥
 
--- The game has a row for the situation of each pair, the roots have the vertices that are named, and each situation is
+-- The game has a row for the situation of each pair, and the roots have the vertices that are named. Each situation is
 -- that of a root or can be reached.
 pub record IsGameOf (system : System Guard) (first : ℕ) (roots : List ℕ) (form : ℕ → NormalForm)
     (scope : ℕ → List Binder) (pairs : List (ℕ × ℕ)) (vertices : List ℕ) (game : GuardedGame Guard) : Type 0 where
@@ -57,7 +57,7 @@ pub record IsGameOf (system : System Guard) (first : ℕ) (roots : List ℕ) (fo
   pub one_met : HasOneVertex met (map (situation_in form scope) pairs)
   pub one_unmet : HasOneVertex unmet (map (situation_in form scope) pairs)
 
--- Whatever normal forms the parts stand for, the game is theirs and that of each system with these transitions.
+-- For any normal forms that the parts stand for, the game is theirs and that of each system with these transitions.
 abbrev pub IsGameOfParts : List (List Departure) → List (List Bool) → List Part → ℕ → List ℕ → List (ℕ × ℕ) →
     List ℕ → GuardedGame Guard → Type 0
 IsGameOfParts states sets parts first roots pairs vertices game =
@@ -65,8 +65,8 @@ IsGameOfParts states sets parts first roots pairs vertices game =
     AreDepartures system states → HasLabels labels states → StandFor labels sets parts form scope →
     IsGameOf system first roots form scope pairs vertices game
 
--- The root of this number is the formula's normal form. The chains say in which fixpoints each part stands; a root
--- stands in none. For each set of actions there is an action formula, which permits those of so many that the set has.
+-- The root of this number is the formula's normal form. The chains have the fixpoints around each part; there are none
+-- around a root. For each set of actions there is an action formula, which permits those of this many that the set has.
 pub record IsRootOf (labels : ℕ) (sets : List (List Bool)) (parts : List Part) (roots : List ℕ) (n : ℕ)
     (formula : Formula) : Type 0 where
   pub actions : List ActionFormula
@@ -81,16 +81,17 @@ pub record IsRootOf (labels : ℕ) (sets : List (List Bool)) (parts : List Part)
   -- each variable has a fixpoint, and stands under an even number of negations within it
   pub positive : IsPositive [] false formula
 
--- The lists are those of a system whose transitions lead to its states, by so many actions; this is one of its states.
+-- The lists are those of a system with transitions that lead to its states, by this many actions; this is one of its
+-- states.
 pub record AreOfSystem (labels : ℕ) (system : System Guard) (states : List (List Departure)) (first : ℕ) : Type 0 where
   pub departures : AreDepartures system states
   pub labelled : HasLabels labels states
   pub closed : IsClosedFamily system
   pub state : first < system.states
 
--- The game is a model of the family's system and the formula at this state, over a diagram: it is built from them, and
--- at the vertex stands the formula's situation at the state. Its guards may be written otherwise, each as true in each
--- product. This is all that the theorem on desks' verdicts asks of a game.
+-- The game is a model of the family's system and the formula at this state, over a diagram. It is built from them, and
+-- the vertex has the formula's situation at the state. Its guards may be written otherwise, each as true in each
+-- product. The theorem on desks' verdicts asks no more of a game.
 pub record IsModel (lines : List Line) (game : GuardedGame Guard) (system : System Guard) (formula : Formula)
     (s v : ℕ) : Type 0 where
   pub closed : IsClosedFamily system
@@ -104,8 +105,8 @@ pub record IsModel (lines : List Line) (game : GuardedGame Guard) (system : Syst
   pub vertex : v < length game
   pub root : situation_at places v ≡ situation s (normal_form formula) []
 
--- The game of parts is a model of each formula whose normal form a root is, at the vertex that is named for the root,
--- over each diagram.
+-- The game of parts is a model of each formula with its normal form at a root, at the vertex that is named for the
+-- root, over each diagram.
 abbrev pub GameOfPartsIsModel : Type 0
 GameOfPartsIsModel = (states : List (List Departure)) (sets : List (List Bool)) (parts : List Part) (first : ℕ)
     (roots : List ℕ) (pairs : List (ℕ × ℕ)) (vertices : List ℕ) (game : GuardedGame Guard) →

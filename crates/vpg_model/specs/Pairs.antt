@@ -1,4 +1,4 @@
--- The game whose vertices are pairs of a state and the place of a part, in words of pairs alone: its moves, what can be
+-- The game of pairs of a state and the place of a part, in words of pairs alone: its moves, the pairs that can be
 -- reached, and when it is refused. This project's own.
 use Rattle.std.specs.Prelude.{◌≡◌, ℕ, ◌<◌, ◌⊎◌, List, [], ◌∷◌, length, map, filter, sum_by, Bool, false, All, Contains, slice_index_or}
 use Rattle.std.specs.List.{AllZip}
@@ -17,7 +17,7 @@ use Rattle.vpg_model.specs.Departures.{Departure, PairMove}
 use Rattle.vpg_parts.specs.Parts.{part_at, resolved_part}
 use Rattle.vpg_parts.specs.Sets.{is_permitted}
 
--- the pair of a part: of `true` and `false` that of the shared ones in state 0, of a variable that of its fixpoint
+-- the pair of a part: for `true` and `false` that of the shared ones in state 0, for a variable that of its fixpoint
 abbrev pub pair_by : ℕ → ℕ → Part → ℕ × ℕ
 pair_by s k True = (0, 0)
 pair_by s k False = (0, 1)
@@ -40,7 +40,7 @@ move_under guard to = record { guard = guard; to = to }
 abbrev pub free_to : ℕ × ℕ → PairMove
 free_to to = record { guard = always; to = to }
 
--- the moves to a part by the transitions whose action a set has
+-- the moves to a part by the transitions with an action of a set
 abbrev pub moves_along : List (List Bool) → List Part → ℕ → ℕ → List Departure → List PairMove
 moves_along sets parts x a departures =
     map (λ t. record { guard = t.guard; to = pair_for parts t.target a })
@@ -50,11 +50,11 @@ moves_along sets parts x a departures =
 abbrev pub departures_at : List (List Departure) → ℕ → List Departure
 departures_at states s = slice_index_or states s []
 
--- the guards of all transitions are over so many features, and can be written and read again
+-- the guards of all transitions are over this many features, and can be written and read again
 abbrev pub HaveGuards : ℕ → List (List Departure) → Type 0
 HaveGuards features states = All (λ departures. All (λ t. IsReadable features t.guard) departures) states
 
--- the moves to a part by the transitions from a state whose action a set has
+-- the moves to a part by the transitions from a state with an action of a set
 abbrev pub leaving_moves : List (List Departure) → List (List Bool) → List Part → ℕ → ℕ → ℕ → List PairMove
 leaving_moves states sets parts s x a = moves_along sets parts x a (departures_at states s)
 
@@ -101,19 +101,19 @@ priority_of_part (Variable m) = 0
 abbrev pub pair_at : List (ℕ × ℕ) → ℕ → ℕ × ℕ
 pair_at pairs v = slice_index_or pairs v (0, 0)
 
--- no pair stands there twice
+-- no pair is there twice
 abbrev pub AreDistinct : List (ℕ × ℕ) → Type 0
 AreDistinct pairs = (u v : ℕ) → u < v → v < length pairs → pair_at pairs u ≡ pair_at pairs v → ⊥
 
--- where the moves lead
+-- the targets of the moves
 abbrev pub targets : List PairMove → List (ℕ × ℕ)
 targets moves = map (λ move. move.to) moves
 
--- where the moves from a pair lead
+-- the targets of the moves from a pair
 abbrev pub targets_from : List (List Departure) → List (List Bool) → List Part → ℕ × ℕ → List (ℕ × ℕ)
 targets_from states sets parts pair = targets (pair_moves states sets parts pair)
 
--- each pair is a root, or where a move of an earlier one leads
+-- each pair is a root, or a move of an earlier one leads to it
 abbrev pub AreReached : List (List Departure) → List (List Bool) → List Part → List (ℕ × ℕ) → List (ℕ × ℕ) → Type 0
 AreReached states sets parts roots pairs = (v : ℕ) → v < length pairs → Contains roots (pair_at pairs v) ⊎
     ((u : ℕ) × (u < v) × Contains (targets_from states sets parts (pair_at pairs u)) (pair_at pairs v))
@@ -124,13 +124,13 @@ pub record AreAll (states : List (List Departure)) (sets : List (List Bool)) (pa
   pub started : All (λ pair. Contains pairs pair) roots
   pub closed : All (λ pair. All (λ target. Contains pairs target) (targets_from states sets parts pair)) pairs
 
--- how many moves the pairs have in all
+-- the number of moves of all pairs
 abbrev pub moves_in : List (List Departure) → List (List Bool) → List Part → List (ℕ × ℕ) → ℕ
 moves_in states sets parts pairs = sum_by (λ pair. length (pair_moves states sets parts pair)) pairs
 
 -- ---- the game
 
--- the edge goes to the vertex of the pair where the move goes, under its guard
+-- the edge goes to the vertex of the move's pair, under its guard
 pub record IsPairEdge (pairs : List (ℕ × ℕ)) (move : PairMove) (edge : GuardedEdge Guard) : Type 0 where
   pub guard : edge.guard ≡ move.guard
   pub inside : edge.to < length pairs
@@ -162,7 +162,7 @@ AreNumbered ids = (v : ℕ) → v < length ids → slice_index_or ids v 0 ≡ v
 abbrev pub ArePlaced : List (ℕ × ℕ) → List (ℕ × ℕ) → List ℕ → Type 0
 ArePlaced pairs roots vertices = AllZip (λ pair at. (at < length pairs) × (pair_at pairs at ≡ pair)) roots vertices
 
--- The game of these roots: its vertices are different pairs, each a root or where a move of an earlier one leads.
+-- The game of these roots: its vertices are different pairs; each is a root, or a move of an earlier one leads to it.
 pub record IsPairGame (states : List (List Departure)) (sets : List (List Bool)) (parts : List Part)
     (roots : List (ℕ × ℕ)) (pairs : List (ℕ × ℕ)) (vertices : List ℕ) (game : GuardedGame Guard) : Type 0 where
   pub distinct : AreDistinct pairs
@@ -170,7 +170,7 @@ pub record IsPairGame (states : List (List Departure)) (sets : List (List Bool))
   pub placed : ArePlaced pairs roots vertices
   pub reached : AreReached states sets parts roots pairs
 
--- ---- what is refused
+-- ---- refusals
 
 -- the priorities of the pairs' vertices
 abbrev pub pair_priorities : List Part → List (ℕ × ℕ) → List ℕ
@@ -181,7 +181,7 @@ pair_priorities parts pairs = map (λ pair. priority_of_part (resolved_part part
 abbrev pub AreWithin : List ℕ → Type 0
 AreWithin priorities = All (λ p. p < 65536) priorities × IsNarrow priorities
 
--- Some different pairs can be reached from the roots, of which that holds.
+-- Some different pairs that can be reached from the roots have this property.
 pub record SomeReached (states : List (List Departure)) (sets : List (List Bool)) (parts : List Part)
     (roots : List (ℕ × ℕ)) (P : List (ℕ × ℕ) → Type 0) : Type 0 where
   pub pairs : List (ℕ × ℕ)
@@ -195,8 +195,8 @@ pub record AreTooWide (states : List (List Departure)) (sets : List (List Bool))
   pub all : AreAll states sets parts roots pairs
   pub wide : AreWithin (pair_priorities parts pairs) → ⊥
 
--- why no game is made: more than 65,536 different vertices can be reached; or some that can be have more than 1,048,576
--- moves in all; or the priorities of all are such as no game has that is read
+-- Why no game is made. More than 65,536 different vertices can be reached; or some that can be have more than 1,048,576
+-- moves in all; or no game that is read has the priorities of all.
 abbrev pub IsRefused : List (List Departure) → List (List Bool) → List Part → List (ℕ × ℕ) → ModelFault → Type 0
 IsRefused states sets parts roots faults.TooManyVertices =
     SomeReached states sets parts roots (λ pairs. 65536 < length pairs)

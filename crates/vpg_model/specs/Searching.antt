@@ -1,4 +1,4 @@
--- What the search for the pairs keeps, for private contracts alone.
+-- The state of the search for the pairs, for private contracts alone.
 use Rattle.std.specs.Prelude.{◌≡◌, ℕ, ◌+◌, ◌<◌, ◌≤◌, ◌⊎◌, List, [], ◌∷◌, ◌++◌, length, take, Bool, All, Contains}
 use Rattle.std.specs.List.{AllZip}
 use Rattle.vpg_game.specs.declared.fault.GameFault.{GameFault}
@@ -20,7 +20,7 @@ pub record IsGrown (old new sources : List (ℕ × ℕ)) : Type 0 where
   pub are : All (λ pair. Contains sources pair) added
   pub distinct : AreDistinct old → AreDistinct new
 
--- they have, and are too many now
+-- the pairs have grown so, and are too many now
 pub record IsOvergrown (old new sources : List (ℕ × ℕ)) : Type 0 where
   pub grown : IsGrown old new sources
   pub many : 65536 < length new
@@ -32,7 +32,7 @@ IsGrowthFault old new sources faults.TooManyEdges = ⊥
 IsGrowthFault old new sources faults.TooWide = ⊥
 IsGrowthFault old new sources faults.Memory = Unit {0}
 
--- the pair has this number, and is added at the end where it is new
+-- the pair has this number, and is added at the end if it is new
 pub record IsPlaced (old new : List (ℕ × ℕ)) (pair : ℕ × ℕ) (at : ℕ) : Type 0 where
   pub grown : (new ≡ old) ⊎ (new ≡ old ++ pair ∷ [])
   pub within : at < length new
@@ -40,7 +40,7 @@ pub record IsPlaced (old new : List (ℕ × ℕ)) (pair : ℕ × ℕ) (at : ℕ)
   pub distinct : AreDistinct new
   pub stored : pair_at new at ≡ pair
 
--- the successor names the number of the pair where the move goes, under its guard
+-- the successor names the number of the move's pair, under its guard
 pub record IsPairSuccessor (pairs : List (ℕ × ℕ)) (move : PairMove) (successor : SpelledSuccessor) : Type 0 where
   pub guard : successor.guard ≡ move.guard
   pub inside : successor.id < length pairs
@@ -50,7 +50,7 @@ pub record IsPairSuccessor (pairs : List (ℕ × ℕ)) (move : PairMove) (succes
 abbrev pub ArePairSuccessors : List (ℕ × ℕ) → List PairMove → List SpelledSuccessor → Type 0
 ArePairSuccessors pairs moves successors = AllZip (IsPairSuccessor pairs) moves successors
 
--- the successors of these moves; where they lead was added
+-- the successors of these moves; the pairs that they lead to were added
 pub record AreSuccessors (old new : List (ℕ × ℕ)) (moves : List PairMove) (successors : List SpelledSuccessor) :
     Type 0 where
   pub grown : IsGrown old new (targets moves)
@@ -64,7 +64,7 @@ pub record IsPairEntry (states : List (List Departure)) (sets : List (List Bool)
   pub priority : entry.priority ≡ priority_of_part (resolved_part parts pair.1)
   pub successors : ArePairSuccessors pairs (pair_moves states sets parts pair) entry.successors
 
--- the entry of a pair, with this number; where its moves lead was added
+-- the entry of a pair, with this number; the pairs that its moves lead to were added
 pub record IsNewEntry (states : List (List Departure)) (sets : List (List Bool)) (parts : List Part)
     (old new : List (ℕ × ℕ)) (pair : ℕ × ℕ) (at : ℕ) (entry : SpelledEntry) : Type 0 where
   pub grown : IsGrown old new (targets_from states sets parts pair)
@@ -72,7 +72,7 @@ pub record IsNewEntry (states : List (List Departure)) (sets : List (List Bool))
   pub id : entry.id ≡ at
   pub is : IsPairEntry states sets parts new pair entry
 
--- why there is none, where so many moves had been counted
+-- why there is none, if this many moves had been counted
 abbrev pub IsEntryFault : List (List Departure) → List (List Bool) → List Part → List (ℕ × ℕ) → List (ℕ × ℕ) → ℕ × ℕ →
     ℕ → ModelFault → Type 0
 IsEntryFault states sets parts old new pair count faults.TooManyVertices =
@@ -91,7 +91,7 @@ IsSearchFault states sets parts start faults.TooManyEdges =
 IsSearchFault states sets parts start faults.TooWide = ⊥
 IsSearchFault states sets parts start faults.Memory = Unit {0}
 
--- the pair stands there
+-- the pair is there
 pub record IsPairAt (pairs : List (ℕ × ℕ)) (at : ℕ) (pair : ℕ × ℕ) : Type 0 where
   pub within : at < length pairs
   pub stored : pair_at pairs at ≡ pair
@@ -102,7 +102,7 @@ pub record AreRoots (old new roots : List (ℕ × ℕ)) (vertices : List ℕ) : 
   pub room : length old ≤ 65536 → length new ≤ 65536
   pub each : ArePlaced new roots vertices
 
--- so many entries are there, of pairs that began with these; their moves are as many as were counted
+-- this many entries are there, of pairs that began with these; their moves are as many as were counted
 pub record IsSearched (states : List (List Departure)) (sets : List (List Bool)) (parts : List Part)
     (start pairs : List (ℕ × ℕ)) (entries : List SpelledEntry) (count : ℕ) : Type 0 where
   pub small : length pairs ≤ 65536
@@ -117,7 +117,7 @@ pub record IsSearched (states : List (List Departure)) (sets : List (List Bool))
 
 -- ---- the game of entries
 
--- where successors lead there are entries
+-- the targets of successors have entries
 abbrev pub AreInside : List SpelledEntry → Type 0
 AreInside entries = All (λ entry. All (λ successor. successor.id < length entries) entry.successors) entries
 
@@ -138,7 +138,7 @@ IsGameFault entries faults.TooManyEdges = ⊥
 IsGameFault entries faults.TooWide = AreWithin (entry_priorities entries) → ⊥
 IsGameFault entries faults.Memory = Unit {0}
 
--- why there is no model, where a game could not be made
+-- why there is no model, if a game could not be made
 abbrev pub model_fault : GameFault → ModelFault
 model_fault game_faults.TooWide = faults.TooWide
 model_fault _ = faults.Memory

@@ -1,5 +1,5 @@
--- Games whose guards are written otherwise, so that their three-valued values are known as early as they can be. This
--- project's own.
+-- Games with guards that are written otherwise, so that their three-valued values are known as early as they can be.
+-- This project's own.
 use Rattle.std.specs.Prelude.{◌≡◌, ℕ, List, Bool}
 use Rattle.std.specs.List.{AllZip}
 use Rattle.vpg_guards.specs.Formula.{Formula as Guard, truth}

@@ -16,15 +16,15 @@ transition_in t =
 abbrev pub system_of : NamedSystem → System Guard
 system_of s = record { states = s.states; transitions = map transition_in s.transitions }
 
--- a transition from a state that is known
+-- a transition from a known state
 abbrev pub departure_of : NamedTransition → Departure
 departure_of t = record { action = t.action; guard = t.guard; target = t.target }
 
--- those from a state, in order
+-- the transitions from a state, in order
 abbrev pub departures_from : ℕ → List NamedTransition → List Departure
 departures_from s ts = map departure_of (filter (λ t. t.source == s) ts)
 
--- the lists, one for each of so many states, have the transitions from it
+-- the lists, one for each of this many states, have the transitions from it
 pub record ArePlacedBySource (count : ℕ) (ts : List NamedTransition) (states : List (List Departure)) : Type 0 where
   pub count_is : length states ≡ count
   pub each : (s : ℕ) → s < count → departures_at states s ≡ departures_from s ts

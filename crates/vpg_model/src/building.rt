@@ -13,13 +13,13 @@ use indexmap::IndexSet;
 use std::alloc::Global;
 use vpg_game::{Entry, GuardedGame, Successor};
 
-/// How many vertices a game may have.
+/// The greatest number of vertices of a game.
 pub const MOST_VERTICES: usize = 65_536;
 
-/// How many moves a game may have, before those to the same vertex are joined.
+/// The greatest number of moves of a game, before those to the same vertex are joined.
 pub const MOST_MOVES: usize = 1_048_576;
 
-/// A game, and what its vertices are.
+/// A game, and the pair of each of its vertices.
 #[derive(Drop)]
 pub struct Built {
     /// The state and the part of each vertex.
@@ -30,7 +30,7 @@ pub struct Built {
     pub game: GuardedGame,
 }
 
-/// The vertex of a pair: where it is new, the next one.
+/// Returns the vertex of a pair. A new pair is added at the end.
 fn place(pairs: &mut IndexSet<(u32, u32)>, pair: (u32, u32)) -> Result<usize, ModelFault>
     ensures placed { IfOk result (λ at. IsPlaced pairs.old.keys pairs.new.keys pair at) }
     ensures refused { IfErr result (IsGrowthFault pairs.old.keys pairs.new.keys (pair ∷ [])) }
@@ -44,7 +44,7 @@ fn place(pairs: &mut IndexSet<(u32, u32)>, pair: (u32, u32)) -> Result<usize, Mo
     Ok(at)
 }
 
-/// The successors of a vertex that has these moves.
+/// Returns the successors of a vertex with these moves.
 fn successors(
     alloc: Global,
     pairs: &mut IndexSet<(u32, u32)>,
@@ -66,7 +66,7 @@ fn successors(
     Ok(successors)
 }
 
-/// The vertices of the roots.
+/// Returns the vertices of the roots.
 fn place_roots(
     alloc: Global,
     source: &Source,
@@ -86,7 +86,7 @@ fn place_roots(
     Ok(places)
 }
 
-/// The pair of this number.
+/// Returns the pair of this number.
 fn pair_of(pairs: &IndexSet<(u32, u32)>, at: usize) -> Option<(u32, u32)>
     ensures found { IfSome result (λ pair. IsPairAt pairs.now.keys at pair) }
     ensures none { IfNone result (length pairs.now.keys ≤ at) }
@@ -101,8 +101,8 @@ fn pair_of(pairs: &IndexSet<(u32, u32)>, at: usize) -> Option<(u32, u32)>
     }
 }
 
-/// The entry of a pair, which has this number. What its moves lead to is added to the pairs, and how many they are to
-/// the count.
+/// Returns the entry of a pair, which has this number. The pairs that its moves lead to are added, and their number is
+/// added to the count.
 fn entry(
     alloc: Global,
     source: &Source,
@@ -136,7 +136,7 @@ fn entry(
     })
 }
 
-/// The entries of the pairs and of those that their moves lead to, which are added to them.
+/// Returns the entries of the pairs and of those that their moves lead to, which are added to them.
 fn entries(
     alloc: Global,
     source: &Source,
@@ -163,11 +163,11 @@ fn entries(
     Ok(entries)
 }
 
-/// Returns the game of the requirements whose roots are these parts, from this state on: what can be reached, in the
-/// order of a breadth-first search.
+/// Returns the game of the requirements with these parts as roots, from this state on. It has what can be reached, in
+/// the order of a breadth-first search.
 ///
-/// It has at most 65,536 vertices and 1,048,576 moves, before those to the same vertex are joined. `true` and `false`
-/// have one vertex each, at most. A target that is reached twice has the `or` of its guards, in file order.
+/// The game has at most 65,536 vertices and 1,048,576 moves, before those to the same vertex are joined. `true` and
+/// `false` have at most one vertex each. A target that is reached twice has the `or` of its guards, in file order.
 ///
 /// `TooManyVertices`: more vertices can be reached. `TooManyEdges`: vertices that can be reached have more moves. The
 /// search stops at the first of the two that it meets. Then `TooWide`: a priority is 65,536 or more, or the top measure
@@ -176,17 +176,17 @@ pub fn build(alloc: Global, source: &Source, first: u32, roots: &[u32]) -> Resul
     requires some { 0 < length roots.now }
     requires few_features { source.now.features ≤ 512 }
     requires guards { HaveGuards source.now.features source.now.states.items }
-    // The vertices are pairs, a row for each, and each a root or where a move of an earlier one leads.
+    // The vertices are pairs, a row for each. Each is a root, or a move of an earlier one leads to it.
     ensures pairs { IfOk result (λ built. IsPairGame source.now.states.items source.now.sets.items
         source.now.parts.items (map (pair_for source.now.parts.items first) roots.now) built.pairs.keys
         built.roots.items (graph_of built.game)) }
-    // So it is the game of the system and of the normal forms that the parts stand for.
+    // So it is the game of the system and of the normal forms of the parts.
     ensures game { IfOk result (λ built. IsGameOfParts source.now.states.items source.now.sets.items
         source.now.parts.items first roots.now built.pairs.keys built.roots.items (graph_of built.game)) }
     ensures numbered { IfOk result (λ built. AreNumbered (vertex_ids built.game.vertices)) }
     ensures features { IfOk result (λ built. built.game.features ≡ source.now.features) }
 
-    // It is within the limits, and none is refused but for them.
+    // It is within the limits, and a game is refused only for them.
     ensures small { IfOk result (λ built. length built.pairs.keys ≤ 65536) }
     ensures few { IfOk result (λ built. moves_in source.now.states.items source.now.sets.items source.now.parts.items
         built.pairs.keys ≤ 1048576) }

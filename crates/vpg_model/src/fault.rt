@@ -14,7 +14,7 @@ pub enum ModelFault {
     /// A priority is 65,536 or more, or the top measure of the game or of its dual exceeds 2^62.
     #[error("TooWide")]
     TooWide,
-    /// A growth was refused.
+    /// Memory ran out.
     #[error("Memory")]
     Memory,
 }

@@ -20,7 +20,7 @@ fn are_low(entries: &[Entry]) -> bool
     true
 }
 
-/// Why there is no model, where a game could not be made.
+/// Returns why there is no model, if a game could not be made.
 fn fault_of(fault: GameFault) -> ModelFault
     ensures { result ≡ model_fault fault }
 {
@@ -30,7 +30,7 @@ fn fault_of(fault: GameFault) -> ModelFault
     }
 }
 
-/// The game of entries whose identifiers are their numbers.
+/// Returns the game of entries with their numbers as identifiers.
 pub(crate) fn game_of(
     alloc: Global,
     entries: Vec<Entry>,

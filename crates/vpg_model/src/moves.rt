@@ -27,7 +27,7 @@ impl Model for Move {
     ghost view = { λ m. record { guard = formula_of m.guard; to = m.to } };
 }
 
-/// A move in each product.
+/// Returns a move in each product.
 fn free(to: (u32, u32)) -> Move
     ensures { result ≡ free_to to }
 {
@@ -37,7 +37,7 @@ fn free(to: (u32, u32)) -> Move
     }
 }
 
-/// A move under a guard.
+/// Returns a move under a guard.
 fn guarded(alloc: Global, guard: &Guard, to: (u32, u32)) -> Result<Move, AllocError>
     ensures { IfOk result (λ step. step ≡ move_under (formula_of guard.now) to) }
 {
@@ -48,7 +48,7 @@ fn guarded(alloc: Global, guard: &Guard, to: (u32, u32)) -> Result<Move, AllocEr
 }
 
 impl Source {
-    /// The moves to a part by the transitions from a state whose action the set has.
+    /// Returns the moves to a part by the transitions from a state with an action of the set.
     fn leaving(
         &self,
         alloc: Global,
@@ -72,7 +72,7 @@ impl Source {
         Ok(moves)
     }
 
-    /// The moves from a vertex.
+    /// Returns the moves from a vertex.
     pub(crate) fn moves(&self, alloc: Global, from: (u32, u32)) -> Result<Vec<Move>, AllocError>
         ensures { IfOk result (λ moves. moves.items ≡
             pair_moves self.now.states.items self.now.sets.items self.now.parts.items from) }

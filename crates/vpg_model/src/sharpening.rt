@@ -10,7 +10,7 @@ use vpg_blake::sharp_form;
 use vpg_edges::Edge;
 use vpg_game::{Entry, GuardedGame, Successor};
 
-/// The successor that an edge is.
+/// Returns an edge as a successor, with a sharp guard.
 fn sharp_successor(alloc: Global, edge: &Edge, features: usize) -> Result<Successor, AllocError>
     requires { IsReadable features edge.now.guard }
     ensures { IfOk result (IsSharpSuccessor features edge.now) }
@@ -20,7 +20,7 @@ fn sharp_successor(alloc: Global, edge: &Edge, features: usize) -> Result<Succes
     Ok(Successor { id: edge.to, guard })
 }
 
-/// The successors that edges are.
+/// Returns edges as successors, with sharp guards.
 fn sharp_successors(
     alloc: Global,
     edges: &[Edge],
@@ -36,13 +36,13 @@ fn sharp_successors(
     Ok(successors)
 }
 
-/// The entry of a vertex.
+/// Returns the entry of a vertex.
 fn sharp_entry(alloc: Global, game: &GuardedGame, v: u32) -> Result<Entry, AllocError>
     requires { v < length game.now.vertices }
     ensures { IfOk result (λ entry.
         IsSharpEntry game.now.features (slice_index_or game.now.vertices v no_vertex) entry) }
 {
-    // `vertices` tells what every game keeps.
+    // The contract of `vertices` has the properties of every game.
     let _count = game.vertices();
     let successors = sharp_successors(alloc, game.edges(v), game.features())?;
     Ok(Entry {
@@ -53,7 +53,7 @@ fn sharp_entry(alloc: Global, game: &GuardedGame, v: u32) -> Result<Entry, Alloc
     })
 }
 
-/// The entries of all vertices. The game is let go.
+/// Returns the entries of all vertices, and discards the rest of the game.
 fn sharp_entries(alloc: Global, game: GuardedGame) -> Result<Vec<Entry>, AllocError>
     ensures { IfOk result (λ entries. AreSharpEntries game.features game.vertices entries.items) }
 {
@@ -66,11 +66,11 @@ fn sharp_entries(alloc: Global, game: GuardedGame) -> Result<Vec<Entry>, AllocEr
 }
 
 /// Returns the game with its guards written so that their three-valued values are known as early as they can be
-/// (`sharp_form`). Guards that were joined are the ones that change for the most part: `f | !f` becomes `true`.
+/// (`sharp_form`). It is mostly joined guards that change: `f | !f` becomes `true`.
 pub fn sharpened(alloc: Global, game: GuardedGame) -> Result<GuardedGame, AllocError>
     requires numbered { AreNumbered (vertex_ids game.vertices) }
     requires within { AreWithin (priorities_of game.vertices) }
-    // Each guard is as true in each product as it was, and all else is as it was.
+    // Each guard is as true in each product as before, and all else is unchanged.
     ensures same { IfOk result (λ made. IsSameGame (graph_of game) (graph_of made)) }
     ensures ids { IfOk result (λ made. vertex_ids made.vertices ≡ vertex_ids game.vertices) }
     ensures priorities { IfOk result (λ made. priorities_of made.vertices ≡ priorities_of game.vertices) }
@@ -78,7 +78,7 @@ pub fn sharpened(alloc: Global, game: GuardedGame) -> Result<GuardedGame, AllocE
     // Each guard's value is known as early as it can be, unless the guard is too long for that.
     ensures sharp { IfOk result (λ made. AreSharp game.features (graph_of made)) }
 {
-    // `vertices` tells what every game keeps.
+    // The contract of `vertices` has the properties of every game.
     let _count = game.vertices();
     let features = game.features();
     let entries = sharp_entries(alloc, game)?;

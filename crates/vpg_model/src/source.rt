@@ -1,4 +1,4 @@
-//! What a game is made of: a system, and the parts of requirements.
+//! The source of a game: a system, and the parts of requirements.
 ghost use Rattle.std.specs.Prelude.{◌≡◌, ◌↔◌, IsTrue};
 ghost use Rattle.vpg_parts.specs.Parts.{part_at, resolved_part};
 ghost use Rattle.vpg_parts.specs.Sets.{is_permitted};
@@ -9,7 +9,7 @@ use vpg_guards::Guard;
 use vpg_parts::{FALSE_PLACE, Part, Permitted, TRUE_PLACE};
 use vpg_players::Player;
 
-/// A transition from a state that is known.
+/// A transition from a known state.
 #[derive(Drop)]
 pub struct Transition {
     pub action: u32,
@@ -49,16 +49,16 @@ impl Model for State {
 /// A system, the sets of actions that its requirements name, and the parts of these.
 #[derive(Drop)]
 pub struct Source {
-    /// Over how many features the guards are.
+    /// The number of features that the guards are over.
     pub features: usize,
     pub states: Vec<State>,
     pub sets: Vec<Permitted>,
-    /// `true` and `false` stand first.
+    /// `true` and `false` come first.
     pub parts: Vec<Part>,
 }
 
 impl Source {
-    /// The part at a place. Where there is none, it is `false`.
+    /// Returns the part at a place, or `false` if there is none.
     pub fn part(&self, place: u32) -> Part
         ensures { result ≡ part_at self.now.parts.items place }
     {
@@ -81,7 +81,7 @@ impl Source {
         }
     }
 
-    /// The vertex of a part at a state.
+    /// Returns the vertex of a part at a state.
     pub fn pair_for(&self, state: u32, place: u32) -> (u32, u32)
         ensures { result ≡ pair_for self.now.parts.items state place }
     {
@@ -93,7 +93,7 @@ impl Source {
         }
     }
 
-    /// The part that decides at a place: for a variable it is the fixpoint.
+    /// Returns the part that decides at a place: for a variable that is the fixpoint.
     pub fn resolved_part(&self, place: u32) -> Part
         ensures { result ≡ resolved_part self.now.parts.items place }
     {
@@ -104,7 +104,7 @@ impl Source {
     }
 }
 
-/// Who moves at a part.
+/// Returns who moves at a part.
 pub(crate) fn owner(part: Part) -> Player
     ensures { result ≡ owner_of_part part }
 {
@@ -114,7 +114,7 @@ pub(crate) fn owner(part: Part) -> Player
     }
 }
 
-/// The priority of a part.
+/// Returns the priority of a part.
 pub(crate) fn priority(part: Part) -> u32
     ensures { result ≡ priority_of_part part }
 {

@@ -1,4 +1,4 @@
-//! What a game is made of, from a system that was read.
+//! The source of a game, from a system that was read.
 ghost use Rattle.std.specs.Prelude.{◌≡◌, ◌<◌, ◌++◌, ◌∷◌, [], length, replicate, slice_index_or, slice_set, IfOk};
 ghost use Rattle.vpg_system.specs.System.{IsSystem};
 ghost use Rattle.vpg_system.specs.SystemView.{transition_of, transitions_of};
@@ -11,7 +11,7 @@ use std::alloc::{AllocError, Global};
 use vpg_parts::{Part, Permitted};
 use vpg_system::System;
 
-/// So many states without transitions.
+/// Returns this many states without transitions.
 fn empty_states(alloc: Global, count: u32) -> Result<Vec<State>, AllocError>
     ensures { IfOk result (λ states. states.items ≡ replicate count []) }
 {
@@ -24,7 +24,7 @@ fn empty_states(alloc: Global, count: u32) -> Result<Vec<State>, AllocError>
     Ok(states)
 }
 
-/// The transition of a state that is known.
+/// Returns a transition of the system as one from a known state.
 fn departure(alloc: Global, transition: &vpg_system::Transition) -> Result<Transition, AllocError>
     requires { transition.now.action < 4294967296 }
     ensures { IfOk result (λ departure. departure ≡ departure_of (transition_of transition.now)) }
@@ -47,11 +47,11 @@ fn add(states: &mut Vec<State>, source: u32, departure: Transition) -> Result<()
     Ok(())
 }
 
-/// The transitions from each state.
+/// Returns the transitions from each state.
 fn states_of(alloc: Global, system: &System) -> Result<Vec<State>, AllocError>
     ensures { IfOk result (λ states. ArePlacedBySource system.now.states system.now.transitions states.items) }
 {
-    // `actions` tells that their numbers fit.
+    // The contract of `actions` says that their numbers fit.
     let _actions = system.actions();
     let transitions = system.transitions();
     let mut states = empty_states(alloc, system.states())?;
@@ -63,7 +63,7 @@ fn states_of(alloc: Global, system: &System) -> Result<Vec<State>, AllocError>
 }
 
 impl Source {
-    /// Returns what a game of this system is made of, with these sets of actions and these parts of requirements.
+    /// Returns the source of a game of this system, with these sets of actions and these parts of requirements.
     pub fn of(
         alloc: Global,
         system: &System,
@@ -78,7 +78,7 @@ impl Source {
         ensures sets { IfOk result (λ source. source.sets.items ≡ sets.items) }
         ensures parts { IfOk result (λ source. source.parts.items ≡ parts.items) }
     {
-        // `transitions` tells what every system has.
+        // The contract of `transitions` has the properties of every system.
         let _transitions = system.transitions();
         let states = states_of(alloc, system)?;
         Ok(Source {

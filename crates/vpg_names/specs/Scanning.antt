@@ -1,11 +1,11 @@
--- How a text is gone through, byte by byte: words for private functions. This project's own.
+-- Going through a text, byte by byte, for the contracts of private functions. This project's own.
 use Rattle.std.specs.Prelude.{ℕ, ◌+◌, ◌*◌, min, Bool, if◌then◌else◌, ◌==◌, List, [], ◌∷◌, ◌++◌, Option, Some, None, option_map}
 use Rattle.std.specs.Char.{is_ascii_digit, digit_value}
 use Rattle.vpg_names.specs.Spelled.{no_identifier}
 use Rattle.vpg_names.specs.declared.reading.Mode.{Mode}
 use Rattle.vpg_names.specs.declared.reading.Mode.TheVariants.{Between, Header, Start, Guard, Quoted}
 
--- where it stands, the start, the bytes of the present entry's name, and the names of earlier entries
+-- the mode, the start, the bytes of the present entry's name, and the names of earlier entries
 pub record State : Type 0 where
   pub mode : Mode
   pub start : Option ℕ

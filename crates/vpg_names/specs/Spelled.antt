@@ -3,7 +3,7 @@
 use Rattle.std.specs.Prelude.{ℕ, min, List, [], ◌∷◌, map, Option, Some, None}
 use Rattle.vpg_game.specs.Grammar.{Name, Entry, Heading, File, number_value}
 
--- for each vertex its name, empty where it has none; and the identifier where the game starts
+-- for each vertex its name, empty if it has none; and the identifier where the game starts
 pub record Told : Type 0 where
   pub names : List (List ℕ)
   pub start : Option ℕ
@@ -20,6 +20,6 @@ abbrev pub start_of : Option Heading → Option ℕ
 start_of None = None
 start_of (Some h) = Some (min no_identifier (number_value h.number))
 
--- what a file tells: the names of its entries in order, empty where there is none, and the identifier of its `start`
+-- the names of a file's entries in order, empty if there is none, and the identifier of its `start`
 abbrev pub told_by : File → Told
 told_by f = record { names = name_bytes f.first.name ∷ map (λ e. name_bytes e.name) f.entries; start = start_of f.start }

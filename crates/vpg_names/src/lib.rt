@@ -1,4 +1,4 @@
-//! The names of a game's vertices, and where it starts, as its text tells them.
+//! The names of a game's vertices, and the vertex where it starts, from its text.
 //!
 //! `vpg_game` reads a game and keeps neither. `VertexNames::read` reads the same text once more, and the layers above
 //! use `name` and `start`.

@@ -21,7 +21,7 @@ impl Model for Name {
 
 /// The names of a game's vertices, in file order, each any bytes but `"`, and the identifier where the game starts.
 ///
-/// A vertex whose entry has no name has the empty one.
+/// The name of a vertex is empty if its entry has none.
 #[derive(Drop)]
 pub struct VertexNames {
     pub(crate) names: Vec<Name>,
@@ -37,7 +37,7 @@ impl Model for VertexNames {
 }
 
 impl VertexNames {
-    /// No names and no start.
+    /// Returns the value without names and without a start.
     pub fn none(alloc: Global) -> VertexNames
         ensures names { result.names ≡ [] }
         ensures start { result.start ≡ None }
@@ -48,7 +48,7 @@ impl VertexNames {
         }
     }
 
-    /// The name of a vertex, empty where it has none, or where there are fewer names.
+    /// Returns the name of a vertex, empty if it has none, or if there are fewer names.
     pub fn name(&self, v: u32) -> &[u8]
         ensures { result.now ≡ slice_index_or self.now.names v [] }
     {
@@ -58,8 +58,8 @@ impl VertexNames {
         }
     }
 
-    /// The identifier where the game starts, where its text tells one. 4,294,967,296 stands for all that are greater
-    /// than identifiers are.
+    /// Returns the identifier where the game starts, if its text has a start. 4,294,967,296 stands for any number above
+    /// the identifiers.
     pub fn start(&self) -> Option<u64>
         ensures { result ≡ self.now.start }
     {

@@ -9,7 +9,7 @@ use crate::names::{Name, VertexNames};
 use std::alloc::{AllocError, Global};
 use std::marker::Model;
 
-/// One more than the greatest identifier: what stands for all that are greater.
+/// One more than the greatest identifier. It stands for any greater number.
 const NO_IDENTIFIER: u64 = 4_294_967_296;
 
 /// Where in a text a byte stands.
@@ -22,7 +22,7 @@ enum Mode {
     Quoted,
 }
 
-/// What was read so far.
+/// The state of the scan: the start, the names, and the name being read.
 #[derive(Drop)]
 struct Scanner {
     mode: Mode,
@@ -47,7 +47,7 @@ fn digit(b: u8) -> u64
     (b - b'0') as u64
 }
 
-/// The start with one more digit.
+/// Returns the start with one more digit.
 fn longer(start: Option<u64>, b: u8) -> Option<u64>
     requires digit { is_ascii_digit b ≡ true }
     requires start { IfSome start (λ n. n ≤ no_identifier) }
@@ -71,7 +71,7 @@ impl Scanner {
         }
     }
 
-    /// An entry ends.
+    /// Ends an entry.
     fn end(&mut self, alloc: Global) -> Result<(), AllocError>
         ensures { OnOk result (self.new ≡ at Mode.Between self.old.start [] (self.old.names ++ self.old.name ∷ [])) }
     {
@@ -82,7 +82,7 @@ impl Scanner {
         Ok(())
     }
 
-    /// A byte outside of headings, guards and names.
+    /// Takes a byte outside of headings, guards and names.
     fn between(&mut self, alloc: Global, b: u8) -> Result<(), AllocError>
         requires { self.old.mode ≡ Mode.Between }
         ensures { OnOk result (self.new ≡ between self.old.start self.old.name self.old.names b) }
@@ -103,7 +103,7 @@ impl Scanner {
         Ok(())
     }
 
-    /// A byte of a start.
+    /// Takes a byte of a start.
     fn start(&mut self, b: u8)
         requires mode { self.old.mode ≡ Mode.Start }
         requires start { IfSome self.old.start (λ n. n ≤ no_identifier) }
@@ -116,7 +116,7 @@ impl Scanner {
         }
     }
 
-    /// A byte of a name.
+    /// Takes a byte of a name.
     fn quoted(&mut self, b: u8) -> Result<(), AllocError>
         requires { self.old.mode ≡ Mode.Quoted }
         ensures { OnOk result (self.new ≡ stepped Mode.Quoted self.old.start self.old.name self.old.names b) }
@@ -129,7 +129,7 @@ impl Scanner {
         Ok(())
     }
 
-    /// The next byte.
+    /// Takes the next byte.
     fn step(&mut self, alloc: Global, b: u8) -> Result<(), AllocError>
         requires { IfSome self.old.start (λ n. n ≤ no_identifier) }
         ensures { OnOk result (self.new ≡ step self.old b) }
@@ -165,9 +165,9 @@ fn scan(alloc: Global, text: &[u8]) -> Result<Scanner, AllocError>
 }
 
 impl VertexNames {
-    /// The names and the start that the text of a game tells. Of a text that spells no game it may tell anything.
+    /// Returns the names and the start in the text of a game. If the text spells no game, the result may be anything.
     pub fn read(alloc: Global, text: &[u8]) -> Result<VertexNames, AllocError>
-        // However the text is taken for a game, it tells these.
+        // However the text is read as a game, these are its names and its start.
         ensures told { (features : List (List ℕ)) (file : File) → IsFile features file → text.now ≡ file_text file →
             IfOk result (λ names. names ≡ told_by file) }
     {

@@ -1,4 +1,4 @@
--- How the symbols of normal forms stand in one list, and which part each gives. This project's own.
+-- The symbols of normal forms in one list, and the part of each. This project's own.
 use Rattle.std.specs.Prelude.{◌≡◌, ℕ, suc, ◌+◌, ◌<◌, Option, Some, None, List, [], ◌∷◌, length, slice_index, slice_index_or}
 use Rattle.std.specs.List.{flat_map}
 use Rattle.vpg_parts.specs.declared.symbol.Symbol.{Symbol}
@@ -7,7 +7,7 @@ use Rattle.vpg_parts.specs.declared.part.Part.{Part}
 use Rattle.vpg_parts.specs.declared.part.Part.TheVariants as part
 use Rattle.vpg_parts.specs.Parts.{part_at}
 
--- the symbols of all normal forms, behind `true` and `false`
+-- the symbols of all normal forms, after `true` and `false`
 abbrev pub all_symbols : List (List Symbol) → List Symbol
 all_symbols forms = True ∷ False ∷ flat_map (λ ss. ss) forms
 
@@ -16,12 +16,12 @@ abbrev pub starts_from : ℕ → List (List Symbol) → List ℕ
 starts_from k [] = []
 starts_from k (ss ∷ forms) = k ∷ starts_from (k + length ss) forms
 
--- the variable of a fixpoint; `false`, where there is none
+-- the variable of a fixpoint; `false`, if there is none
 abbrev pub variable_of : Option ℕ → Part
 variable_of None = part.False
 variable_of (Some m) = part.Variable m
 
--- the part that stands where a symbol does
+-- the part at the place of a symbol
 abbrev pub part_of : List ℕ → List (Option ℕ) → List ℕ → ℕ → Symbol → Part
 part_of sizes fixpoints priorities k True = part.True
 part_of sizes fixpoints priorities k False = part.False

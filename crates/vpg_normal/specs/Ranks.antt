@@ -6,40 +6,40 @@ use Rattle.vpg_parts.specs.declared.symbol.Symbol.{Symbol}
 use Rattle.vpg_parts.specs.declared.symbol.Symbol.TheVariants.{True, False, And, Or, SomeStep, EveryStep, Fixpoint, Variable}
 use Rattle.vpg_parts.specs.Parts.{kind_of}
 
--- the greatest priority of a fixpoint that stands behind a place, from one outwards, over so many at most
+-- the greatest priority of a fixpoint after a place, from one outwards, over at most this many
 abbrev pub crossed : List (Option ℕ) → List ℕ → ℕ → ℕ → Option ℕ → ℕ
 crossed scopes priorities low zero from = 0
 crossed scopes priorities low (suc n) None = 0
 crossed scopes priorities low (suc n) (Some k) = if nat_lt low k then
     max (slice_index priorities k) (crossed scopes priorities low n (slice_index_or scopes k None)) else 0
 
--- the number, where this is the fixpoint
+-- the number, if this is the fixpoint
 abbrev pub if_names : ℕ → ℕ → Option ℕ → ℕ
 if_names m n None = 0
 if_names m n (Some k) = if k == m then n else 0
 
--- what the symbol at a place adds to a fixpoint's priority: for its variable, the greatest of those between the two
+-- the share of the symbol at a place in a fixpoint's priority: for its variable, the greatest of those between the two
 abbrev pub share_of : List (Option ℕ) → List (Option ℕ) → List ℕ → ℕ → ℕ → ℕ
 share_of scopes fixpoints priorities m k =
     if_names m (crossed scopes priorities m k (slice_index_or scopes k None)) (slice_index_or fixpoints k None)
 
--- the greatest of the shares of so many symbols, from a place on
+-- the greatest of the shares of this many symbols, from a place on
 abbrev pub greatest_share : List (Option ℕ) → List (Option ℕ) → List ℕ → ℕ → ℕ → ℕ → ℕ
 greatest_share scopes fixpoints priorities m from zero = 0
 greatest_share scopes fixpoints priorities m from (suc n) =
     max (greatest_share scopes fixpoints priorities m from n) (share_of scopes fixpoints priorities m (from + n))
 
--- the places with this one before them, where a fixpoint is named there
+-- the places, with this one before them if a fixpoint is named there
 abbrev pub noted : Option ℕ → ℕ → List ℕ → List ℕ
 noted None k places = places
 noted (Some m) k places = k ∷ places
 
--- the places at which fixpoints are named, among so many from one on
+-- the places at which fixpoints are named, among this many from one on
 abbrev pub named_from : List (Option ℕ) → ℕ → ℕ → List ℕ
 named_from fixpoints from zero = []
 named_from fixpoints from (suc n) = noted (slice_index_or fixpoints from None) from (named_from fixpoints (suc from) n)
 
--- the priority of a fixpoint, from those behind it
+-- the priority of a fixpoint, from those after it
 abbrev pub priority_of : List ℕ → List (Option ℕ) → List (Option ℕ) → List ℕ → ℕ → Symbol → ℕ
 priority_of sizes scopes fixpoints priorities k True = 0
 priority_of sizes scopes fixpoints priorities k False = 0

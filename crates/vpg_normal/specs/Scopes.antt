@@ -3,7 +3,7 @@ use Rattle.std.specs.Prelude.{◌≡◌, ℕ, zero, suc, ◌<◌, Option, Some, 
 use Rattle.vpg_parts.specs.declared.symbol.Symbol.{Symbol}
 use Rattle.vpg_parts.specs.declared.symbol.Symbol.TheVariants.{True, False, And, Or, SomeStep, EveryStep, Fixpoint, Variable}
 
--- the scope of the operand that comes next: its innermost fixpoint; none, where no operand is awaited
+-- the scope of the operand that comes next: its innermost fixpoint; none, if no operand is awaited
 abbrev pub next_scope : List (Option ℕ) → Option ℕ
 next_scope [] = None
 next_scope (scope ∷ awaited) = scope
@@ -25,7 +25,7 @@ scopes_from [] k awaited = []
 scopes_from (s ∷ ss) k awaited =
     next_scope awaited ∷ scopes_from ss (suc k) (operands_of s k (next_scope awaited) (drop 1 awaited))
 
--- the fixpoint that so many others stand between, from one outwards
+-- the fixpoint that is this many others further out, from one outwards
 abbrev pub walked : List (Option ℕ) → ℕ → Option ℕ → Option ℕ
 walked scopes zero from = from
 walked scopes (suc n) None = None

@@ -1,9 +1,9 @@
--- How many symbols each operand has. This project's own.
+-- The number of symbols of each operand. This project's own.
 use Rattle.std.specs.Prelude.{ℕ, suc, ◌+◌, List, [], ◌∷◌, slice_index}
 use Rattle.vpg_parts.specs.declared.symbol.Symbol.{Symbol}
 use Rattle.vpg_parts.specs.declared.symbol.Symbol.TheVariants.{True, False, And, Or, SomeStep, EveryStep, Fixpoint, Variable}
 
--- the size of the operand that begins with this symbol, from the sizes of those that begin behind it
+-- the size of the operand that begins with this symbol, from the sizes of those that begin after it
 abbrev pub size_of : Symbol → List ℕ → ℕ
 size_of True behind = 1
 size_of False behind = 1

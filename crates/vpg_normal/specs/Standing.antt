@@ -1,12 +1,12 @@
--- What is promised of the root of a requirement. This project's own.
+-- The promise for the root of a requirement. This project's own.
 use Rattle.std.specs.Prelude.{◌≡◌, ℕ, List, []}
 use Rattle.vpg_requirement.specs.Actions.{ActionFormula}
 use Rattle.vpg_requirement.specs.NormalForms.{NormalForm}
 use Rattle.vpg_parts.specs.declared.part.Part.{Part}
 use Rattle.vpg_parts.specs.Preorder.{form_of, IsChained}
 
--- The part at a place stands for the normal form: chains say in which fixpoints each part stands, and it stands in
--- none.
+-- The part at a place stands for the normal form. Chains have the fixpoints around each part, and there are none around
+-- this one.
 pub record StandsAt (parts : List Part) (actions : List ActionFormula) (k : ℕ) (form : NormalForm) : Type 0 where
   pub chain : ℕ → List ℕ
   pub chained : IsChained parts chain

@@ -31,7 +31,7 @@ struct Joined {
     roots: Vec<u32>,
 }
 
-/// Returns the symbols of all normal forms, behind `true` and `false`.
+/// Returns the symbols of all normal forms, after `true` and `false`.
 fn join(alloc: Global, forms: &[Spelling]) -> Result<Joined, AllocError>
     requires few { length forms.now ≤ 64 }
     requires short { All (λ ss. length ss ≤ 65536) forms.now }
@@ -48,7 +48,7 @@ fn join(alloc: Global, forms: &[Spelling]) -> Result<Joined, AllocError>
     Ok(Joined { symbols, roots })
 }
 
-/// Returns the part that stands where this symbol does.
+/// Returns the part at the place of this symbol.
 fn part(
     symbol: Symbol,
     place: u32,
@@ -100,7 +100,7 @@ fn parts(
 
 /// Returns the parts of normal forms, in one list, with the least priorities under which their games decide them.
 ///
-/// Symbols that spell no normal form give some parts.
+/// If symbols spell no normal form, the parts are some parts.
 pub fn parts_of(alloc: Global, forms: &[Spelling]) -> Result<Arena, AllocError>
     requires few { length forms.now ≤ 64 }
     requires short { All (λ ss. length ss ≤ 65536) forms.now }

@@ -1,10 +1,10 @@
 //! Requirements from their normal forms: lists of parts, with priorities.
 //!
-//! [`parts_of`] reads normal forms in Polish notation and gives the parts of all in one list, as the builder of games
-//! takes them. An operand begins at once behind its symbol, so each part stands where its symbol does, and passes over
-//! the symbols tell the rest: how many symbols each operand has (`specs/Sizes`), in which fixpoints it stands and which
-//! of them a variable names (`specs/Scopes`), and the priority of each fixpoint (`specs/Ranks`). `specs/Standing` says
-//! what is promised of a root, `specs/Placing` how the symbols stand in one list.
+//! [`parts_of`] reads normal forms in Polish notation and returns the parts of all in one list, as the builder of games
+//! takes them. An operand begins directly after its symbol, so each part is at the place of its symbol. Passes over the
+//! symbols find the rest: the number of symbols of each operand (`specs/Sizes`), the fixpoints around it and which of
+//! them a variable names (`specs/Scopes`), and the priority of each fixpoint (`specs/Ranks`). `specs/Standing` has the
+//! promise for a root, `specs/Placing` the symbols in one list.
 #![tactic(auto)]
 
 mod arena;

@@ -9,7 +9,7 @@ use crate::look::{link_at, number_at};
 use std::alloc::{AllocError, Global};
 use vpg_parts::{Kind, Symbol};
 
-/// Returns the greatest priority of a fixpoint that stands behind this place, from one outwards, over so many at most.
+/// Returns the greatest priority of a fixpoint after this place, from one outwards, over at most this many.
 fn crossed(
     scopes: &[Option<u32>],
     priorities: &[u32],
@@ -34,7 +34,7 @@ fn crossed(
     greatest
 }
 
-/// Returns what the symbol at a place adds to the priority of a fixpoint: where it is the fixpoint's variable, the
+/// Returns the share of the symbol at a place in the priority of a fixpoint: if it is the fixpoint's variable, the
 /// greatest priority of the fixpoints between the two.
 fn share(
     scopes: &[Option<u32>],
@@ -53,9 +53,9 @@ fn share(
     }
 }
 
-/// Returns the greatest priority of a fixpoint inside this one in which its variable stands; 0 where there is none.
+/// Returns the greatest priority of a fixpoint inside this one that has its variable; 0 if there is none.
 ///
-/// Its operand has this size. `variables` has the places of all variables behind the fixpoint, the nearest one last.
+/// Its operand has this size. `variables` has the places of all variables after the fixpoint, the nearest one last.
 fn inner_priority(
     scopes: &[Option<u32>],
     fixpoints: &[Option<u32>],
@@ -82,7 +82,7 @@ fn inner_priority(
     greatest
 }
 
-/// Returns the least priority of this kind's parity that is no less.
+/// Returns the least priority of this kind's parity that is at least this number.
 fn next_priority(kind: Kind, least: u32) -> u32
     requires { least < 4294967295 }
     ensures { result ≡ next_priority (kind_of kind) least }
@@ -98,7 +98,7 @@ fn next_priority(kind: Kind, least: u32) -> u32
     }
 }
 
-/// Returns the priority of the fixpoint at a place, from those behind it; 0 for other symbols.
+/// Returns the priority of the fixpoint at a place, from those after it; 0 for other symbols.
 fn priority(
     symbol: Symbol,
     place: u32,
@@ -125,7 +125,7 @@ fn priority(
     }
 }
 
-/// Adds a place to those of variables, where a fixpoint is named there.
+/// Adds a place to those of variables, if a fixpoint is named there.
 fn note(variables: &mut Vec<u32>, named: Option<u32>, place: u32) -> Result<(), AllocError>
     ensures { IfOk result (λ _. reverse variables.new.items ≡ noted named place (reverse variables.old.items)) }
 {

@@ -28,7 +28,7 @@ fn await_operands(
     Ok(())
 }
 
-/// Returns the innermost fixpoint that each symbol stands in.
+/// Returns the innermost fixpoint around each symbol.
 pub fn scopes(alloc: Global, symbols: &[Symbol]) -> Result<Vec<Option<u32>>, AllocError>
     requires { length symbols.now < 2147483648 }
     ensures { IfOk result (λ scopes. scopes.items ≡ scopes_from symbols.now 0 []) }
@@ -43,7 +43,7 @@ pub fn scopes(alloc: Global, symbols: &[Symbol]) -> Result<Vec<Option<u32>>, All
     Ok(scopes)
 }
 
-/// Returns the fixpoint that so many others stand between: from this one outwards.
+/// Returns the fixpoint that is this many others further out, from this one outwards.
 fn outer(scopes: &[Option<u32>], from: Option<u32>, between: u32) -> Option<u32>
     ensures { result ≡ walked scopes.now between from }
 {

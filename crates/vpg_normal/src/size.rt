@@ -1,4 +1,4 @@
-//! How many symbols each operand has.
+//! The number of symbols of each operand.
 ghost use Rattle.std.specs.Prelude.{◌≡◌, ℕ, ◌-◌, ◌<◌, ◌≤◌, length, slice_index, IfOk};
 ghost use Rattle.vpg_normal.specs.Sizes.{size_of, sizes_of};
 
@@ -6,7 +6,7 @@ use crate::look::number_at;
 use std::alloc::{AllocError, Global};
 use vpg_parts::Symbol;
 
-/// Returns the size of the operand that begins with this symbol, from the sizes of those that begin behind it.
+/// Returns the size of the operand that begins with this symbol, from the sizes of those that begin after it.
 fn size(symbol: Symbol, behind: &[u32]) -> u32
     requires few { length behind.now < 2147483648 }
     requires within { (k : ℕ) → slice_index behind.now k ≤ length behind.now - k }

@@ -10,12 +10,12 @@ use Rattle.vpg_part_texts.specs.declared.wording.Around.TheVariants as around
 
 -- ---- variables
 
--- so many fixpoints, and one more behind a fixpoint
+-- this many fixpoints, and one more after a fixpoint
 abbrev pub count_behind : ℕ → Part → ℕ
 count_behind n (Fixpoint kind p b) = suc n
 count_behind n _ = n
 
--- how many fixpoints stand in front of each place, if this many stand in front of the first
+-- the number of fixpoints in front of each place, if this many are in front of the first
 abbrev pub numbers_from : ℕ → List Part → List ℕ
 numbers_from n [] = []
 numbers_from n (part ∷ parts) = n ∷ numbers_from (count_behind n part) parts
@@ -26,8 +26,8 @@ variable_name n =
     if nat_eq n 0 then codes "X"
     else (if nat_eq n 1 then codes "Y" else (if nat_eq n 2 then codes "Z" else codes "X" ++ decimal n))
 
--- The name of the fixpoint at a place: by how many of the requirement's fixpoints stand in front of it. The
--- requirement's root is the other place.
+-- The name of the fixpoint at a place, by the number of the requirement's fixpoints in front of it. The requirement's
+-- root is the other place.
 abbrev pub fixpoint_name : List ℕ → ℕ → ℕ → List ℕ
 fixpoint_name numbers root k = variable_name (slice_index_or numbers k 0 - slice_index_or numbers root 0)
 
@@ -41,7 +41,7 @@ abbrev pub closed : Bool → List ℕ
 closed true = codes ")"
 closed false = []
 
--- `&&` needs parentheses behind a modality
+-- `&&` needs parentheses after a modality
 abbrev pub encloses_and : Around → Bool
 encloses_and around.Alone = false
 encloses_and around.Either = false
@@ -85,22 +85,22 @@ part_by sets name text within k (Fixpoint kind p b) =
     ++ (codes ". " ++ (text around.Alone b ++ closed (encloses_fixpoint within)))
 part_by sets name text within k (Variable m) = name m
 
--- how many levels of parts a text has
+-- the number of levels of parts in a text
 unfoldable pub most_levels : ℕ
 most_levels = 64
 
--- the text of the part at a place; `..` stands for parts that are so many levels inside
+-- the text of the part at a place; `..` stands for parts that are this many levels inside
 abbrev pub part_text : List Part → List (List ℕ) → (ℕ → List ℕ) → ℕ → Around → ℕ → List ℕ
 part_text parts sets name zero within k = codes ".."
 part_text parts sets name (suc n) within k =
     part_by sets name (part_text parts sets name n) within k (part_at parts k)
 
--- a fixpoint as a vertex has no body: its body has a vertex of its own
+-- the title of a part: a fixpoint as a vertex has no body, since its body has a vertex of its own
 abbrev pub title_by : (ℕ → List ℕ) → List ℕ → ℕ → Part → List ℕ
 title_by name text k (Fixpoint kind p b) = kind_text kind ++ name k
 title_by name text k _ = text
 
--- what the vertex of the part at a place is called
+-- the name of the vertex of the part at a place
 abbrev pub title : List Part → List (List ℕ) → (ℕ → List ℕ) → ℕ → List ℕ
 title parts sets name k =
     title_by name (part_text parts sets name most_levels around.Alone k) k (part_at parts k)

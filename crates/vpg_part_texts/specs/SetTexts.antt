@@ -2,7 +2,7 @@
 use Rattle.std.specs.Prelude.{ℕ, suc, List, [], ◌∷◌, ◌++◌, length, drop, Bool, true, false, nat_le, if◌then◌else◌, codes, slice_index_or}
 use Rattle.std.specs.Bool.{beq}
 
--- what stands in front of an action of the set, or of one that it lacks
+-- the sign in front of an action of the set, or of one that it lacks
 abbrev pub sign_text : Bool → List ℕ
 sign_text true = codes " || "
 sign_text false = codes " && !"
@@ -11,7 +11,7 @@ sign_text false = codes " && !"
 abbrev pub action_text : Bool → List Bool → ℕ → List ℕ → List ℕ
 action_text is_in set n name = if beq (slice_index_or set n false) is_in then sign_text is_in ++ name else []
 
--- The actions of the set, or those that it lacks, each behind its sign; the names are those of the actions from this
+-- The actions of the set, or those that it lacks, each after its sign. The names are those of the actions from this
 -- number on.
 abbrev pub listed : Bool → List Bool → ℕ → List (List ℕ) → List ℕ
 listed is_in set n [] = []

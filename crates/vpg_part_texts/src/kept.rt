@@ -4,10 +4,10 @@ ghost use Rattle.vpg_part_texts.specs.PartTexts.{cut};
 
 use std::alloc::AllocError;
 
-/// The number of bytes that are kept: one more than the longest text has.
+/// The number of bytes that are kept: one more than in the longest text.
 pub(crate) const KEPT: usize = 61;
 
-/// Writes bytes behind a text, as far as they are kept.
+/// Writes bytes after a text, as far as they are kept.
 pub(crate) fn put(bytes: &[u8], out: &mut Vec<u8>) -> Result<(), AllocError>
     requires { length out.old.items ≤ 61 }
     ensures put { OnOk result (out.new.items ≡ take 61 (out.old.items ++ bytes.now)) }
@@ -19,7 +19,7 @@ pub(crate) fn put(bytes: &[u8], out: &mut Vec<u8>) -> Result<(), AllocError>
     Ok(())
 }
 
-/// Cuts a text of which the first bytes are kept.
+/// Cuts a text that has its first bytes kept.
 pub(crate) fn cut(text: &mut Vec<u8>) -> Result<(), AllocError>
     ensures { OnOk result (text.new.items ≡ cut text.old.items) }
 {

@@ -1,8 +1,8 @@
-//! The texts of parts of requirements: what the names of a game's vertices say.
+//! The texts of parts of requirements, for the names of a game's vertices.
 //!
-//! [`set_texts`] gives a text to each set of actions, and [`Wording::text`] one to each part: its formula, in which a
-//! set is its actions, and variables are called X, Y, Z, X3, X4 and so on in the order of their fixpoints. A text has
-//! at most 60 bytes; a longer one is cut. It is for people, and is not read again.
+//! [`set_texts`] gives a text to each set of actions, and [`Wording::text`] one to each part. That is its formula, with
+//! its actions for a set, and with variables called X, Y, Z, X3, X4 and so on in the order of their fixpoints. A text
+//! has at most 60 bytes; a longer one is cut. It is for people, and is not read again.
 //!
 //! The definitions stand in `specs/`: `SetTexts` and `PartTexts`.
 #![tactic(auto)]

@@ -31,14 +31,14 @@ fn has(set: &Permitted, action: usize) -> bool
     }
 }
 
-/// What stands in front of an action of a set, or of one that it lacks.
+/// Returns the sign in front of an action of a set, or of one that it lacks.
 fn sign(is_in: bool) -> &'static [u8]
     ensures { result.now ≡ sign_text is_in }
 {
     if is_in { b" || " } else { b" && !" }
 }
 
-/// Writes the name of an action behind its sign.
+/// Writes the name of an action after its sign.
 fn put_action(
     system: &System,
     action: usize,
@@ -54,7 +54,7 @@ fn put_action(
     Ok(())
 }
 
-/// Returns the actions of a set, or those that it lacks, each behind its sign.
+/// Returns the actions of a set, or those that it lacks, each after its sign.
 fn listed(
     alloc: Global,
     system: &System,
@@ -72,7 +72,7 @@ fn listed(
     Ok(text)
 }
 
-/// Returns a text behind its first four bytes.
+/// Returns a text without its first four bytes.
 fn behind_sign(text: &[u8]) -> &[u8]
     ensures { result.now ≡ drop 4 text.now }
 {

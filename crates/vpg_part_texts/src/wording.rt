@@ -9,14 +9,14 @@ use itoa::Buffer;
 use std::alloc::{AllocError, Global};
 use vpg_parts::{Kind, Part};
 
-/// Returns how many levels of parts a text has.
+/// Returns the number of levels of parts in a text.
 fn most_levels() -> u32
     ensures { result ≡ most_levels }
 {
     64
 }
 
-/// What a part stands in, which says whether it needs parentheses.
+/// The surroundings of a part, which decide whether it needs parentheses.
 #[derive(Clone, Copy, Debug, PartialEq, Eq)]
 enum Around {
     /// Nothing, or a fixpoint.
@@ -47,21 +47,21 @@ impl Around {
     }
 }
 
-/// A parenthesis that opens, if there is one.
+/// Returns an opening parenthesis, or nothing if there is none.
 fn opening(is_enclosed: bool) -> &'static [u8]
     ensures { result.now ≡ opened is_enclosed }
 {
     if is_enclosed { b"(" } else { b"" }
 }
 
-/// A parenthesis that closes, if there is one.
+/// Returns a closing parenthesis, or nothing if there is none.
 fn closing(is_enclosed: bool) -> &'static [u8]
     ensures { result.now ≡ closed is_enclosed }
 {
     if is_enclosed { b")" } else { b"" }
 }
 
-/// The word for a fixpoint.
+/// Returns the word for a fixpoint.
 fn word_of(kind: Kind) -> &'static [u8]
     ensures { result.now ≡ kind_text kind }
 {
@@ -71,7 +71,7 @@ fn word_of(kind: Kind) -> &'static [u8]
     }
 }
 
-/// Returns how many fixpoints stand in front of what is behind a part.
+/// Returns the number of fixpoints in front of the place after a part.
 fn count_behind(count: usize, part: Part) -> usize
     requires { count < usize.MAX }
     ensures value { result ≡ count_behind count part }
@@ -83,7 +83,7 @@ fn count_behind(count: usize, part: Part) -> usize
     }
 }
 
-/// Returns how many fixpoints stand in front of each place.
+/// Returns the number of fixpoints in front of each place.
 pub fn numbers(alloc: Global, parts: &[Part]) -> Result<Vec<usize>, AllocError>
     ensures { IfOk result (λ numbers. numbers.items ≡ numbers_from 0 parts.now) }
 {
@@ -116,21 +116,21 @@ fn put_variable(number: usize, out: &mut Vec<u8>) -> Result<(), AllocError>
     put(buffer.format(number).as_bytes(), out)
 }
 
-/// What texts of the parts of a requirement are made of.
+/// The material of the texts of a requirement's parts.
 #[derive(Clone, Copy)]
 pub struct Wording<'p> {
     /// The parts of all requirements.
     pub parts: &'p [Part],
     /// The texts of the sets of actions that they name.
     pub sets: &'p [Text],
-    /// How many fixpoints stand in front of each place (`numbers`).
+    /// The number of fixpoints in front of each place (`numbers`).
     pub numbers: &'p [usize],
     /// The place of the requirement's root.
     pub root: u32,
 }
 
 impl<'p> Wording<'p> {
-    /// The part at a place. Where there is none, it is `false`.
+    /// Returns the part at a place, or `false` if there is none.
     fn part(&self, place: u32) -> Part
         ensures { result ≡ part_at self.now.parts.now place }
     {
@@ -140,7 +140,7 @@ impl<'p> Wording<'p> {
         }
     }
 
-    /// The text of a set.
+    /// Returns the text of a set.
     fn set(&self, set: u32) -> &[u8]
         ensures { result.now ≡ slice_index_or self.now.sets.now set [] }
     {
@@ -150,7 +150,7 @@ impl<'p> Wording<'p> {
         }
     }
 
-    /// How many fixpoints stand in front of a place.
+    /// Returns the number of fixpoints in front of a place.
     fn number(&self, place: u32) -> usize
         ensures { result ≡ slice_index_or self.now.numbers.now place 0 }
     {
@@ -208,7 +208,7 @@ impl<'p> Wording<'p> {
         self.put_name(place, out)
     }
 
-    /// Writes the part at a place, of at most so many levels.
+    /// Writes the part at a place, of at most this many levels.
     fn put_part(
         &self,
         levels: u32,
@@ -262,7 +262,7 @@ impl<'p> Wording<'p> {
         }
     }
 
-    /// Writes what the vertex of the part at a place is called.
+    /// Writes the name of the vertex of the part at a place.
     fn put_title(&self, place: u32, out: &mut Vec<u8>) -> Result<(), AllocError>
         requires { length out.old.items ≤ 61 }
         ensures { OnOk result (out.new.items ≡ take 61 (out.old.items ++ title self.now.parts.now
@@ -274,8 +274,8 @@ impl<'p> Wording<'p> {
         }
     }
 
-    /// Returns what the vertex of the part at a place is called, in at most 60 bytes: the part, or `mu X` or `nu X` for
-    /// a fixpoint, whose body has a vertex of its own.
+    /// Returns the name of the vertex of the part at a place, in at most 60 bytes. It is the part, or `mu X` or `nu X`
+    /// for a fixpoint, since its body has a vertex of its own.
     pub fn text(&self, alloc: Global, place: u32) -> Result<Vec<u8>, AllocError>
         ensures { IfOk result (λ text. text.items ≡ cut (title self.now.parts.now self.now.sets.now
             (fixpoint_name self.now.numbers.now self.now.root) place)) }

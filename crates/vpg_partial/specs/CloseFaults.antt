@@ -8,7 +8,7 @@ use Rattle.vpg_partial.specs.KnownLaws.{IsRemaining, HasConflictOf}
 use Rattle.vpg_partial.specs.declared.fault.PartialFault.{PartialFault}
 use Rattle.vpg_partial.specs.declared.fault.PartialFault.TheVariants.{Conflict, Memory}
 
--- the conflict has this name; out of memory says nothing of the choices
+-- the conflict has this name; a lack of memory shows nothing about the choices
 abbrev pub IsCloseFault : List Line → List Literal → PartialFault → Type 0
 IsCloseFault lines choices (Conflict feature) = NamesConflict (clauses_of lines) (counts_of lines) choices feature
 IsCloseFault lines choices Memory = ⊤

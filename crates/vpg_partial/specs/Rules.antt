@@ -1,4 +1,4 @@
--- The rules of a diagram, and those that a worklist still has to see to.
+-- The rules of a diagram, and those that a worklist still has to visit.
 use Rattle.std.specs.Prelude.{ℕ, ◌+◌, ◌-◌, ◌<◌, ◌≤◌, ◌≡◌, ◌⊎◌, Bool, false, List, ◌∷◌, [], length, map, Some, slice_get, slice_index_or, Contains, IsTrue}
 use Rattle.vpg_diagram.specs.declared.clause.Literal.{Literal}
 use Rattle.vpg_diagram.specs.Tally.{Tally}
@@ -12,7 +12,7 @@ abbrev pub IsClosedAt : (Literal → Bool) → Rule → Type 0
 IsClosedAt set (AtClause clause) = IsClosedAtClause set clause
 IsClosedAt set (AtCount count) = IsClosedAtCount set count
 
--- a literal that the table lacks, and that each closed set has which has the table's literals
+-- a literal that the table lacks; each closed set with the table's literals has it
 pub record IsMissing (clauses : List (List Literal)) (counts : List Tally) (known : List Tri)
     (l : Literal) : Type 0 where
   pub below : l.feature < length known
@@ -23,7 +23,7 @@ pub record IsMissing (clauses : List (List Literal)) (counts : List Tally) (know
 abbrev pub Awaits : List ℕ → Rule → Type 0
 Awaits waiting rule = (f : ℕ) × Contains waiting f × Contains (features_of rule) f
 
--- the rule adds nothing, unless a feature waits that leads to it
+-- the rule adds nothing, unless a waiting feature leads to it
 abbrev pub IsDone : List Tri → List ℕ → Rule → Type 0
 IsDone known waiting rule = IsClosedAt (literals_in known) rule ⊎ Awaits waiting rule
 
@@ -34,7 +34,8 @@ IsDoneAt clauses counts known waiting number =
 abbrev pub AreDone : List (List Literal) → List Tally → List Tri → List ℕ → Type 0
 AreDone clauses counts known waiting = (number : ℕ) → IsDoneAt clauses counts known waiting number
 
--- From one state of a worklist to a later one: what is added follows, what was done stays done, and no work is made.
+-- From one state of a worklist to a later one: each addition follows, finished rules stay finished, and no work is
+-- made.
 pub record Advances (clauses : List (List Literal)) (counts : List Tally) (known : List Tri) (waiting : List ℕ)
     (more : List Tri) (later : List ℕ) : Type 0 where
   pub grows : Grows (IsClosed clauses counts) known more

@@ -7,11 +7,11 @@ use thiserror::Error;
 /// Why decisions have no table of what is known.
 #[derive(Clone, Copy, Debug, PartialEq, Eq, Error)]
 pub enum PartialFault {
-    /// The decisions have a conflict. It is named by the first decision up to which they have one, and by the root where
-    /// the diagram alone has one.
+    /// The decisions have a conflict. The first decision up to which they have one names it, or the root if the diagram
+    /// alone has one.
     #[error("Conflict {feature}")]
     Conflict { feature: u16 },
-    /// A growth was refused.
+    /// Memory ran out.
     #[error("Memory")]
     Memory,
 }

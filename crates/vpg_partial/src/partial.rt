@@ -1,4 +1,4 @@
-//! What is known of each feature.
+//! The known value of each feature.
 
 ghost use Rattle.std.specs.Prelude.{◌≡◌, ◌↔◌, ◌<◌, Bool, List, length, map, true, IsTrue, IsSome, IfOk, IfErr, IfSome, OnErr, slice_index_or};
 ghost use Rattle.vpg_guards.specs.Known.{AreAllKnown, IsCompletion};
@@ -20,7 +20,7 @@ use std::marker::Model;
 use vpg_diagram::Diagram;
 use vpg_guards::Tri;
 
-/// For each value whether it says that the feature is in.
+/// Returns for each value whether it says that the feature is in.
 fn features_in(alloc: Global, values: &[Tri]) -> Result<Vec<bool>, AllocError>
     ensures { IfOk result (λ features. features.items ≡ map (λ value. is_known_as value true) values.now) }
 {
@@ -33,13 +33,13 @@ fn features_in(alloc: Global, values: &[Tri]) -> Result<Vec<bool>, AllocError>
         .collect(alloc)
 }
 
-/// What is known of each feature of a diagram, in the diagram's order.
+/// The values that are known of each feature of a diagram, in the diagram's order.
 #[derive(Debug)]
 pub struct Partial {
     values: Vec<Tri>,
 }
 
-// Not derived, so that letting one go is one call: a derived way would be proved anew at each exit that owns one.
+// Not derived: a derived `drop` would be proved again at each exit that owns such a value.
 impl Drop for Partial {
     fn drop(self) {
         let Partial { values: _ } = self;
@@ -56,12 +56,13 @@ impl Model for Partial {
 }
 
 impl Partial {
-    /// What the decisions make known: the least set of literals that has each decision and to which neither the unit
-    /// rule at a clause nor the counting rule at a count of the diagram adds anything (this project's own).
+    /// Returns what the decisions make known: the least set of literals that has each decision and is closed under the
+    /// rules. The rules are the unit rule at each clause and the counting rule at each count of the diagram (this
+    /// project's own).
     ///
-    /// Each decision is of a feature of the diagram. Errors, in this order: `Conflict` where a feature is known both
-    /// ways, named by the first decision up to which there is a conflict (by the root, where the diagram alone has
-    /// one); `Memory`.
+    /// Each decision is of a feature of the diagram. Errors, in this order: `Conflict` if a feature is known both ways,
+    /// named by the first decision up to which there is a conflict (by the root, if the diagram alone has one);
+    /// `Memory`.
     pub fn close(
         alloc: Global,
         diagram: &Diagram,
@@ -88,14 +89,14 @@ impl Partial {
         Ok(Partial { values })
     }
 
-    /// What is known of each feature.
+    /// Returns what is known of each feature.
     pub fn values(&self) -> &[Tri]
         ensures { result.now ≡ self.now }
     {
         self.values.as_slice()
     }
 
-    /// What is known of the feature, which is one of the diagram's.
+    /// Returns what is known of the feature, which is one of the diagram's.
     pub fn value(&self, feature: u16) -> Tri
         requires { feature < length self.now }
         ensures { result ≡ slice_index_or self.now feature Unknown }
@@ -112,14 +113,15 @@ impl Partial {
         self.values.iter().all(|value| *value != Tri::Unknown)
     }
 
-    /// Where each feature is known, the one product that agrees with the decisions: for each feature whether it is in.
+    /// Returns the one product that agrees with the decisions, if each feature is known: for each feature whether it is
+    /// in.
     pub fn product(&self, alloc: Global) -> Result<Option<Vec<bool>>, AllocError>
         ensures full { IfOk result (λ found. IsSome found ↔ AreAllKnown (length self.now) self.now) }
         ensures product { (lines : List Line) (choices : List Literal) → IsDiagram lines → AreChoicesOf lines choices →
             IsKnownTable lines choices self.now →
             IfOk result (λ found. IfSome found (λ features. IsOnlyRemaining lines choices features.items)) }
 
-        // Out of memory is answered only where there is a product to be made.
+        // Memory can run out only if there is a product to be made.
         ensures last { OnErr result (AreAllKnown (length self.now) self.now) }
     {
         if !self.is_full() {

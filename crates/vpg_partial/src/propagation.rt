@@ -1,7 +1,7 @@
-//! What decisions make known: a worklist over the rules of a diagram.
+//! Propagation of decisions: a worklist over the rules of a diagram.
 //!
-//! A feature waits once something becomes known of it. Each rule adds nothing, or one of its features waits; a feature
-//! that leaves the list has the rules visited that speak of it. So where no feature waits, no rule adds anything.
+//! A feature waits once something becomes known of it. Each rule adds nothing, or one of its features waits. When a
+//! feature leaves the list, the rules that name it are visited. So if no feature waits, no rule adds anything.
 
 ghost use Rattle.std.specs.Prelude.{◌≡◌, ◌<◌, ℕ, List, [], length, replicate, map, IfErr, OnOk, OnErr, Err, IsTrue, Contains};
 ghost use Rattle.std.specs.List.{AllByRecursion};
@@ -27,7 +27,7 @@ pub(crate) enum Stop {
 }
 
 impl Stop {
-    /// The fault, with the feature that names a contradiction.
+    /// Returns the fault, with the feature that names a contradiction.
     fn named(self, feature: u16) -> PartialFault
         ensures { result ≡ fault_named self feature }
     {

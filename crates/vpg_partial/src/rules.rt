@@ -1,4 +1,4 @@
-//! What one rule adds to what is known.
+//! The literals that one rule adds to what is known.
 
 ghost use Rattle.std.specs.Prelude.{◌≡◌, ◌≢◌, ◌↔◌, ◌&&◌, not, length, IfSome, IfNone, IsTrue, All, Contains, find, count_by};
 ghost use Rattle.std.specs.List.{AllByRecursion};
@@ -22,7 +22,7 @@ pub(crate) fn is_known(known: &[Tri], feature: u16, value: bool) -> bool
     }
 }
 
-/// The first literal that is not known to be false.
+/// Returns the first literal that is not known to be false.
 fn first_open(literals: &[Literal], known: &[Tri]) -> Option<Literal>
     ensures { result ≡ find (λ l. not (literals_in known.now (negation l))) literals.now }
 {
@@ -41,7 +41,7 @@ fn others_false(literals: &[Literal], known: &[Tri], one: Literal) -> bool
         .all(|l| *l == one || is_known(known, l.feature, !l.value))
 }
 
-/// A literal that the unit rule adds at a clause, if there is one.
+/// Returns a literal that the unit rule adds at a clause, if there is one.
 fn missing_at_clause(clause: &Clause, known: &[Tri]) -> Option<Literal>
     requires { IsClauseBelow (length known.now) clause.now }
     ensures missing { IfSome result (IsMissingAtClause clause.now known.now) }
@@ -62,7 +62,7 @@ fn missing_at_clause(clause: &Clause, known: &[Tri]) -> Option<Literal>
     }
 }
 
-/// How many of the members are known to have this value.
+/// Returns the number of members that are known to have this value.
 fn known_members(members: &[u16], known: &[Tri], value: bool) -> usize
     ensures { result ≡ count_by (λ c. literals_in known.now (record { feature = c; value = value })) members.now }
 {
@@ -72,7 +72,7 @@ fn known_members(members: &[u16], known: &[Tri], value: bool) -> usize
         .count()
 }
 
-/// The first member of which nothing is known.
+/// Returns the first unknown member.
 fn first_unknown(members: &[u16], known: &[Tri]) -> Option<u16>
     ensures { result ≡ find (λ c. not (literals_in known.now (feature_in c))
         && not (literals_in known.now (feature_out c))) members.now }
@@ -80,7 +80,7 @@ fn first_unknown(members: &[u16], known: &[Tri]) -> Option<u16>
     members.iter().copied().find(|c| !is_known(known, *c, true) && !is_known(known, *c, false))
 }
 
-/// A literal that the counting rule adds at a count, if there is one.
+/// Returns a literal that the counting rule adds at a count, if there is one.
 fn missing_at_count(count: &Count, known: &[Tri]) -> Option<Literal>
     requires { IsCountBelow (length known.now) count.now }
     ensures missing { IfSome result (IsMissingAtCount count.now known.now) }
@@ -114,7 +114,7 @@ fn missing_at_count(count: &Count, known: &[Tri]) -> Option<Literal>
     }
 }
 
-/// A literal that the rule of this number adds, if there is one. The clauses have the first numbers.
+/// Returns a literal that the rule of this number adds, if there is one. The clauses have the first numbers.
 pub(crate) fn missing_at(
     clauses: &[Clause],
     counts: &[Count],

@@ -1,4 +1,4 @@
--- Lists of parts, and what a look-up gives. This project's own.
+-- Lists of parts, and look-ups in them. This project's own.
 use Rattle.std.specs.Prelude.{◌≡◌, ℕ, List, slice_index_or}
 use Rattle.vpg_requirement.specs.Fixpoints.{Kind, least, greatest}
 use Rattle.vpg_requirement.specs.NormalForms.{NormalForm}
@@ -8,7 +8,7 @@ use Rattle.vpg_parts.specs.declared.part.Kind.TheVariants.{Least, Greatest}
 use Rattle.vpg_parts.specs.declared.part.Part.{Part}
 use Rattle.vpg_parts.specs.declared.part.Part.TheVariants.{True, False, And, Or, SomeStep, EveryStep, Fixpoint, Variable}
 
--- the part at a place; where there is none, it is `false`
+-- the part at a place; if there is none, it is `false`
 abbrev pub part_at : List Part → ℕ → Part
 part_at parts k = slice_index_or parts k False
 

@@ -1,5 +1,4 @@
--- The normal form that each part of a list stands for, where parts stand behind those that they are parts of. This
--- project's own.
+-- The normal form of each part of a list in which parts come after those that they are parts of. This project's own.
 use Rattle.std.specs.Prelude.{◌≡◌, ℕ, zero, suc, ◌<◌, ◌⊎◌, List, [], ◌∷◌, length, map, drop, ◌==◌, if◌then◌else◌}
 use Rattle.vpg_requirement.specs.Actions.{ActionFormula}
 use Rattle.vpg_requirement.specs.NormalForms.{NormalForm, met, unmet, both, either, some_step, every_step, fixpoint, variable}
@@ -11,13 +10,13 @@ use Rattle.vpg_parts.specs.declared.part.Part.TheVariants.{True, False, And, Or,
 use Rattle.vpg_parts.specs.Parts.{part_at, kind_of, binder_of}
 use Rattle.vpg_parts.specs.Sets.{actions_at}
 
--- where a number stands first in a chain
+-- the first place of a number in a chain
 abbrev pub place_in : ℕ → List ℕ → ℕ
 place_in m [] = 0
 place_in m (n ∷ chain) = if n == m then 0 else suc (place_in m chain)
 
--- The normal form of a part, from those of its parts. The chain has the places of the fixpoints that it stands in,
--- innermost first, by which a variable counts to its own.
+-- The normal form of a part, from those of its parts. The chain has the places of the fixpoints around it, innermost
+-- first; a variable counts along it to its own.
 abbrev pub form_step : List ActionFormula → List ℕ → (ℕ → NormalForm) → Part → NormalForm
 form_step actions chain f True = met
 form_step actions chain f False = unmet
@@ -28,13 +27,13 @@ form_step actions chain f (EveryStep x a) = every_step (actions_at actions x) (f
 form_step actions chain f (Fixpoint kind p b) = fixpoint (kind_of kind) p (f b)
 form_step actions chain f (Variable m) = variable (place_in m chain)
 
--- the same with so many levels of parts, and `false` below
+-- the normal form with this many levels of parts, and `false` below
 abbrev pub form_with : List Part → List ActionFormula → (ℕ → List ℕ) → ℕ → ℕ → NormalForm
 form_with parts actions chain zero k = unmet
 form_with parts actions chain (suc n) k =
     form_step actions (chain k) (form_with parts actions chain n) (part_at parts k)
 
--- The normal form that the part at a place stands for. No part has more levels than there are parts.
+-- The normal form of the part at a place. No part has more levels than there are parts.
 abbrev pub form_of : List Part → List ActionFormula → (ℕ → List ℕ) → ℕ → NormalForm
 form_of parts actions chain k = form_with parts actions chain (length parts) k
 
@@ -61,12 +60,12 @@ scope_of parts actions chain k = map (binder_at parts actions chain) (chain k)
 abbrev pub IsLeaf : List Part → ℕ → Type 0
 IsLeaf parts a = (part_at parts a ≡ True) ⊎ (part_at parts a ≡ False)
 
--- a part of the one at place k: it stands behind it, in these fixpoints; or it is `true` or `false`, which all share
+-- a part of the one at place k: it comes after it, in these fixpoints; or it is `true` or `false`, which all share
 abbrev pub IsPartOf : List Part → (ℕ → List ℕ) → ℕ → List ℕ → ℕ → Type 0
 IsPartOf parts chain k inner a = IsLeaf parts a ⊎ ((k < a) × (chain a ≡ inner))
 
--- The parts of this one stand behind it, in the same fixpoints, and the body of a fixpoint in this one too. A variable
--- names a fixpoint that it stands in.
+-- The parts of this one come after it, in the same fixpoints, and the body of a fixpoint in this one too. A variable
+-- names a fixpoint around it.
 abbrev pub IsChainedAt : List Part → (ℕ → List ℕ) → ℕ → Part → Type 0
 IsChainedAt parts chain k True = Unit {0}
 IsChainedAt parts chain k False = Unit {0}
@@ -78,7 +77,6 @@ IsChainedAt parts chain k (Fixpoint kind p b) = IsPartOf parts chain k (k ∷ ch
 IsChainedAt parts chain k (Variable m) = (drop (place_in m (chain k)) (chain k) ≡ m ∷ chain m) ×
     (kind : PartKind) × (p : ℕ) × (b : ℕ) × (part_at parts m ≡ Fixpoint kind p b)
 
--- The chains have the places of the fixpoints that each part stands in, and each part stands behind those that it is a
--- part of.
+-- The chains have the places of the fixpoints around each part, and each part comes after those that it is a part of.
 abbrev pub IsChained : List Part → (ℕ → List ℕ) → Type 0
 IsChained parts chain = (k : ℕ) → IsChainedAt parts chain k (part_at parts k)

@@ -1,5 +1,4 @@
--- Normal forms in Polish notation (Łukasiewicz): a symbol, and then what its operands are written as. This project's
--- own.
+-- Normal forms in Polish notation (Łukasiewicz): a symbol, and then its operands. This project's own.
 use Rattle.std.specs.Prelude.{◌≡◌, ℕ, List, [], ◌∷◌, ◌++◌}
 use Rattle.vpg_requirement.specs.Actions.{ActionFormula}
 use Rattle.vpg_requirement.specs.NormalForms.{NormalForm, met, unmet, both, either, some_step, every_step, fixpoint, variable}
@@ -9,7 +8,7 @@ use Rattle.vpg_parts.specs.declared.symbol.Symbol.TheVariants.{True, False, And,
 use Rattle.vpg_parts.specs.Parts.{kind_of}
 use Rattle.vpg_parts.specs.Sets.{actions_at}
 
--- The symbols are the normal form, where sets of actions stand for these action formulas. Priorities are not written.
+-- The symbols are the normal form, if sets of actions stand for these action formulas. Priorities are not written.
 abbrev pub IsSpelled : List ActionFormula → NormalForm → List Symbol → Type 0
 IsSpelled actions met ss = ss ≡ True ∷ []
 IsSpelled actions unmet ss = ss ≡ False ∷ []

@@ -21,9 +21,9 @@ pub enum Part {
     False,
     And(u32, u32),
     Or(u32, u32),
-    /// Some step by an action of this set leads to where this part holds.
+    /// Some step by an action of this set leads to a state where this part holds.
     SomeStep(u32, u32),
-    /// Each step by an action of this set leads to where this part holds.
+    /// Each step by an action of this set leads to a state where this part holds.
     EveryStep(u32, u32),
     /// A fixpoint with its priority and its body.
     Fixpoint {

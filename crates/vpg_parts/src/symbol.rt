@@ -2,20 +2,20 @@
 use crate::part::Kind;
 use std::marker::Model;
 
-/// A symbol of a normal form in Polish notation. Its operands stand behind it, the first one at once behind.
+/// A symbol of a normal form in Polish notation. Its operands come after it, the first one directly.
 #[derive(Clone, Copy, Debug, PartialEq, Eq)]
 pub enum Symbol {
     True,
     False,
     And,
     Or,
-    /// Some step by an action of this set leads to where the operand holds.
+    /// Some step by an action of this set leads to a state where the operand holds.
     SomeStep(u32),
-    /// Each step by an action of this set leads to where the operand holds.
+    /// Each step by an action of this set leads to a state where the operand holds.
     EveryStep(u32),
     /// A fixpoint, whose operand is its body.
     Fixpoint(Kind),
-    /// A variable: so many fixpoints stand between it and its own.
+    /// A variable: this many fixpoints are between it and its own.
     Variable(u32),
 }
 

@@ -1,4 +1,4 @@
-//! Which lines of a diagram name a feature as the root or as a child.
+//! The lines of a diagram that name a feature as the root or as a child.
 use crate::forms::{Form, LINES, Part, form_of};
 use crate::lines::{Line, Word, lines_of, words_of};
 use std::alloc::{AllocError, Global};
@@ -13,7 +13,7 @@ pub struct Declared<'t> {
     pub line: usize,
 }
 
-/// Where in a line the children stand, behind its first word.
+/// Returns the place of the first child in a line, after its first word.
 fn first_child(form: &Form) -> usize {
     let mut first = form.parts.len();
     for (place, part) in form.parts.iter().enumerate() {
@@ -24,7 +24,7 @@ fn first_child(form: &Form) -> usize {
     first
 }
 
-/// Adds what a line names.
+/// Adds the features that a line names.
 fn declare<'t>(
     line: Line<'t>,
     words: &[Word<'t>],
@@ -49,7 +49,8 @@ fn declare<'t>(
     Ok(())
 }
 
-/// All features that lines name so, in their order, whatever else is wrong with the lines.
+/// Returns all features that lines name as the root or as a child, in their order. Other faults of the lines do not
+/// matter.
 pub fn declared_of<'t>(alloc: Global, text: &'t [u8]) -> Result<Vec<Declared<'t>>, AllocError> {
     let lines = lines_of(alloc, text)?;
     let mut declared = Vec::new(alloc);
@@ -60,7 +61,7 @@ pub fn declared_of<'t>(alloc: Global, text: &'t [u8]) -> Result<Vec<Declared<'t>
     Ok(declared)
 }
 
-/// The first of some that has this name.
+/// Returns the first that has this name.
 pub fn find<'t>(declared: &[Declared<'t>], name: &[u8]) -> Option<Declared<'t>> {
     for it in declared {
         if it.name == name {
@@ -70,7 +71,7 @@ pub fn find<'t>(declared: &[Declared<'t>], name: &[u8]) -> Option<Declared<'t>> 
     None
 }
 
-/// The names of those before a line.
+/// Returns the names of those on lines before this one.
 pub fn names_before<'t>(
     alloc: Global,
     declared: &[Declared<'t>],

@@ -2,7 +2,7 @@
 use crate::lines::Word;
 use vpg_features::is_feature_name;
 
-/// What stands at a place of a line.
+/// A part of a line, by what stands there.
 #[derive(Clone, Copy, PartialEq, Eq)]
 pub enum Part {
     Root,
@@ -18,9 +18,9 @@ pub enum Part {
     Table,
     Vertex,
     Number,
-    /// What is asked why.
+    /// The subject of a `why`: a vertex or a feature.
     Asked,
-    /// What is asserted of the page, or the vertex of which something is.
+    /// The assertion on the page, or the vertex of an assertion.
     Asserted,
     Verdict,
 }
@@ -49,7 +49,7 @@ impl Part {
         )
     }
 
-    /// What is expected there.
+    /// Returns the words for what is expected there.
     pub fn told(self) -> &'static [u8] {
         match self {
             Part::Root => b"the name of the root",
@@ -74,7 +74,7 @@ fn are_digits(word: &[u8]) -> bool {
     word.iter().all(|b| b.is_ascii_digit())
 }
 
-/// The bytes between two quotes.
+/// Returns the bytes between two quotes.
 fn quoted(word: &[u8]) -> Option<&[u8]> {
     match word {
         [b'"', name @ .., b'"'] => Some(name),
@@ -92,7 +92,7 @@ fn is_one_of(word: &[u8], others: &[&'static str]) -> bool {
     others.iter().any(|other| other.as_bytes() == word)
 }
 
-/// A word without the sign in front of it.
+/// Returns a word without the sign in front of it.
 fn without_sign(word: &[u8]) -> &[u8] {
     match word {
         [b'+' | b'-', rest @ ..] => rest,
@@ -100,7 +100,7 @@ fn without_sign(word: &[u8]) -> &[u8] {
     }
 }
 
-/// A kind of line: its first word, how it is written, and what stands behind the first word.
+/// A kind of line: its first word, its written form, and the parts after the first word.
 #[derive(Clone, Copy)]
 pub struct Form {
     pub word: &'static str,
@@ -108,11 +108,12 @@ pub struct Form {
     pub parts: &'static [Part],
     /// How many of the parts may be left out at the end.
     pub optional: usize,
-    /// What each further word is, where there may be any.
+    /// The kind of each further word, if there may be any.
     pub rest: Option<Part>,
 }
 
-/// Where a line departs from its form: the place among its words, and what is expected there, or else the line's end.
+/// The place at which a line departs from its form, among its words, and what is expected there, or else the line's
+/// end.
 #[derive(Clone, Copy)]
 pub struct Departure {
     pub place: usize,
@@ -120,7 +121,7 @@ pub struct Departure {
 }
 
 impl Form {
-    /// Where words, the first of them left out, depart from the form.
+    /// Returns where words depart from the form; the first word of the line is left out.
     pub fn departure(&self, words: &[Word<'_>]) -> Option<Departure> {
         let needed = self.parts.len().saturating_sub(self.optional);
         for (place, part) in self.parts.iter().enumerate() {
@@ -142,7 +143,7 @@ impl Form {
     }
 }
 
-/// The same of the words behind so many, each of which has to be this part, or there may be none.
+/// Returns where the words after this many depart from `rest`: each has to be this part, or there may be none.
 fn departure_behind(words: &[Word<'_>], parts: usize, rest: Option<Part>) -> Option<Departure> {
     for (place, word) in words.iter().enumerate() {
         let is_fit = place < parts || rest.is_some_and(|part| part.fits(word.bytes));
@@ -156,8 +157,8 @@ fn departure_behind(words: &[Word<'_>], parts: usize, rest: Option<Part>) -> Opt
     None
 }
 
-/// The same of the words of an assertion, of which the first is as it should be. At least one verdict follows a vertex;
-/// `full` and `settled` stand alone.
+/// Returns where the words of an assertion depart from its form, if the first is right. At least one verdict follows a
+/// vertex; `full` and `settled` stand alone.
 fn departure_of_asserted(words: &[Word<'_>]) -> Option<Departure> {
     let rest = Some(Part::Verdict);
     match words {
@@ -464,7 +465,7 @@ pub static COMMANDS: [Form; 32] = [
     },
 ];
 
-/// The form that a word begins.
+/// Returns the form of this first word.
 pub fn form_of(forms: &[Form], word: &[u8]) -> Option<Form> {
     for form in forms {
         if form.word.as_bytes() == word {

@@ -24,7 +24,7 @@ pub struct Line<'t> {
 }
 
 impl<'t> Line<'t> {
-    /// Where the byte at an offset of the line stands, or the end of the line where the offset is greater.
+    /// Returns the place of the byte at an offset of the line, or of the end of the line if the offset is greater.
     pub fn place(&self, at: usize) -> Place
         ensures line { result.line ≡ self.now.number }
         ensures column { result.column ≡ column_of (take at self.now.bytes.now) }
@@ -38,7 +38,7 @@ impl<'t> Line<'t> {
     }
 }
 
-/// Where the first line feed stands, or the length where there is none.
+/// Returns the offset of the first line feed, or the length if there is none.
 fn feed_at(text: &[u8]) -> usize
     ensures { result ≡ length (to_line_feed text.now) }
 {
@@ -50,7 +50,7 @@ fn feed_at(text: &[u8]) -> usize
     text.len()
 }
 
-/// What stands behind the first line feed.
+/// Returns the text after the first line feed.
 fn behind_feed(text: &[u8]) -> &[u8]
     ensures { result.now ≡ behind_feed text.now }
 {
@@ -62,7 +62,7 @@ fn behind_feed(text: &[u8]) -> &[u8]
     }
 }
 
-/// What stands behind so many line feeds.
+/// Returns the text after this many line feeds.
 fn behind_feeds(text: &[u8], feeds: usize) -> &[u8]
     ensures { result.now ≡ behind_feeds feeds text.now }
 {
@@ -76,7 +76,7 @@ fn behind_feeds(text: &[u8], feeds: usize) -> &[u8]
     rest
 }
 
-/// The bytes without a carriage return at their end.
+/// Returns the bytes without a carriage return at their end.
 fn without_return(bytes: &[u8]) -> &[u8]
     ensures { (result.now ≡ bytes.now) ⊎ (result.now ++ 13 ∷ [] ≡ bytes.now) }
 {
@@ -86,7 +86,7 @@ fn without_return(bytes: &[u8]) -> &[u8]
     }
 }
 
-/// The line at the front of a text. A line feed may have a carriage return before it.
+/// Returns the line at the front of a text. A line feed may have a carriage return before it.
 fn front_line(text: &[u8]) -> &[u8]
     ensures { (result.now ≡ to_line_feed text.now) ⊎ (result.now ++ 13 ∷ [] ≡ to_line_feed text.now) }
 {
@@ -99,7 +99,7 @@ fn front_line(text: &[u8]) -> &[u8]
     }
 }
 
-/// The line of this number, or an empty one where the text has fewer.
+/// Returns the line of this number, or an empty one if the text has fewer.
 pub fn line_at(text: &[u8], number: usize) -> Line<'_>
     ensures number { result.number ≡ number }
     ensures bytes { IsLine text.now number result.bytes.now }
@@ -112,7 +112,7 @@ pub fn line_at(text: &[u8], number: usize) -> Line<'_>
     }
 }
 
-/// The lines of a text.
+/// Returns the lines of a text.
 pub fn lines_of<'t>(alloc: Global, text: &'t [u8]) -> Result<Vec<Line<'t>>, AllocError> {
     let mut lines = Vec::new(alloc);
     let mut from = 0usize;
@@ -140,7 +140,7 @@ fn is_blank(b: u8) -> bool {
     b == b' ' || b == b'\t'
 }
 
-/// Adds the bytes of a line from one offset to another, where there are any.
+/// Adds the bytes of a line from one offset to another, if there are any.
 fn push_word<'t>(
     line: &'t [u8],
     begin: usize,
@@ -156,7 +156,7 @@ fn push_word<'t>(
     }
 }
 
-/// The place behind a quote that stands here and the next one, or here where there is no other.
+/// Returns the place after the quote here and the next one, or here if there is no other.
 fn behind_quotes(line: &[u8], at: usize) -> usize {
     let next = at.saturating_add(1);
     match line.get(next..) {
@@ -168,8 +168,8 @@ fn behind_quotes(line: &[u8], at: usize) -> usize {
     }
 }
 
-/// The words of a line. Where `marks` says so, a `:` is a word of its own; else a word that begins with a quote goes on
-/// behind the next quote.
+/// Returns the words of a line. If `marks` is set, a `:` is a word of its own; otherwise a word that begins with a
+/// quote goes on after the next quote.
 pub fn words_of<'t>(
     alloc: Global,
     line: &'t [u8],

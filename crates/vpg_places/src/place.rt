@@ -2,7 +2,7 @@
 ghost use Rattle.std.specs.Prelude.{◌≡◌, ◌≤◌, length, take};
 ghost use Rattle.vpg_places.specs.Places.{is_line_feed, begins_character, line_of, column_of, IsWithin};
 
-/// Where a byte of a text stands. Both count from 1, columns by characters of UTF-8.
+/// The place of a byte in a text. Both numbers count from 1, columns by characters of UTF-8.
 #[derive(Clone, Copy, Debug, PartialEq, Eq)]
 pub struct Place {
     pub line: usize,
@@ -22,7 +22,7 @@ pub fn begins_character(b: u8) -> bool
     !(128 <= b && b < 192)
 }
 
-/// Where the byte at an offset stands, or the end of the text where the offset is its length.
+/// Returns the place of the byte at an offset, or of the end of the text if the offset is its length.
 pub fn place_of(text: &[u8], at: usize) -> Place
     requires { at ≤ length text.now }
     ensures line { result.line ≡ line_of (take at text.now) }

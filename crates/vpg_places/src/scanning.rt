@@ -5,13 +5,13 @@ use std::alloc::{AllocError, Global};
 #[derive(Clone, Copy, PartialEq, Eq)]
 enum Mode {
     Between,
-    /// Behind the first letter of `parity` or `start`.
+    /// After the first letter of `parity` or `start`.
     Heading,
     Guard,
     Quoted,
 }
 
-/// What an entry had last, of what it has behind its owner.
+/// The last item of an entry after its owner.
 #[derive(Clone, Copy, PartialEq, Eq)]
 pub enum Last {
     Number,
@@ -26,16 +26,16 @@ pub struct Number {
     /// The offset of its first digit.
     pub at: usize,
     pub value: u64,
-    /// Which of its entry's numbers it is: 1 the identifier, 2 the priority, 3 the owner, 4 and more a successor.
+    /// The place among the entry's numbers: 1 the identifier, 2 the priority, 3 the owner, 4 and more a successor.
     pub place: usize,
 }
 
-/// What the bytes of a text up to a place are.
+/// The state of the scan at a place of a text.
 #[derive(Clone, Copy)]
 pub struct Scan {
     mode: Mode,
     last: Last,
-    /// The present entry has so many numbers.
+    /// The present entry has this many numbers.
     numbers: usize,
     /// Whether an entry or a heading stands before.
     has_begun: bool,
@@ -57,7 +57,7 @@ impl Scan {
         }
     }
 
-    /// A `;` outside of guards and names.
+    /// Takes a `;` outside of guards and names.
     fn end(&mut self) {
         self.mode = Mode::Between;
         self.last = Last::Number;
@@ -70,7 +70,7 @@ impl Scan {
         self.opened = at;
     }
 
-    /// A byte outside of headings, guards and names. Whether a number begins with it.
+    /// Takes a byte outside of headings, guards and names, and returns whether a number begins with it.
     fn between(&mut self, at: usize, b: u8) -> bool {
         let is_first = b.is_ascii_digit() && !self.in_number;
         match b {
@@ -88,7 +88,7 @@ impl Scan {
         is_first
     }
 
-    /// The next byte, at an offset. Whether a number of an entry begins with it.
+    /// Takes the next byte, at an offset, and returns whether a number of an entry begins with it.
     fn step(&mut self, at: usize, b: u8) -> bool {
         let mut is_first = false;
         match self.mode {
@@ -115,7 +115,7 @@ impl Scan {
         is_first
     }
 
-    /// The bytes of a text up to an offset.
+    /// Returns the state of the scan after the bytes of a text up to an offset.
     pub fn of(text: &[u8], at: usize) -> Scan {
         let mut scan = Scan::new();
         for (i, b) in text.iter().enumerate() {
@@ -127,7 +127,7 @@ impl Scan {
         scan
     }
 
-    /// Where the `[` or the `"` stands that is open.
+    /// Returns the place of the open `[` or `"`, if there is one.
     pub fn open_at(&self) -> Option<usize> {
         match self.mode {
             Mode::Guard | Mode::Quoted => Some(self.opened),
@@ -135,7 +135,7 @@ impl Scan {
         }
     }
 
-    /// How many numbers the present entry has, and what it had last; `None` in headings, guards and names.
+    /// Returns how many numbers the present entry has, and its last item; `None` in headings, guards and names.
     pub fn in_entry(&self) -> Option<(usize, Last)> {
         match self.mode {
             Mode::Between => Some((self.numbers, self.last)),
@@ -143,7 +143,7 @@ impl Scan {
         }
     }
 
-    /// What may stand next.
+    /// Returns the words for what may stand next.
     pub fn expected(&self) -> &'static [u8] {
         match (self.mode, self.numbers, self.last) {
             (Mode::Guard, _, _) => b"`]` behind the guard",
@@ -170,7 +170,7 @@ fn digit(b: u8) -> u64 {
     b.saturating_sub(b'0') as u64
 }
 
-/// The numbers of all entries in a text, or their identifiers alone.
+/// Returns the numbers of all entries in a text, or their identifiers alone.
 pub fn numbers_of(
     alloc: Global,
     text: &[u8],
@@ -197,7 +197,7 @@ pub fn numbers_of(
     Ok(numbers)
 }
 
-/// The offset of the number of the `start` heading, where there is one.
+/// Returns the offset of the number of the `start` heading, if there is one.
 pub fn start_at(text: &[u8]) -> usize {
     let mut scan = Scan::new();
     for (at, b) in text.iter().enumerate() {

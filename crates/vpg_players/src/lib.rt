@@ -1,6 +1,6 @@
 //! The two players of a parity game.
 //!
-//! Games, what plain games keep of them, and the solvers of flat games speak of players, and need no more in common.
+//! Games, plain games and the solvers of flat games share this crate: all they have in common is the players.
 //!
 //! The definitions stand in `specs/Players`: the other player, and the parity with which each wins.
 #![tactic(auto)]

@@ -11,7 +11,7 @@ impl Player {
     ghost use Rattle.std.specs.Prelude.{◌≡◌};
     ghost use Rattle.vpg_players.specs.Players.{opponent};
 
-    /// The other player.
+    /// Returns the other player.
     pub fn opponent(self) -> Player
         ensures { result ≡ opponent self }
     {

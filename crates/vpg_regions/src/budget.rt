@@ -1,6 +1,6 @@
-//! How much a guess may still look at.
+//! The work that a guess may still do.
 
-/// How many edges and vertices may still be looked at.
+/// The number of edges and vertices that may still be looked at.
 #[derive(Drop)]
 pub struct Budget {
     left: u64,
@@ -11,7 +11,7 @@ impl Budget {
         Budget { left }
     }
 
-    /// How many are left.
+    /// Returns the number that is left.
     pub fn left(&self) -> u64 {
         self.left
     }
@@ -20,24 +20,24 @@ impl Budget {
         self.left == 0
     }
 
-    /// Spends what looking at so many edges and vertices costs.
+    /// Spends the cost of looking at this many edges and vertices.
     pub fn spend(&mut self, looked: usize) {
         self.left = self.left.saturating_sub(looked as u64);
     }
 
-    /// At most so much of it, as a budget of its own.
+    /// Takes at most this much of it, as a budget of its own.
     pub fn take(&mut self, most: u64) -> Budget {
         let part = most.min(self.left);
         self.left = self.left.saturating_sub(part);
         Budget { left: part }
     }
 
-    /// Half of it, as a budget of its own.
+    /// Takes half of it, as a budget of its own.
     pub fn take_half(&mut self) -> Budget {
         self.take(self.left / 2)
     }
 
-    /// Gives back what is left of a part that was taken.
+    /// Gives back the rest of a part that was taken.
     pub fn give_back(&mut self, part: Budget) {
         self.left = self.left.saturating_add(part.left);
     }

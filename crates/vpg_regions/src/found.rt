@@ -1,13 +1,13 @@
 //! Lists that grow.
 use std::alloc::{AllocError, Global};
 
-/// A list that grows. What memory was refused for is left out; that is noted, and told at the end.
+/// A list that grows. An item without memory is left out; that is noted, and reported at the end.
 pub struct Found<T> {
     items: Vec<T>,
     is_refused: bool,
 }
 
-// Not derived, so that letting one go is one call: a derived way would be proved anew at each exit that owns one.
+// Not derived: a derived `drop` would be proved again at each exit that owns such a value.
 impl<T: Drop> Drop for Found<T> {
     fn drop(self) {
         let Found {
@@ -18,12 +18,12 @@ impl<T: Drop> Drop for Found<T> {
 }
 
 impl<T: Copy> Found<T> {
-    /// Nothing yet.
+    /// Returns the empty list.
     pub fn none(alloc: Global) -> Found<T> {
         Found::with(Vec::new(alloc))
     }
 
-    /// These first.
+    /// Returns the list that begins with these.
     pub fn with(items: Vec<T>) -> Found<T> {
         Found {
             items,
@@ -31,34 +31,34 @@ impl<T: Copy> Found<T> {
         }
     }
 
-    /// Adds one more. Where memory is refused it is left out, which is noted.
+    /// Adds one more. If memory is refused, it is left out, and this is noted.
     pub fn add(&mut self, item: T) {
         if self.items.push(item).is_err() {
             self.is_refused = true;
         }
     }
 
-    /// Takes the last one away.
+    /// Takes the last one off.
     pub fn pop(&mut self) -> Option<T> {
         self.items.pop()
     }
 
-    /// Takes all away. That something was left out stays noted.
+    /// Empties the list. A note that something was left out stays.
     pub fn clear(&mut self) {
         self.items.clear();
     }
 
-    /// How many there are.
+    /// Returns the number of items.
     pub fn len(&self) -> usize {
         self.items.len()
     }
 
-    /// The one at this place, from 0.
+    /// Returns the one at this place, from 0.
     pub fn get(&self, at: usize) -> Option<T> {
         self.items.get(at).copied()
     }
 
-    /// What was found until now.
+    /// Returns the items found so far.
     pub fn items(&self) -> &[T] {
         &self.items
     }
@@ -68,7 +68,7 @@ impl<T: Copy> Found<T> {
         self.is_refused
     }
 
-    /// The whole list, or that memory was refused.
+    /// Returns the whole list, or that memory was refused.
     pub fn list(self) -> Result<Vec<T>, AllocError> {
         let Found { items, is_refused } = self;
         if is_refused {

@@ -1,4 +1,4 @@
-//! Flat parity games: what guesses are made over.
+//! Flat parity games, for guesses.
 use crate::per_vertex::PerVertex;
 use std::alloc::{AllocError, Global};
 use vpg_players::Player;
@@ -10,7 +10,7 @@ struct Lists {
     items: Vec<u32>,
 }
 
-// Not derived, so that letting one go is one call: a derived way would be proved anew at each exit that owns one.
+// Not derived: a derived `drop` would be proved again at each exit that owns such a value.
 impl Drop for Lists {
     fn drop(self) {
         let Lists { ends: _, items: _ } = self;
@@ -38,14 +38,14 @@ impl Lists {
         }
     }
 
-    // The list of the next vertex ends here. Says whether there was memory for that.
+    // Ends the list of the next vertex here, and returns whether there was memory for that.
     fn end_here(&mut self) -> bool {
         let end = u32::try_from(self.items.len()).unwrap_or(u32::MAX);
         self.ends.push(end).is_ok()
     }
 }
 
-// For each vertex, how many places of lists lesser ones take, where each takes so many.
+// For each vertex, the number of places that the lists of lesser vertices take, from the length of each list.
 fn places_before(counts: &mut Vec<u32>) {
     let mut before = 0u32;
     for v in 0..counts.len() {
@@ -79,26 +79,26 @@ fn put_back(v: u32, vertices: &[u32], places: &mut Vec<u32>, items: &mut Vec<u32
     }
 }
 
-/// For each vertex those that move to it.
+/// For each vertex, the vertices that move to it.
 pub struct Predecessors {
     count: u32,
     lists: Lists,
 }
 
-// Not derived, so that letting one go is one call: a derived way would be proved anew at each exit that owns one.
+// Not derived: a derived `drop` would be proved again at each exit that owns such a value.
 impl Drop for Predecessors {
     fn drop(self) {
         let Predecessors { count: _, lists: _ } = self;
     }
 }
 
-/// For each vertex how many move to it, while that is counted.
+/// The number of vertices that move to each vertex, while it is counted.
 pub struct Arrivals {
     counts: Vec<u32>,
     edges: usize,
 }
 
-// Not derived, so that letting one go is one call: a derived way would be proved anew at each exit that owns one.
+// Not derived: a derived `drop` would be proved again at each exit that owns such a value.
 impl Drop for Arrivals {
     fn drop(self) {
         let Arrivals {
@@ -109,19 +109,19 @@ impl Drop for Arrivals {
 }
 
 impl Arrivals {
-    /// None of so many vertices.
+    /// Returns a count for this many vertices, with none counted yet.
     pub fn none(alloc: Global, vertices: u32) -> Result<Arrivals, AllocError> {
         let counts = vec![in alloc; 0u32; vertices as usize]?;
         Ok(Arrivals { counts, edges: 0 })
     }
 
-    /// One vertex moves to these.
+    /// Counts the moves of one vertex to these.
     pub fn count(&mut self, successors: &[u32]) {
         count_each(successors, &mut self.counts);
         self.edges = self.edges.saturating_add(successors.len());
     }
 
-    /// With places for those that move to each vertex, of whom none is written yet.
+    /// Returns places for the vertices that move to each vertex; none is written yet.
     pub fn into_places(self, alloc: Global) -> Result<Places, AllocError> {
         let items = vec![in alloc; 0u32; self.edges]?;
         let mut ends = self.into_counts();
@@ -135,14 +135,14 @@ impl Arrivals {
     }
 }
 
-/// For each vertex those that move to it, while they are written: each vertex once, in ascending order.
+/// For each vertex, the vertices that move to it, while they are written: each vertex once, in ascending order.
 pub struct Places {
-    // where each list ends by now
+    // the end of each list so far
     ends: Vec<u32>,
     items: Vec<u32>,
 }
 
-// Not derived, so that letting one go is one call: a derived way would be proved anew at each exit that owns one.
+// Not derived: a derived `drop` would be proved again at each exit that owns such a value.
 impl Drop for Places {
     fn drop(self) {
         let Places { ends: _, items: _ } = self;
@@ -150,12 +150,12 @@ impl Drop for Places {
 }
 
 impl Places {
-    /// A vertex moves to these.
+    /// Writes that a vertex moves to these.
     pub fn write(&mut self, v: u32, successors: &[u32]) {
         put_back(v, successors, &mut self.ends, &mut self.items);
     }
 
-    /// All are written.
+    /// Returns the finished lists.
     pub fn finish(self) -> Predecessors {
         let Places { ends, items } = self;
         let count = u32::try_from(ends.len()).unwrap_or(u32::MAX);
@@ -165,7 +165,7 @@ impl Places {
 }
 
 impl Predecessors {
-    // Those where vertices move along these lists.
+    // The predecessors along these lists of moves.
     fn of_lists(alloc: Global, successors: &Lists, count: u32) -> Result<Predecessors, AllocError> {
         let mut arrivals = Arrivals::none(alloc, count)?;
         arrivals.count(&successors.items);
@@ -180,23 +180,23 @@ impl Predecessors {
         self.count
     }
 
-    /// How many edges and vertices there are.
+    /// Returns the number of edges and vertices.
     pub fn size(&self) -> u64 {
         u64::from(self.count).saturating_add(self.lists.items.len() as u64)
     }
 
-    /// How many edges there are.
+    /// Returns the number of edges.
     pub fn edges(&self) -> usize {
         self.lists.items.len()
     }
 
-    /// Those that move to a vertex.
+    /// Returns the vertices that move to a vertex.
     pub fn before(&self, v: u32) -> &[u32] {
         self.lists.of(v)
     }
 }
 
-/// A game that is being written down, vertex by vertex. Where memory refused that, it is noted, and told at the end.
+/// A game that is being written down, vertex by vertex. If memory was refused, this is noted, and reported at the end.
 pub struct Draft {
     count: u32,
     is_refused: bool,
@@ -205,7 +205,7 @@ pub struct Draft {
     successors: Lists,
 }
 
-// Not derived, so that letting one go is one call: a derived way would be proved anew at each exit that owns one.
+// Not derived: a derived `drop` would be proved again at each exit that owns such a value.
 impl Drop for Draft {
     fn drop(self) {
         let Draft {
@@ -232,7 +232,7 @@ impl Draft {
         }
     }
 
-    /// With room for so many vertices and edges.
+    /// Returns a draft with room for this many vertices and edges.
     pub fn with_room(alloc: Global, vertices: usize, edges: usize) -> Result<Draft, AllocError> {
         Ok(Draft {
             count: 0,
@@ -246,26 +246,26 @@ impl Draft {
         })
     }
 
-    // Notes where there was no memory for something.
+    // Notes if there was no memory for something.
     fn note(&mut self, has_grown: bool) {
         if !has_grown {
             self.is_refused = true;
         }
     }
 
-    /// An edge of the vertex that comes next.
+    /// Adds an edge of the vertex that comes next.
     pub fn edge(&mut self, to: u32) {
         let grown = self.successors.items.push(to).is_ok();
         self.note(grown);
     }
 
-    /// More edges of the vertex that comes next.
+    /// Adds edges of the vertex that comes next.
     pub fn edges(&mut self, to: &[u32]) {
         let grown = self.successors.items.extend_from_slice(to).is_ok();
         self.note(grown);
     }
 
-    /// A vertex with the edges since the last one.
+    /// Adds a vertex with the edges since the last one.
     pub fn vertex(&mut self, owner: Player, priority: u32) {
         let owned = self.owners.push(owner).is_ok();
         let counted = self.priorities.push(priority).is_ok();
@@ -274,13 +274,13 @@ impl Draft {
         self.count = self.count.saturating_add(1);
     }
 
-    /// The game, with as few priorities as have the same winners.
+    /// Returns the game, with the fewest priorities that keep the winners.
     pub fn finish(self, alloc: Global) -> Result<Graph, AllocError> {
         let predecessors = Predecessors::of_lists(alloc, &self.successors, self.count)?;
         self.finish_with(alloc, predecessors)
     }
 
-    /// The same, where it is known who moves to each vertex.
+    /// Returns the game with the fewest priorities, for known predecessors.
     pub fn finish_with(
         self,
         alloc: Global,
@@ -303,7 +303,7 @@ impl Draft {
         Ok(())
     }
 
-    // The game as it is written, where it is known who moves to each vertex.
+    // The game as it is written, for known predecessors.
     fn with(self, predecessors: Predecessors) -> Graph {
         let Draft {
             count,
@@ -331,7 +331,7 @@ pub struct Graph {
     predecessors: Predecessors,
 }
 
-// Not derived, so that letting one go is one call: a derived way would be proved anew at each exit that owns one.
+// Not derived: a derived `drop` would be proved again at each exit that owns such a value.
 impl Drop for Graph {
     fn drop(self) {
         let Graph {
@@ -357,7 +357,7 @@ fn occurring(alloc: Global, priorities: &[u32]) -> Result<PerVertex<bool>, Alloc
     Ok(occurs)
 }
 
-// For each priority one of the same parity, where priorities of one parity with none of the other between them are the
+// For each priority one of the same parity. Priorities of one parity with none of the other between them become the
 // same.
 fn merged(alloc: Global, occurs: &PerVertex<bool>) -> Result<PerVertex<u32>, AllocError> {
     let mut merged = PerVertex::of(alloc, occurs.count(), 0)?;
@@ -376,7 +376,7 @@ impl Graph {
         self.count
     }
 
-    /// How many edges and vertices there are.
+    /// Returns the number of edges and vertices.
     pub fn size(&self) -> u64 {
         u64::from(self.count).saturating_add(self.successors.items.len() as u64)
     }
@@ -403,12 +403,12 @@ impl Graph {
         self.predecessors.before(v)
     }
 
-    /// Who moves to each vertex.
+    /// Returns the vertices that move to each vertex.
     pub fn predecessor_lists(&self) -> &Predecessors {
         &self.predecessors
     }
 
-    /// The same, all else let go.
+    /// Returns the vertices that move to each vertex, and discards the rest.
     pub fn into_predecessor_lists(self) -> Predecessors {
         let Graph {
             count: _,
@@ -420,7 +420,7 @@ impl Graph {
         predecessors
     }
 
-    /// The greatest priority of some vertices.
+    /// Returns the greatest priority of some vertices.
     pub fn greatest_priority(&self, vertices: &[u32]) -> u32 {
         let mut greatest = 0;
         for v in vertices {

@@ -1,13 +1,13 @@
-//! Who is taken to win where in a parity game, and how: what guesses of progress tables begin with.
+//! Guessed winners of a parity game, with their moves: guesses of progress tables begin with them.
 //!
-//! Zielonka's recursion (Zielonka 1998) and the weights of paths (Luttenberger 2008, Schewe 2008) take turns, since
-//! each is slow on other games than the other. All that they look at is charged to one budget. Nothing is promised but
-//! that they are safe and end: what they say is taken over only as far as certificates show it.
+//! Zielonka's recursion (Zielonka 1998) and the weights of paths (Luttenberger 2008, Schewe 2008) take turns: each is
+//! slow on games where the other is not. One budget counts all that they look at. The only promise is that they are
+//! safe and end: their results count only as far as certificates show them.
 //!
-//! The layer above, `vpg_guess`, uses `solve_regions` for a whole game and `solve_part` for some of its vertices,
-//! `Graph` for the edges of a game both ways, `Predecessors` for those that lead to a vertex, `Components` for what a
-//! strategy leaves, `VertexSet` for some of the vertices, `PerVertex` for one value of each vertex, `Found` for lists
-//! that grow, and `Budget`.
+//! The layer above, `vpg_guess`, uses `solve_regions` for a whole game and `solve_part` for some of its vertices. It
+//! uses `Graph` for the edges of a game both ways, `Predecessors` for those that lead to a vertex, and `Components` for
+//! the game that a strategy leaves. `VertexSet` has some of the vertices, `PerVertex` one value for each vertex, and
+//! `Found` is a list that grows. `Budget` counts the work.
 #![tactic(auto)]
 
 mod budget;

@@ -1,4 +1,4 @@
-//! Where Odd wins by moves of its own alone: cycles of an odd greatest priority over Odd's vertices.
+//! Vertices that Odd wins by its own moves alone: cycles of an odd greatest priority over Odd's vertices.
 use crate::budget::Budget;
 use crate::components::{Components, Moves};
 use crate::found::Found;
@@ -9,7 +9,7 @@ use vpg_players::Player;
 
 struct OddCycles {
     components: Components,
-    // the last component in which a vertex was; one more once it is known to lead to the greatest priority there
+    // the last component with this vertex; one more once it is known to lead to the greatest priority there
     mark: PerVertex<u32>,
     stamp: u32,
     // parts to be searched
@@ -18,7 +18,7 @@ struct OddCycles {
     found: Found<u32>,
 }
 
-// Not derived, so that letting one go is one call: a derived way would be proved anew at each exit that owns one.
+// Not derived: a derived `drop` would be proved again at each exit that owns such a value.
 impl Drop for OddCycles {
     fn drop(self) {
         let OddCycles {
@@ -31,7 +31,7 @@ impl Drop for OddCycles {
     }
 }
 
-// Odd's of some vertices.
+// Odd's vertices among some.
 fn own_vertices(
     alloc: Global,
     solution: &Solution<'_>,
@@ -155,7 +155,7 @@ impl OddCycles {
         self.look(alloc, solution, &members)
     }
 
-    // A component of an odd greatest priority is Odd's; without an even one it falls into others.
+    // Looks at a component. With an odd greatest priority it is Odd's; with an even one it falls into smaller ones.
     fn look(
         &mut self,
         alloc: Global,
@@ -225,7 +225,7 @@ impl OddCycles {
     }
 }
 
-/// Gives Odd those vertices of the present game where it wins by its own moves alone, and those from where it can force
+/// Gives Odd the vertices of the present game that it wins by its own moves alone, and those from which it can force
 /// play there.
 pub fn win_odd_cycles(
     alloc: Global,

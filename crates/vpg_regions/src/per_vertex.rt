@@ -8,7 +8,7 @@ pub struct PerVertex<T> {
     count: u32,
 }
 
-// Not derived, so that letting one go is one call: a derived way would be proved anew at each exit that owns one.
+// Not derived: a derived `drop` would be proved again at each exit that owns such a value.
 impl<T: Drop> Drop for PerVertex<T> {
     fn drop(self) {
         let PerVertex {
@@ -20,7 +20,7 @@ impl<T: Drop> Drop for PerVertex<T> {
 }
 
 impl<T: Copy> PerVertex<T> {
-    /// This value at each of so many vertices.
+    /// Returns this value at each of this many vertices.
     pub fn of(alloc: Global, vertices: u32, rest: T) -> Result<PerVertex<T>, AllocError> {
         let values = vec![in alloc; rest; vertices as usize]?;
         Ok(PerVertex {
@@ -30,7 +30,7 @@ impl<T: Copy> PerVertex<T> {
         })
     }
 
-    /// How many vertices there are.
+    /// Returns the number of vertices.
     pub fn count(&self) -> u32 {
         self.count
     }
@@ -50,7 +50,7 @@ impl<T: Copy> PerVertex<T> {
         }
     }
 
-    /// This value at each vertex.
+    /// Sets this value at each vertex.
     pub fn fill(&mut self, value: T) {
         for each in &mut self.values {
             *each = value;
@@ -64,7 +64,7 @@ impl<T: Copy> PerVertex<T> {
     }
 }
 
-/// No vertex: no game has so many.
+/// The number of no vertex: no game has this many.
 const NONE: u32 = u32::MAX;
 
 /// One vertex or none for each vertex, in half of the room.
@@ -72,7 +72,7 @@ pub struct Choices {
     chosen: PerVertex<u32>,
 }
 
-// Not derived, so that letting one go is one call: a derived way would be proved anew at each exit that owns one.
+// Not derived: a derived `drop` would be proved again at each exit that owns such a value.
 impl Drop for Choices {
     fn drop(self) {
         let Choices { chosen: _ } = self;
@@ -80,7 +80,7 @@ impl Drop for Choices {
 }
 
 impl Choices {
-    /// None at each of so many vertices.
+    /// Returns none at each of this many vertices.
     pub fn none(alloc: Global, vertices: u32) -> Result<Choices, AllocError> {
         Ok(Choices {
             chosen: PerVertex::of(alloc, vertices, NONE)?,
@@ -103,18 +103,18 @@ impl Choices {
     }
 }
 
-/// So many vertices stand in a word of a set.
+/// The number of vertices in a word of a set.
 const WORD: u32 = 64;
 
-/// Some of the vertices, a bit for each, so that few words are read where few stand there. Past the last vertex none
-/// does, and one that is added there is lost.
+/// Some of the vertices, a bit for each, so that a sparse set reads few words. It has no vertex past the last one;
+/// adding one there has no effect.
 pub struct VertexSet {
     words: Vec<u64>,
-    // how many there are
+    // the number of its vertices
     size: usize,
 }
 
-// Not derived, so that letting one go is one call: a derived way would be proved anew at each exit that owns one.
+// Not derived: a derived `drop` would be proved again at each exit that owns such a value.
 impl Drop for VertexSet {
     fn drop(self) {
         let VertexSet { words: _, size: _ } = self;
@@ -127,13 +127,13 @@ fn bit_of(v: u32) -> u64 {
 }
 
 impl VertexSet {
-    /// None of so many vertices.
+    /// Returns the empty set, for this many vertices.
     pub fn none(alloc: Global, vertices: u32) -> Result<VertexSet, AllocError> {
         let words = vec![in alloc; 0u64; vertices.div_ceil(WORD) as usize]?;
         Ok(VertexSet { words, size: 0 })
     }
 
-    /// How many there are.
+    /// Returns the number of its vertices.
     pub fn size(&self) -> usize {
         self.size
     }
@@ -145,7 +145,7 @@ impl VertexSet {
         }
     }
 
-    /// Adds a vertex, where it isn't there.
+    /// Adds a vertex, if it isn't in the set.
     pub fn add(&mut self, v: u32) {
         let at = (v / WORD) as usize;
         if at < self.words.len() && self.words[at] & bit_of(v) == 0 {
@@ -154,7 +154,7 @@ impl VertexSet {
         }
     }
 
-    /// Takes a vertex away, where it is there.
+    /// Takes a vertex out, if it is in the set.
     pub fn remove(&mut self, v: u32) {
         let at = (v / WORD) as usize;
         if at < self.words.len() && self.words[at] & bit_of(v) != 0 {
@@ -163,7 +163,7 @@ impl VertexSet {
         }
     }
 
-    /// The first one from this vertex on.
+    /// Returns the first vertex of the set from this one on.
     pub fn first_from(&self, v: u32) -> Option<u32> {
         let mut at = v / WORD;
         let mut word = self.words.get(at as usize)? & (u64::MAX << (v % WORD));

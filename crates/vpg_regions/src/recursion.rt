@@ -1,32 +1,31 @@
-//! Who wins where, by Zielonka's recursion (Zielonka 1998) with a stack of its own.
+//! The winners of a game, by Zielonka's recursion (Zielonka 1998) with a stack of its own.
 use crate::budget::Budget;
 use crate::found::Found;
 use crate::solution::Solution;
 use std::alloc::{AllocError, Global};
 use vpg_players::Player;
 
-// A game on the stack: its vertices, and those that were found to be won by the player against whom its greatest
-// priority is.
+// A game on the stack: its vertices, and those found to be won by the player against whom its greatest priority is.
 struct Game {
     all: Vec<u32>,
     gone: Vec<u32>,
 }
 
-// Not derived, so that letting one go is one call: a derived way would be proved anew at each exit that owns one.
+// Not derived: a derived `drop` would be proved again at each exit that owns such a value.
 impl Drop for Game {
     fn drop(self) {
         let Game { all: _, gone: _ } = self;
     }
 }
 
-// A game that waits: what is left of it without the attractor of the greatest priority is being solved.
+// A game that waits: the rest of it, without the attractor of the greatest priority, is being solved.
 struct Waiting {
     game: Game,
     attracted: Vec<u32>,
     player: Player,
 }
 
-// Not derived, so that letting one go is one call: a derived way would be proved anew at each exit that owns one.
+// Not derived: a derived `drop` would be proved again at each exit that owns such a value.
 impl Drop for Waiting {
     fn drop(self) {
         let Waiting {
@@ -61,7 +60,7 @@ impl Game {
         seed.list()
     }
 
-    // What the player of the greatest priority can force there.
+    // The vertices from which the player of the greatest priority can force play there.
     fn attracted(
         &self,
         alloc: Global,
@@ -82,7 +81,7 @@ impl Game {
         }
     }
 
-    // The same with other vertices.
+    // The game with other vertices.
     fn with(self, all: Vec<u32>) -> Game {
         let Game { all: _, gone } = self;
         Game { all, gone }
@@ -90,7 +89,8 @@ impl Game {
 }
 
 impl Waiting {
-    // The inner game is solved: what the other player wins there it wins in the whole. Gives what is left to be solved.
+    // Takes over a solved inner game: the vertices that the other player wins there it wins in the whole. Returns the
+    // rest to be solved.
     fn rest(
         &mut self,
         alloc: Global,
@@ -108,7 +108,7 @@ impl Waiting {
         Ok(Some(solution.living(alloc, &self.game.all)?))
     }
 
-    // All is won by the player of the greatest priority.
+    // Gives all to the player of the greatest priority.
     fn end(&self, solution: &mut Solution<'_>) {
         solution.give(self.player, &self.attracted);
         solution.choose_any(&self.attracted);
@@ -171,7 +171,7 @@ fn open(alloc: Global, stack: &mut Vec<Frame>, all: Vec<u32>) -> Result<(), Allo
     Ok(())
 }
 
-// Goes on to what is left of a game whose inner game is solved.
+// Goes on to the rest of a game with a solved inner game.
 fn ascend(
     alloc: Global,
     solution: &mut Solution<'_>,
@@ -206,7 +206,7 @@ fn run(
     Ok(())
 }
 
-// On a spent budget only what the outermost game gave away is known.
+// Forgets all but the vertices that the outermost game gave away, after a spent budget.
 fn forget(solution: &mut Solution<'_>, stack: &[Frame]) {
     match stack.first() {
         Some(Frame::Open(game)) => solution.forget(&game.all),
@@ -215,8 +215,8 @@ fn forget(solution: &mut Solution<'_>, stack: &[Frame]) {
     }
 }
 
-/// Gives each vertex of the present game, which is of some of these, its winner, or those that are known when the
-/// budget is spent; says whether all are.
+/// Gives each vertex of the present game, which is of some of these, its winner, or those known when the budget is
+/// spent. Returns whether all are given.
 pub fn solve_by_recursion(
     alloc: Global,
     solution: &mut Solution<'_>,

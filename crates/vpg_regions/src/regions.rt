@@ -1,5 +1,6 @@
-//! Who wins where, and how: by Zielonka's recursion and by the weights of paths, in turns. Each is slow on other games
-//! than the other. Where the recursion's first turn does not end, strongly connected components are solved one by one.
+//! The winners of a game, and their moves, by Zielonka's recursion and by the weights of paths, in turns. Each is slow
+//! on games where the other is not. If the recursion's first turn does not end, strongly connected components are
+//! solved one by one.
 use crate::budget::Budget;
 use crate::components::{Components, Moves};
 use crate::graph::Graph;
@@ -10,19 +11,19 @@ use crate::weights::solve_by_weights;
 use std::alloc::{AllocError, Global};
 use vpg_players::Player;
 
-/// How often the recursion may look at a whole game in its first turn.
+/// The number of times that the recursion may look at a whole game in its first turn.
 const FIRST_PASSES: u64 = 32;
 
 /// The least that the weights may look at in their first turn.
 const FIRST_WEIGHTS: u64 = 1 << 20;
 
-/// Who is taken to win at each vertex, and the winner's choices.
+/// The guessed winner of each vertex, and the winner's choices.
 pub struct Regions {
     winner: PerVertex<Option<Player>>,
     pub choice: Choices,
 }
 
-// Not derived, so that letting one go is one call: a derived way would be proved anew at each exit that owns one.
+// Not derived: a derived `drop` would be proved again at each exit that owns such a value.
 impl Drop for Regions {
     fn drop(self) {
         let Regions {
@@ -33,12 +34,12 @@ impl Drop for Regions {
 }
 
 impl Regions {
-    /// The winner, where the budget sufficed.
+    /// Returns the winner, if the budget sufficed.
     pub fn winner(&self, v: u32) -> Option<Player> {
         self.winner.get(v)
     }
 
-    /// The winner's choice at a vertex of its own.
+    /// Returns the winner's choice at a vertex of its own.
     pub fn choice(&self, v: u32) -> Option<u32> {
         self.choice.get(v)
     }
@@ -51,7 +52,7 @@ enum Way {
     Weights,
 }
 
-// One turn of the recursion or of the weights; says whether all is solved.
+// Takes one turn of the recursion or of the weights; returns whether all is solved.
 fn take_turn(
     alloc: Global,
     solution: &mut Solution<'_>,
@@ -71,7 +72,7 @@ fn take_turn(
 }
 
 // Solves the present game, which is of some of these vertices, by turns, each longer than the one before it, until one
-// ends or the budget is spent; says whether all is solved.
+// ends or the budget is spent. Returns whether all is solved.
 fn take_turns(
     alloc: Global,
     solution: &mut Solution<'_>,
@@ -95,7 +96,7 @@ fn take_turns(
     Ok(false)
 }
 
-// Solves one component, where those that it leads to are solved; says whether all of it is.
+// Solves one component, after those that it leads to; returns whether all of it is solved.
 fn solve_component(
     alloc: Global,
     solution: &mut Solution<'_>,
@@ -110,8 +111,7 @@ fn solve_component(
     Ok(solved)
 }
 
-// Solves the present game component by component, until one is not solved. What was solved apart is easier than what
-// was not.
+// Solves the present game component by component, until one is not solved. The solved ones are easier than the rest.
 fn solve_apart(
     alloc: Global,
     solution: &mut Solution<'_>,
@@ -132,7 +132,7 @@ fn solve_apart(
     Ok(())
 }
 
-// The components of some vertices, each behind those that it leads to.
+// The components of some vertices, each after those that it leads to.
 fn components_of(
     alloc: Global,
     solution: &Solution<'_>,
@@ -149,7 +149,7 @@ fn components_of(
     Ok(components)
 }
 
-/// Who wins where; what is open on a spent budget has no winner. Odd is known to win at the lost vertices.
+/// Returns the winners; vertices that are open on a spent budget have none. Odd is known to win at the lost vertices.
 pub fn solve_regions(
     alloc: Global,
     graph: &Graph,
@@ -179,8 +179,8 @@ fn solve_whole(
     solve_apart(alloc, solution, &all, budget)
 }
 
-/// Who wins at some vertices, where all others are taken to be lost where they stand at the top, and won by Even
-/// elsewhere.
+/// Returns the winners at some vertices. All others are guessed to be lost if they are at the top, and won by Even if
+/// not.
 pub fn solve_part(
     alloc: Global,
     graph: &Graph,

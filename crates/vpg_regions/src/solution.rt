@@ -1,4 +1,4 @@
-//! A game that is being solved: who is taken to win where, and what a player can force.
+//! A game that is being solved: its guessed winners, and the vertices that a player can force.
 use crate::budget::Budget;
 use crate::found::Found;
 use crate::graph::Graph;
@@ -6,23 +6,23 @@ use crate::per_vertex::{Choices, PerVertex};
 use std::alloc::{AllocError, Global};
 use vpg_players::Player;
 
-/// The vertices that are still played on, and who wins at the others.
+/// The vertices that are still played on, and the winners at the others.
 pub struct Solution<'a> {
     pub graph: &'a Graph,
-    /// The winner's choices, and others where nobody is taken to win.
+    /// The winner's choices, and others where there is no winner yet.
     pub choice: Choices,
     winner: PerVertex<Option<Player>>,
     // the vertices of the present game
     alive: PerVertex<bool>,
     // the last attractor that took the vertex
     mark: PerVertex<u32>,
-    // the last attractor that counted its successors, and how many are left
+    // the last attractor that counted its successors, and the number that is left
     seen: PerVertex<u32>,
     left: PerVertex<u32>,
     stamp: u32,
 }
 
-// Not derived, so that letting one go is one call: a derived way would be proved anew at each exit that owns one.
+// Not derived: a derived `drop` would be proved again at each exit that owns such a value.
 impl<'a> Drop for Solution<'a> {
     fn drop(self) {
         let Solution {
@@ -57,7 +57,7 @@ impl<'a> Solution<'a> {
         self.alive.get(v)
     }
 
-    /// The first move that stays in the present game.
+    /// Returns the first move that stays in the present game.
     pub fn first_alive(&self, v: u32) -> Option<u32> {
         for w in self.graph.successors(v) {
             if self.alive.get(*w) {
@@ -97,7 +97,7 @@ impl<'a> Solution<'a> {
         left == 0
     }
 
-    /// What a player can force into the seed; it leaves the present game.
+    /// Returns the vertices from which a player can force play into the seed; they leave the present game.
     pub fn attract(
         &mut self,
         player: Player,
@@ -107,7 +107,7 @@ impl<'a> Solution<'a> {
         self.attract_around(player, seed, &[], budget)
     }
 
-    // The same without the barred vertices, which the opponent has for sure.
+    // The vertices that a player can force into the seed, without the barred ones, which the opponent has for sure.
     fn attract_around(
         &mut self,
         player: Player,
@@ -129,7 +129,7 @@ impl<'a> Solution<'a> {
         }
     }
 
-    // The seed, what leads to it, and so on.
+    // The seed, the vertices that lead to it, and so on.
     fn take_all(
         &mut self,
         player: Player,
@@ -157,7 +157,7 @@ impl<'a> Solution<'a> {
         }
     }
 
-    /// Gives a player the seed and what it can force there, which leave the present game.
+    /// Gives a player the seed and the vertices from which it can force play there; they leave the present game.
     pub fn win(
         &mut self,
         player: Player,
@@ -176,7 +176,7 @@ impl<'a> Solution<'a> {
         }
     }
 
-    /// Who stands without a move loses, and so does who can be forced there.
+    /// Gives a player the opponent's vertices without a move, and the vertices from which it can force play there.
     pub fn win_dead_ends(
         &mut self,
         alloc: Global,
@@ -199,7 +199,7 @@ impl<'a> Solution<'a> {
         }
     }
 
-    /// Those of some vertices that are in the present game.
+    /// Returns those of some vertices that are in the present game.
     pub fn living(&self, alloc: Global, vertices: &[u32]) -> Result<Vec<u32>, AllocError> {
         let mut living = Found::none(alloc);
         for v in vertices {
@@ -210,7 +210,7 @@ impl<'a> Solution<'a> {
         living.list()
     }
 
-    /// The vertices of the present game.
+    /// Returns the vertices of the present game.
     pub fn all_living(&self, alloc: Global) -> Result<Vec<u32>, AllocError> {
         let mut living = Found::none(alloc);
         for v in 0..self.graph.vertices() {
@@ -221,7 +221,7 @@ impl<'a> Solution<'a> {
         living.list()
     }
 
-    /// Those of some vertices in the present game that a player was given.
+    /// Returns those of some vertices in the present game that a player was given.
     pub fn won_by(
         &self,
         alloc: Global,
@@ -237,7 +237,7 @@ impl<'a> Solution<'a> {
         won.list()
     }
 
-    /// Any move within the present game, where there is no choice.
+    /// Chooses any move within the present game, if there is no choice.
     pub fn choose_any(&mut self, vertices: &[u32]) {
         for v in vertices {
             if self.choice.get(*v).is_none() {
@@ -247,14 +247,14 @@ impl<'a> Solution<'a> {
         }
     }
 
-    /// Takes some vertices back from whom they were given.
+    /// Takes some vertices back from the players that they were given to.
     pub fn forget(&mut self, vertices: &[u32]) {
         for v in vertices {
             self.winner.set(*v, None);
         }
     }
 
-    /// Goes on with those of some vertices that nobody was given.
+    /// Goes on with those of some vertices that no player was given.
     pub fn reopen(&mut self, vertices: &[u32]) {
         for v in vertices {
             self.alive.set(*v, self.winner.get(*v).is_none());
@@ -278,7 +278,7 @@ impl<'a> Solution<'a> {
         None
     }
 
-    // The vertices of a player, among these, with a move out of the present game to where it wins. They choose it.
+    // The vertices of a player, among these, with a move out of the present game into its own vertices. They choose it.
     fn exits(
         &mut self,
         alloc: Global,
@@ -298,7 +298,7 @@ impl<'a> Solution<'a> {
         exits.list()
     }
 
-    // The seed, and those of these vertices from where the opponent of a player can't but move out of the present game.
+    // The seed, and those of these vertices from which the opponent of a player has to move out of the present game.
     fn with_stuck(
         &self,
         player: Player,
@@ -319,8 +319,8 @@ impl<'a> Solution<'a> {
         all.list()
     }
 
-    /// Gives both players what they can force out of the present game, which is of these vertices, to where they win.
-    /// No move from there may lead to a vertex that nobody was given.
+    /// Gives both players the vertices from which they can force play out of the present game, which is of these
+    /// vertices, to where they win. No move from there may lead to a vertex that no player was given.
     pub fn win_exits(
         &mut self,
         alloc: Global,
@@ -333,8 +333,8 @@ impl<'a> Solution<'a> {
         self.win_by_exits(Player::Odd, vertices, odd, &[], budget)
     }
 
-    // Gives a player what it can force to its exits without the barred vertices, and where the opponent can't but move
-    // to where it wins.
+    // Gives a player the vertices from which it can force play to its exits without the barred vertices. It also gets
+    // those from which the opponent has to move to where it wins.
     fn win_by_exits(
         &mut self,
         player: Player,
@@ -349,7 +349,7 @@ impl<'a> Solution<'a> {
         Ok(())
     }
 
-    /// Who was given what, and the choices.
+    /// Returns the winners and the choices.
     pub fn finish(self) -> (PerVertex<Option<Player>>, Choices) {
         let Solution {
             graph: _,

@@ -1,9 +1,9 @@
-//! Who wins where, by the weights of paths: strategy improvement (Luttenberger 2008, Schewe 2008).
+//! The winners of a game, by the weights of paths: strategy improvement (Luttenberger 2008, Schewe 2008).
 //!
 //! Even may stop at each vertex of its own. A vertex of an even priority weighs more than all vertices of lesser
-//! priorities together, and one of an odd priority as much less than nothing. Odd goes the path to a stop that weighs
-//! least, and Even changes its choices while such paths weigh more then. Where no stop can be reached in the end, Even
-//! wins.
+//! priorities together; one of an odd priority has the negative of such a weight. Odd takes the path to a stop that
+//! weighs least, and Even changes its choices while such paths weigh more after the change. If no stop can be reached
+//! in the end, Even wins.
 use crate::budget::Budget;
 use crate::graph::Graph;
 use crate::odd_cycles::win_odd_cycles;
@@ -13,7 +13,7 @@ use std::alloc::{AllocError, Global};
 use std::collections::VecDeque;
 use vpg_players::Player;
 
-/// The weight where no stop can be reached.
+/// The weight if no stop can be reached.
 const UNREACHED: i128 = i128::MAX;
 
 struct PathWeights {
@@ -22,14 +22,14 @@ struct PathWeights {
     weights: PerVertex<i128>,
     // the least weight of a path from each vertex to a stop
     least: PerVertex<i128>,
-    // those whose predecessors are to be looked at
+    // those with predecessors to be looked at
     waits: PerVertex<bool>,
     queue: VecDeque<u32>,
     // whether memory was refused for one of them
     is_refused: bool,
 }
 
-// Not derived, so that letting one go is one call: a derived way would be proved anew at each exit that owns one.
+// Not derived: a derived `drop` would be proved again at each exit that owns such a value.
 impl Drop for PathWeights {
     fn drop(self) {
         let PathWeights {
@@ -137,7 +137,7 @@ impl PathWeights {
         }
     }
 
-    // What the weight of w makes of its predecessors'.
+    // Lowers the weights of w's predecessors by that of w.
     fn reach_from(&mut self, solution: &Solution<'_>, w: u32, budget: &mut Budget) {
         let graph = solution.graph;
         self.waits.set(w, false);
@@ -151,7 +151,7 @@ impl PathWeights {
         }
     }
 
-    // Whether the path from u over w, of this weight, is the one to be taken.
+    // Whether the path from u over w, of this weight, is to be taken.
     fn changes(&self, solution: &Solution<'_>, u: u32, w: u32, weight: i128) -> bool {
         if !solution.is_alive(u) {
             return false;
@@ -162,7 +162,7 @@ impl PathWeights {
         }
     }
 
-    // Changes Even's choices where that weighs more, and says whether one changed.
+    // Changes Even's choices if that weighs more, and returns whether one changed.
     fn improve(&self, solution: &mut Solution<'_>, budget: &mut Budget) -> bool {
         let graph = solution.graph;
         let mut improved = false;
@@ -179,7 +179,7 @@ impl PathWeights {
         improved
     }
 
-    // The move of greatest weight, where that is more than the present one.
+    // The move of greatest weight, if that is more than the present one.
     fn better(&self, solution: &Solution<'_>, v: u32) -> Option<u32> {
         let mut greatest = self.least.get(v);
         let mut better = None;
@@ -207,7 +207,7 @@ impl PathWeights {
         chosen
     }
 
-    // Gives Even where no stop can be reached, and Odd the others.
+    // Gives the vertices from which no stop can be reached to Even, and the others to Odd.
     fn tell(&self, solution: &mut Solution<'_>) {
         for v in &self.vertices {
             if self.least.get(*v) == UNREACHED {
@@ -223,8 +223,8 @@ impl PathWeights {
     }
 }
 
-/// Gives each vertex of the present game, which is of some of these, its winner, or those that are known when the
-/// budget is spent; says whether all are.
+/// Gives each vertex of the present game, which is of some of these, its winner, or those known when the budget is
+/// spent. Returns whether all are given.
 pub fn solve_by_weights(
     alloc: Global,
     solution: &mut Solution<'_>,

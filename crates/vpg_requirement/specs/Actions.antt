@@ -1,4 +1,4 @@
--- Which actions a step may have: action formulas, as in mCRL2's language, over actions that are numbered.
+-- The actions that a step may have: action formulas, as in mCRL2's language, over numbered actions.
 use Rattle.std.specs.Prelude.{ℕ, Bool, true, not, ◌&&◌, ◌||◌, ◌==◌}
 
 -- an action formula; `true` is `every_action`, and `!` is `other_than`

@@ -1,5 +1,5 @@
 -- The game of a family's system, with guards: a row for each situation, and an edge for each of its moves, under the
--- guard of its transition. Where a situation is reached twice the guards are joined by `or`. After FASE 2020 (ter Beek,
+-- guard of its transition. If a situation is reached twice, the guards are joined by `or`. After FASE 2020 (ter Beek,
 -- van Loo, de Vink and Willemse), where such games are made from featured transition systems and formulas.
 use Rattle.std.specs.Prelude.{◌≡◌, ℕ, ◌<◌, ◌⊎◌, List, [], ◌∷◌, length, map, filter, ◌&&◌, ◌==◌, Bool, Contains}
 use Rattle.std.specs.List.{AllZip}
@@ -21,7 +21,7 @@ pub record GuardedMove : Type 0 where
 abbrev pub free_move : Situation → GuardedMove
 free_move place = record { guard = always; to = place }
 
--- the transitions from a state by actions that are permitted, in their order
+-- the transitions from a state by permitted actions, in their order
 abbrev pub leaving : System Guard → ActionFormula → ℕ → List (Transition Guard)
 leaving system x s = filter (λ t. (t.step.source == s) && permits x t.step.label) system.transitions
 
@@ -42,12 +42,12 @@ guarded_moves system s (fixpoint kind p f) scope = free_move (situation s (fixpo
 guarded_moves system s (variable i) [] = []
 guarded_moves system s (variable i) (binder ∷ scope) = free_move (situation s binder.body (binder ∷ scope)) ∷ []
 
--- Further edges added one by one: one to a vertex that has an edge already joins its guard to that edge.
+-- Further edges added one by one: if there is an edge to the same vertex already, the new guard is joined to it.
 abbrev pub join_edges : List (GuardedEdge Guard) → List (GuardedEdge Guard) → List (GuardedEdge Guard)
 join_edges edges [] = edges
 join_edges edges (edge ∷ named) = join_edges (join_edge edges edge) named
 
--- the edge goes to the vertex of the situation where the move goes, under its guard
+-- the edge goes to the vertex of the move's situation, under its guard
 pub record IsEdgeOf (places : List Situation) (move : GuardedMove) (edge : GuardedEdge Guard) : Type 0 where
   pub guard : edge.guard ≡ move.guard
   pub inside : edge.to < length places
@@ -69,7 +69,7 @@ IsBuiltOf mover low system places game = AllZip (IsRowOf mover low system places
 
 -- ---- guards that are written otherwise
 
--- an edge to the same vertex, whose guard is as true in each set of features that counts
+-- an edge to the same vertex, with a guard that is as true in each set of features that counts
 pub record IsAlike (Counts : List Bool → Type 0) (edge other : GuardedEdge Guard) : Type 0 where
   pub to : other.to ≡ edge.to
   pub guard : (set : List Bool) → Counts set → truth set other.guard ≡ truth set edge.guard
@@ -86,11 +86,11 @@ IsAlikeGame Counts game other = AllZip (IsAlikeVertex Counts) game other
 
 -- ---- only what can be reached
 
--- where the moves from a situation lead, in any product
+-- the situations that the moves from a situation lead to, in any product
 abbrev pub targets_from : System Guard → Situation → List Situation
 targets_from system place = map (λ move. move.to) (guarded_moves system place.state place.part place.scope)
 
--- Each situation of the list is a root, or where a move of an earlier one leads.
+-- Each situation of the list is a root, or a move of an earlier one leads to it.
 abbrev pub IsReached : System Guard → List Situation → List Situation → Type 0
 IsReached system roots places = (v : ℕ) → v < length places → Contains roots (situation_at places v) ⊎
     ((u : ℕ) × (u < v) × Contains (targets_from system (situation_at places u)) (situation_at places v))

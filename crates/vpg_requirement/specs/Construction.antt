@@ -1,6 +1,7 @@
--- The game as a function of the system and of what is asked: from the roots on, each situation that a move leads to is
--- added at the end, until nothing new comes or so many have been looked at. So there is such a game, and one that has
--- only what can be reached. A program may make it otherwise; `IsBuiltOf` is what its game owes. This project's own.
+-- The game as a function of the system and of the roots. From the roots on, each situation that a move leads to is
+-- added at the end, until nothing new comes or this many have been looked at. So there is such a game, and one with
+-- only the situations that can be reached. A program may make it otherwise; its game has to satisfy `IsBuiltOf`. This
+-- project's own.
 use Rattle.std.specs.Prelude.{◌≡◌, ℕ, zero, suc, ◌<◌, List, [], ◌∷◌, ◌++◌, length, map, Bool, true, false, ◌&&◌, ◌==◌, if◌then◌else◌, nat_lt, Option, Some, None}
 use Rattle.vpg_players.specs.declared.player.Player.{Player}
 use Rattle.vpg_guards.specs.Formula.{Formula as Guard}
@@ -49,7 +50,7 @@ same_situation p q = (p.state == q.state) && (same_form p.part q.part && same_sc
 
 -- ---- places
 
--- where the situation stands first, or the length
+-- the first place of the situation, or the length
 abbrev pub place_of : List Situation → Situation → ℕ
 place_of [] q = 0
 place_of (p ∷ places) q = if same_situation p q then 0 else suc (place_of places q)
@@ -93,7 +94,7 @@ row_for mover low system places place = record {
   edges = join_edges [] (map (edge_for places) (moves_at system place));
 }
 
--- the situations and their game; none where more than so many situations can be reached
+-- the situations and their game; none if more than this many situations can be reached
 abbrev pub construction : Player → ℕ → ℕ → System Guard → List Situation → Option (List Situation × GuardedGame Guard)
 construction mover low limit system roots =
     if are_closed system (exploration system limit 0 roots) (exploration system limit 0 roots)
@@ -103,7 +104,7 @@ construction mover low limit system roots =
     )
     else None
 
--- The game that is constructed is built of its situations, and these are the roots and what can be reached from them.
+-- The constructed game is built of its situations, and these are the roots and what can be reached from them.
 abbrev pub ConstructionIsBuilt : Type 0
 ConstructionIsBuilt =
     (mover : Player) (low limit : ℕ) (system : System Guard) (roots places : List Situation)
@@ -115,7 +116,7 @@ ConstructionIsBuilt =
 abbrev pub AreDistinct : List Situation → Type 0
 AreDistinct places = (u v : ℕ) → u < v → v < length places → situation_at places u ≡ situation_at places v → ⊥
 
--- Where nothing is constructed, more than so many different situations can be reached.
+-- If nothing is constructed, more than this many different situations can be reached.
 abbrev pub RefusedIsTooMany : Type 0
 RefusedIsTooMany =
     (mover : Player) (low limit : ℕ) (system : System Guard) (roots : List Situation) → AreDistinct roots →

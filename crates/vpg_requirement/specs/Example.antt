@@ -1,5 +1,5 @@
--- A family of two states, a formula, and the game that is built: so what the laws ask of a game can be had. This
--- project's own.
+-- A family of two states, a formula, and the game that is built: an example that satisfies what the laws require of a
+-- game. This project's own.
 use Rattle.std.specs.Prelude.{◌≡◌, ℕ, List, [], ◌∷◌, Bool, true, false, Some}
 use Rattle.vpg_players.specs.declared.player.Player.TheVariants.{Even, Odd}
 use Rattle.vpg_guards.specs.Formula.{Formula as Guard, always as sure, feature, truth}
@@ -16,7 +16,7 @@ use Rattle.vpg_requirement.specs.Construction.{construction}
 use Rattle.vpg_requirement.specs.Words.{possibly, can}
 use Rattle.vpg_requirement.specs.Laws.{IsDecided}
 
--- action 1 leads from state 0 to state 1 where there is feature 1, and action 2 back
+-- action 1 leads from state 0 to state 1 if there is feature 1, and action 2 back
 abbrev pub small_forth : Transition Guard
 small_forth = record { step = record { source = 0; label = 1; target = 1 }; guard = feature 1 }
 
@@ -27,7 +27,7 @@ small_back = record { step = record { source = 1; label = 2; target = 0 }; guard
 abbrev pub small_system : System Guard
 small_system = record { states = 2; transitions = small_forth ∷ small_back ∷ [] }
 
--- some way leads to where action 2 is possible
+-- some way leads to a state where action 2 is possible
 abbrev pub small_formula : Formula
 small_formula = possibly (can (action 2))
 
@@ -68,7 +68,7 @@ small_game =
     record { owner = Even; priority = 0; edges = free_to 0 ∷ [] } ∷
     record { owner = Odd; priority = 0; edges = [] } ∷ []
 
--- The game decides the formula in both products, and the formula holds in the one alone.
+-- The game decides the formula in both products, and the formula holds in only one of them.
 pub record SmallFamilyIsDecided : Type 0 where
   pub decided : (set : List Bool) →
       IsDecided (Means (product_system (truth set) small_system) [] small_formula 0)

@@ -1,6 +1,6 @@
 -- Least and greatest fixpoints over sets of states, by the theorem of Knaster and Tarski, as Kozen 1983 defines the
--- modal mu-calculus: a least fixpoint is in every set that is closed under its body, a greatest one is in some set that
--- its body supports. No iteration stands here.
+-- modal mu-calculus. A least fixpoint is in every set that is closed under its body, a greatest one is in some set that
+-- its body supports. There is no iteration here.
 use Rattle.std.specs.Prelude.{◌≡◌, ℕ, ◌<◌, List, Bool, true, false, slice_index_or}
 
 -- whether a fixpoint is the least one (`mu`) or the greatest one (`nu`)
@@ -21,15 +21,15 @@ StateSet = ℕ → Bool
 abbrev pub nothing : StateSet
 nothing s = false
 
--- the set that a variable stands for, where each fixpoint around has its set, innermost first
+-- the set that a variable stands for, if each fixpoint around has its set, innermost first
 abbrev pub set_of : List StateSet → ℕ → StateSet
 set_of sets i = slice_index_or sets i nothing
 
--- The set is closed under the body: it has each state at which the body holds where its variable stands for the set.
+-- The set is closed under the body: it has each state at which the body holds when its variable stands for the set.
 abbrev pub IsClosedUnder : ℕ → (StateSet → ℕ → Type 0) → StateSet → Type 0
 IsClosedUnder states Body set = (t : ℕ) → t < states → Body set t → set t ≡ true
 
--- The body supports the set: it holds at each state of the set where its variable stands for the set.
+-- The body supports the set: it holds at each state of the set when its variable stands for the set.
 abbrev pub IsSupportedBy : ℕ → (StateSet → ℕ → Type 0) → StateSet → Type 0
 IsSupportedBy states Body set = (t : ℕ) → t < states → set t ≡ true → Body set t
 

@@ -1,5 +1,6 @@
--- Requirements as they are written: formulas of the modal mu-calculus (Kozen, Results on the propositional mu-calculus,
--- 1983), in mCRL2's form with `!` and `=>`, and what they mean. All that is said of requirements rests on `Means`.
+-- Requirements in their written form: formulas of the modal mu-calculus (Kozen, Results on the propositional
+-- mu-calculus, 1983), in mCRL2's form with `!` and `=>`, and their meaning. All statements about requirements rest on
+-- `Means`.
 use Rattle.std.specs.Prelude.{◌≡◌, ℕ, ◌<◌, ◌⊎◌, List, ◌∷◌, length, Bool, true, false, not, Contains, slice_index_or}
 use Rattle.vpg_requirement.specs.Actions.{ActionFormula}
 use Rattle.vpg_requirement.specs.Systems.{PlainSystem, successors}
@@ -22,9 +23,9 @@ pub data Formula : Type 0 where
   binding : Kind → Formula → Formula
   bound : ℕ → Formula
 
--- The formula holds at a state of a plain system, where its free variables stand for these sets. `<A>f` holds where
--- some step by such an action leads to f, and `[A]f` where each does, so also where there is none. Negation is that of
--- the logic. A fixpoint has its meaning also where its body does not grow with its variable.
+-- The formula holds at a state of a plain system, if its free variables stand for these sets. `<A>f` holds if some step
+-- by such an action leads to f, and `[A]f` if each does, so also if there is none. Negation is that of the logic. A
+-- fixpoint has its meaning even if its body does not grow with its variable.
 abbrev pub Means : PlainSystem → List StateSet → Formula → ℕ → Type 0
 Means system sets everywhere s = Unit {0}
 Means system sets nowhere s = ⊥
@@ -37,8 +38,8 @@ Means system sets (box x f) s = (t : ℕ) → Contains (successors system x s) t
 Means system sets (binding kind f) s = HoldsAtFixpoint kind system.states (λ set. Means system (set ∷ sets) f) s
 Means system sets (bound i) s = set_of sets i s ≡ true
 
--- Each variable has a fixpoint, and an even number of negations stands between the two: `!`, and the left side of `=>`.
--- The sign says whether an odd number stands around the formula; of each fixpoint around it is kept, innermost first.
+-- Each variable has a fixpoint, with an even number of negations between the two: `!`, and the left side of `=>`. The
+-- sign says whether an odd number is around the formula; that of each fixpoint around is kept, innermost first.
 abbrev pub IsPositive : List Bool → Bool → Formula → Type 0
 IsPositive signs sign everywhere = Unit {0}
 IsPositive signs sign nowhere = Unit {0}

@@ -1,5 +1,5 @@
--- Formulas in positive normal form, in which nothing is negated and each fixpoint has a priority, as that of parity
--- games; what they mean; and the normal form of a formula and of its negation, by de Morgan's laws. The logic of Kozen
+-- Formulas in positive normal form, without negation, with a priority for each fixpoint, as that of parity games. Also
+-- their meaning, and the normal form of a formula and of its negation, by de Morgan's laws. It is the logic of Kozen
 -- 1983 again, in the form from which games are made.
 use Rattle.std.specs.Prelude.{◌≡◌, ℕ, suc, ◌<◌, ◌≤◌, ◌⊎◌, ◌%◌, List, ◌∷◌, length, Bool, true, false, not, Contains, slice_index}
 use Rattle.vpg_requirement.specs.Actions.{ActionFormula}
@@ -21,7 +21,7 @@ pub data NormalForm : Type 0 where
   fixpoint : Kind → ℕ → NormalForm → NormalForm
   variable : ℕ → NormalForm
 
--- The normal form holds at a state of a plain system, where its free variables stand for these sets. Priorities do not
+-- The normal form holds at a state of a plain system, if its free variables stand for these sets. Priorities do not
 -- matter here.
 abbrev pub Satisfies : PlainSystem → List StateSet → NormalForm → ℕ → Type 0
 Satisfies system sets met s = Unit {0}
@@ -34,7 +34,7 @@ Satisfies system sets (fixpoint kind p f) s =
     HoldsAtFixpoint kind system.states (λ set. Satisfies system (set ∷ sets) f) s
 Satisfies system sets (variable i) s = set_of sets i s ≡ true
 
--- the normal form of the formula, or where the sign is true of its negation; its priorities are all 0
+-- the normal form of the formula, or of its negation if the sign is true; its priorities are all 0
 abbrev pub positive_form : Bool → Formula → NormalForm
 positive_form false everywhere = met
 positive_form true everywhere = unmet
@@ -55,7 +55,7 @@ positive_form false (binding kind f) = fixpoint kind 0 (positive_form false f)
 positive_form true (binding kind f) = fixpoint (other_kind kind) 0 (positive_form true f)
 positive_form sign (bound i) = variable i
 
--- the negation of a normal form, each of whose priorities is one more, as in the dual of a game
+-- the negation of a normal form, with each priority one more, as in the dual of a game
 abbrev pub dual_form : NormalForm → NormalForm
 dual_form met = unmet
 dual_form unmet = met
@@ -71,9 +71,9 @@ abbrev pub HasParity : Kind → ℕ → Type 0
 HasParity least p = p % 2 ≡ 1
 HasParity greatest p = p % 2 ≡ 0
 
--- Among fixpoints of these priorities, innermost first: each variable has a fixpoint, whose priority no fixpoint
--- between them exceeds; a least fixpoint has an odd priority, a greatest one an even priority; and none is below this
--- one, which all other situations have.
+-- Among fixpoints of these priorities, innermost first, each variable has a fixpoint, and no fixpoint between them has
+-- a greater priority. A least fixpoint has an odd priority, a greatest one an even priority. None is below this one,
+-- which all other situations have.
 abbrev pub HasPriorities : ℕ → List ℕ → NormalForm → Type 0
 HasPriorities low ps met = Unit {0}
 HasPriorities low ps unmet = Unit {0}

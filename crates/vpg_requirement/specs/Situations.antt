@@ -21,7 +21,7 @@ pub record Situation : Type 0 where
   pub part : NormalForm
   pub scope : List Binder
 
--- The situation of a part at a state. Where the part is `true` or `false` neither the state nor the scope matters, so
+-- The situation of a part at a state. If the part is `true` or `false`, neither the state nor the scope matters, so
 -- there is one situation for each. A fixpoint and its variable are one situation too: the variable, with its fixpoint
 -- as the innermost of the scope.
 abbrev pub situation : ℕ → NormalForm → List Binder → Situation
@@ -35,8 +35,8 @@ situation s (fixpoint kind p f) scope =
     record { state = s; part = variable 0; scope = record { kind = kind; priority = p; body = f } ∷ scope }
 situation s (variable i) scope = record { state = s; part = variable 0; scope = drop i scope }
 
--- Where the moves from a part at a state lead: to the parts of `and` and `or`; by each step that is permitted; into the
--- body of a fixpoint that is taken up.
+-- The targets of the moves from a part at a state: the parts of `and` and `or`; each permitted step; the body of a
+-- fixpoint that is taken up.
 abbrev pub moves_of : PlainSystem → ℕ → NormalForm → List Binder → List Situation
 moves_of system s met scope = []
 moves_of system s unmet scope = []
@@ -48,13 +48,13 @@ moves_of system s (fixpoint kind p f) scope = situation s (fixpoint kind p f) sc
 moves_of system s (variable i) [] = []
 moves_of system s (variable i) (binder ∷ scope) = situation s binder.body (binder ∷ scope) ∷ []
 
--- where the moves from a situation lead
+-- the targets of the moves from a situation
 abbrev pub moves_from : PlainSystem → Situation → List Situation
 moves_from system place = moves_of system place.state place.part place.scope
 
 -- The player who moves at a part: Even at `or` and at diamonds, Odd at `and` and at boxes. At `true` it is Odd and at
--- `false` Even, who loses there for want of a move. Where a fixpoint is taken up there is one move, and either player
--- may make it.
+-- `false` Even, who loses there without a move. If a fixpoint is taken up there is one move, and either player may make
+-- it.
 abbrev pub part_owner : Player → NormalForm → Player
 part_owner mover met = Odd
 part_owner mover unmet = Even
@@ -65,7 +65,7 @@ part_owner mover (every_step x f) = Odd
 part_owner mover (fixpoint kind p f) = mover
 part_owner mover (variable i) = mover
 
--- the priority of a part: that of the fixpoint where one is taken up, and the lowest elsewhere
+-- the priority of a part: that of the fixpoint if one is taken up, and the lowest elsewhere
 abbrev pub part_priority : ℕ → NormalForm → List Binder → ℕ
 part_priority low (variable i) [] = low
 part_priority low (variable i) (binder ∷ scope) = binder.priority
@@ -77,11 +77,11 @@ part_priority low (some_step x f) scope = low
 part_priority low (every_step x f) scope = low
 part_priority low (fixpoint kind p f) scope = low
 
--- past the end of a list of situations there is nothing but `false`
+-- past the end of a list of situations there is only `false`
 abbrev pub no_situation : Situation
 no_situation = record { state = 0; part = unmet; scope = [] }
 
--- the situation that stands at a place of the list
+-- the situation at a place of the list
 abbrev pub situation_at : List Situation → ℕ → Situation
 situation_at places v = slice_index_or places v no_situation
 

@@ -1,4 +1,4 @@
--- The words that stand for formulas, and what they mean on the graph of a system. `always`, `possibly` and `inevitably`
+-- The words that stand for formulas, and their meaning on the graph of a system. `always`, `possibly` and `inevitably`
 -- are AG, EF and AF of the branching-time logic CTL (Clarke, Emerson and Sistla 1986), over runs that may also stop;
 -- the others are this project's own.
 use Rattle.std.specs.Prelude.{ℕ, suc, ◌<◌, ◌↔◌, [], false, if◌then◌else◌, nat_lt, Contains}
@@ -7,12 +7,11 @@ use Rattle.vpg_requirement.specs.Systems.{PlainSystem, IsClosedSystem, successor
 use Rattle.vpg_requirement.specs.Fixpoints.{least, greatest}
 use Rattle.vpg_requirement.specs.Formulas.{Formula, everywhere, nowhere, negation, conjunction, disjunction, implication, diamond, box, binding, bound, Means, IsPositive}
 
--- the number of a variable where one more fixpoint comes to stand outside so many others: those further out count one
--- more
+-- the number of a variable with one more fixpoint outside this many others: those further out count one more
 abbrev pub shift_variable : ℕ → ℕ → ℕ
 shift_variable k i = if nat_lt i k then i else suc i
 
--- the formula where one more fixpoint comes to stand there: its variables, shifted (de Bruijn 1972)
+-- the formula with one more fixpoint there: its variables, shifted (de Bruijn 1972)
 abbrev pub shift : ℕ → Formula → Formula
 shift k everywhere = everywhere
 shift k nowhere = nowhere
@@ -74,20 +73,20 @@ pub data Leads (system : PlainSystem) : ℕ → ℕ → Type 0 where
   stay : {s : ℕ} → Leads system s s
   go : {s t u : ℕ} → IsNext system s t → Leads system t u → Leads system s u
 
--- Each run comes to such a state: it is one, or there is a step and each step leads to where each run comes to one. So
--- a run that stops before has not come to one, and none puts it off for ever.
+-- Each run comes to such a state: it is one, or there is a step, and from the target of each step each run comes to
+-- one. So a run that stops before has not come to one, and none puts it off for ever.
 pub data ComesTo (system : PlainSystem) (P : ℕ → Type 0) : ℕ → Type 0 where
   come : {s : ℕ} → P s → ComesTo system P s
   later : {s : ℕ} → (t : ℕ) × IsNext system s t → ((t : ℕ) → IsNext system s t → ComesTo system P t) →
       ComesTo system P s
 
--- Each run comes to such an action: there is a step, and each step by another action leads to where each run comes to
--- one.
+-- Each run comes to such an action: there is a step, and from the target of each step by another action each run comes
+-- to one.
 pub data ComesToAction (system : PlainSystem) (x : ActionFormula) : ℕ → Type 0 where
   forced : {s : ℕ} → (t : ℕ) × IsNext system s t →
       ((t : ℕ) → Contains (successors system (other_than x) s) t → ComesToAction system x t) → ComesToAction system x s
 
--- what each word says of a state, of a formula that stands alone and of an action formula
+-- the meaning of each word at a state, for a formula that stands alone and for an action formula
 pub record WordsMean (system : PlainSystem) (f : Formula) (x : ActionFormula) (s : ℕ) : Type 0 where
   pub can_means : Means system [] (can x) s ↔ ((t : ℕ) × Contains (successors system x s) t)
   pub always_means : Means system [] (always f) s ↔ ((t : ℕ) → Leads system s t → Means system [] f t)

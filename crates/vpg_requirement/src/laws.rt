@@ -1,18 +1,17 @@
-//! What holds of formulas and of the games that are made from them: each law is the contract of a function that does
-//! nothing.
+//! Laws of formulas and of the games that are made from them. Each function does nothing: its contract is the law.
 //!
-//! [`formula_decides`] is the theorem; the others say its parts, and that what it asks for can be had.
+//! [`formula_decides`] is the theorem. The others state its parts, and that its conditions can be met.
 ghost use Rattle.vpg_requirement.specs.Construction.{ConstructionIsBuilt, RefusedIsTooMany};
 ghost use Rattle.vpg_requirement.specs.Words.{WordsMeanWhatTheySay};
 ghost use Rattle.vpg_requirement.specs.Example.{SmallFamilyIsDecided};
 ghost use Rattle.vpg_requirement.specs.Laws.{WhatHoldsIsWon, WhatFailsIsLost, BuiltIsGame, GameDecides, PrioritiesAreRight, PositiveFormMeansTheSame, FormulaDecides, AlikeGamesAreTheSame};
 
-/// Where a normal form holds at a state of a plain system, Even has a winning strategy from its situation.
+/// If a normal form holds at a state of a plain system, Even has a winning strategy from its situation.
 pub fn what_holds_is_won()
     ensures { WhatHoldsIsWon }
 {}
 
-/// Where it does not hold, Odd has one.
+/// If a normal form does not hold at a state, Odd has a winning strategy from its situation.
 pub fn what_fails_is_lost()
     ensures { WhatFailsIsLost }
 {}
@@ -22,17 +21,17 @@ pub fn built_is_game()
     ensures { BuiltIsGame }
 {}
 
-/// So in each product it decides whether a normal form holds in the product's system.
+/// In each product, the game that is built for a family decides whether a normal form holds in the product's system.
 pub fn game_decides()
     ensures { GameDecides }
 {}
 
-/// The priorities that fixpoints are given make the game decide the normal form, and change no meaning.
+/// The priorities given to fixpoints make the game decide the normal form, and change no meaning.
 pub fn priorities_are_right()
     ensures { PrioritiesAreRight }
 {}
 
-/// The positive form of a formula means what the formula means.
+/// The positive form of a formula has the formula's meaning.
 pub fn positive_form_means_the_same()
     ensures { PositiveFormMeansTheSame }
 {}
@@ -53,8 +52,8 @@ pub fn alike_games_are_the_same()
     ensures { AlikeGamesAreTheSame }
 {}
 
-/// A family of two states and a formula, of which the laws speak: what they ask for can be had, and the formula holds
-/// in one of its two products alone.
+/// A family of two states and a formula satisfy the conditions of the laws, and the formula holds in only one of its
+/// two products.
 pub fn small_family_is_decided()
     ensures { SmallFamilyIsDecided }
 {}
@@ -65,7 +64,7 @@ pub fn construction_is_built()
     ensures { ConstructionIsBuilt }
 {}
 
-/// Where the search constructs none, more than so many different situations can be reached.
+/// If the search constructs none, more than this many different situations can be reached.
 pub fn refused_is_too_many()
     ensures { RefusedIsTooMany }
 {}

@@ -11,12 +11,12 @@ TextsSpellOneSystem =
     (features : List (List ℕ)) (text : List ℕ) (s t : NamedSystem) → AreNames features → IsTextOf features text s →
     IsTextOf features text t → s ≡ t
 
--- What a text spells is a system.
+-- Each text spells a system within the limits, if it spells one.
 abbrev pub SpelledAreSystems : Type 0
 SpelledAreSystems =
     (features : List (List ℕ)) (text : List ℕ) (s : NamedSystem) → IsTextOf features text s → IsSystem s
 
--- What is written spells the system.
+-- The text that is written spells the system.
 abbrev pub WritingsSpellTheSystem : Type 0
 WritingsSpellTheSystem =
     (features : List (List ℕ)) (s : NamedSystem) → AreNames features → length features ≡ s.features → IsSystem s →

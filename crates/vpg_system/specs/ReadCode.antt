@@ -1,4 +1,4 @@
--- What reading a line gives: words for private functions. This project's own.
+-- The results of reading a line, for the contracts of private functions. This project's own.
 use Rattle.std.specs.Prelude.{ℕ, ◌≡◌, ◌≢◌, ◌+◌, ◌<◌, ◌≤◌, List, Option, None, Err, Result, ◌⊎◌, ⊤}
 use Rattle.vpg_guards.specs.declared.fault.GuardFault.{GuardFault}
 use Rattle.vpg_guards.specs.declared.fault.GuardFault.TheVariants as guard_faults
@@ -18,7 +18,7 @@ use Rattle.vpg_system.specs.declared.reading.Reader.{Reader}
 abbrev pub seen_in : Reader → Seen
 seen_in r = record { names = r.actions; transitions = transitions_of r.transitions.items }
 
--- the refusal of a line, as the code tells it
+-- the refusal of a line, as the code has it
 abbrev pub IsRefusal : Refusal → LineFault → Type 0
 IsRefusal NoForm kind = kind ≡ line_faults.Syntax
 IsRefusal Beyond kind = kind ≡ line_faults.WrongCount
@@ -31,7 +31,7 @@ abbrev pub IsLineError : Result Seen Refusal → LineError → Type 0
 IsLineError read Memory = ⊤
 IsLineError read (Refused kind) = (refusal : Refusal) × (read ≡ Err refusal) × IsRefusal refusal kind
 
--- the fault of a text, as the code tells it
+-- the fault of a text, as the code has it
 abbrev pub IsFaultOf : Fault → SystemFault → Type 0
 IsFaultOf (NoHeader line) e = e ≡ faults.NoHeader line
 IsFaultOf (TooMany line) e = e ≡ faults.TooMany line
@@ -65,11 +65,11 @@ IsHeaderError found number e = (e ≡ faults.Memory) ⊎
     ((fault : Fault) × ((features : List (List ℕ)) (rest : List (List ℕ)) →
     after_header features number found rest ≡ Err fault) × IsFaultOf fault e)
 
--- the reading of a text whose header is this one at a line, and this behind it
+-- the reading of a text that has this header at a line, and this text after it
 abbrev pub behind_header : List (List ℕ) → Header → ℕ → List ℕ → Result NamedSystem Fault
 behind_header features h number behind = read_lines features h number (number + 1) (lines behind) nothing
 
--- why a line is not read whose guard, at a place, is not read
+-- why a line is not read, if its guard at a place is not read
 abbrev pub guard_error : ℕ → GuardFault → LineError
 guard_error at guard_faults.Memory = Memory
 guard_error at (guard_faults.Syntax k) = Refused (line_faults.Guard at (guard_faults.Syntax k))

@@ -1,4 +1,5 @@
--- Reading a text of a system, line by line, as a function on lists: words for private functions. This project's own.
+-- Reading a text of a system, line by line, as a function on lists, for the contracts of private functions. This
+-- project's own.
 use Rattle.std.specs.Prelude.{ℕ, ◌+◌, ◌-◌, max, Bool, true, false, ◌&&◌, ◌==◌, cond, nat_lt, nat_le, List, [], ◌∷◌, ◌++◌, length, Option, Some, None, Result, Ok, Err, codes, bytes_eq}
 use Rattle.std.specs.Str.Parse.{digits_value}
 use Rattle.std.specs.Str.Lines.{lines}
@@ -21,17 +22,17 @@ pub data Fault : Type 0 where
   TooFew : (line : ℕ) → Fault
   At : (line : ℕ) → Refusal → Fault
 
--- a test that has to pass, and the fault where it does not
+-- a test that has to pass, and the fault if it does not
 abbrev pub checked : {A E : Type 0} → Bool → E → Result A E → Result A E
 checked true fault r = r
 checked false fault r = Err fault
 
--- what stands before a byte and behind it, with a byte in front
+-- the texts before and after a byte, with a byte in front
 abbrev pub before_cut : ℕ → Option (List ℕ × List ℕ) → Option (List ℕ × List ℕ)
 before_cut b None = None
 before_cut b (Some p) = Some (b ∷ p.0, p.1)
 
--- what stands before the first such byte, and behind it
+-- the texts before and after the first such byte
 abbrev pub cut : ℕ → List ℕ → Option (List ℕ × List ℕ)
 cut sign [] = None
 cut sign (b ∷ bs) = cond (b == sign) (Some ([], bs)) (before_cut b (cut sign bs))
@@ -41,12 +42,12 @@ abbrev pub last_or : ℕ → Bool → List ℕ → Option (List ℕ × List ℕ)
 last_or b here bs (Some p) = Some (b ∷ p.0, p.1)
 last_or b here bs None = cond here (Some ([], bs)) None
 
--- what stands before the last such byte, and behind it
+-- the texts before and after the last such byte
 abbrev pub cut_last : ℕ → List ℕ → Option (List ℕ × List ℕ)
 cut_last sign [] = None
 cut_last sign (b ∷ bs) = last_or b (b == sign) bs (cut_last sign bs)
 
--- what stands before such a byte that comes last
+-- the text before such a byte, if the byte comes last
 abbrev pub if_last : Option (List ℕ × List ℕ) → Option (List ℕ)
 if_last None = None
 if_last (Some p) = cond (is_nonempty p.1) None (Some p.0)
@@ -76,7 +77,7 @@ abbrev pub two : List (List ℕ) → Option (List ℕ × List ℕ)
 two (a ∷ b ∷ []) = Some (a, b)
 two _ = None
 
--- the numeral behind `(`
+-- the numeral after `(`
 abbrev pub opened : Option (List ℕ × List ℕ) → Option (List ℕ)
 opened None = None
 opened (Some p) = numeral_if (bytes_eq p.0 (codes "(") && is_numeral p.1) p.1
@@ -96,7 +97,7 @@ abbrev pub unquoted : List ℕ → Option (List ℕ)
 unquoted [] = None
 unquoted (b ∷ bs) = cond (b == 34) (before_end 34 bs) None
 
--- the label that stands there, bare or in quotes
+-- the label in a text, bare or in quotes
 abbrev pub label_in : List ℕ → Option (List ℕ)
 label_in text = cond (lacks 34 text) (cond (lacks 44 text) (Some text) None) (unquoted text)
 
@@ -127,7 +128,7 @@ header_in (w ∷ o ∷ f ∷ c ∷ t ∷ d ∷ s ∷ e ∷ []) =
     cond (bytes_eq w (codes "des")) (make_header (source_of o f c) (middle_of c t d) (target_of d s e)) None
 header_in _ = None
 
--- the header that a line is, if it is one
+-- the header that a line spells, if it does
 abbrev pub header_at : List ℕ → Option Header
 header_at bytes = header_in (words bytes)
 
@@ -154,7 +155,7 @@ abbrev pub behind_cut : Option (List ℕ × List ℕ) → ℕ
 behind_cut None = 0
 behind_cut (Some p) = length p.0 + 1
 
--- the place behind the last `[`
+-- the place after the last `[`
 abbrev pub guard_place : List ℕ → ℕ
 guard_place bytes = behind_cut (cut_last 91 bytes)
 
@@ -194,7 +195,7 @@ after_form features h seen bytes (Some form) =
     checked (nat_lt (length seen.transitions) h.count) Beyond
     (after_label features h seen bytes form (label_of form.label))
 
--- what is seen with one more line
+-- the names and transitions with one more line
 abbrev pub line_at : List (List ℕ) → Header → Seen → List ℕ → Result Seen Refusal
 line_at features h seen bytes = after_form features h seen bytes (form_of bytes)
 
@@ -215,7 +216,7 @@ abbrev pub after_line : ℕ → Result Seen Refusal → (Seen → Result NamedSy
 after_line number (Err refusal) behind = Err (At number refusal)
 after_line number (Ok seen) behind = behind seen
 
--- the lines from a number on, where the header is at a line
+-- the lines from a number on, if the header is at a line
 abbrev pub read_lines : List (List ℕ) → Header → ℕ → ℕ → List (List ℕ) → Seen → Result NamedSystem Fault
 read_lines features h line number [] seen = finished features h line seen
 read_lines features h line number (bytes ∷ rest) seen =

@@ -16,7 +16,7 @@ pub record Transition : Type 0 where
   pub target : ℕ
 
 -- a featured transition system: its states are the numbers below a count, its actions are numbers that have names, and
--- its guards are over so many features
+-- its guards are over this many features
 pub record NamedSystem : Type 0 where
   pub features : ℕ
   pub first : ℕ
@@ -32,7 +32,7 @@ is_blank b = (b == 32) || (b == 9)
 abbrev pub is_sign : ℕ → Bool
 is_sign b = (b == 40) || (b == 41) || (b == 44)
 
--- there is something
+-- the list is not empty
 abbrev pub is_nonempty : {X : Type 0} → List X → Bool
 is_nonempty [] = false
 is_nonempty (x ∷ xs) = true
@@ -48,13 +48,13 @@ in_word b true [] = (b ∷ []) ∷ []
 in_word b true (w ∷ ws) = (b ∷ w) ∷ ws
 in_word b false ws = (b ∷ []) ∷ ws
 
--- the words of a line: each sign is one, and so is what stands between signs and blanks
+-- the words of a line: each sign is one, and so is the text between signs and blanks
 abbrev pub words : List ℕ → List (List ℕ)
 words [] = []
 words (b ∷ bs) =
     cond (is_blank b) (words bs) (cond (is_sign b) ((b ∷ []) ∷ words bs) (in_word b (goes_on bs) (words bs)))
 
--- the byte stands nowhere in the text
+-- the byte does not occur in the text
 abbrev pub lacks : ℕ → List ℕ → Bool
 lacks sign text = list_all (λ b. not (b == sign)) text
 
@@ -63,7 +63,7 @@ abbrev pub without_front : List ℕ → List ℕ
 without_front [] = []
 without_front (b ∷ bs) = cond (is_blank b) (without_front bs) (b ∷ bs)
 
--- the byte in front of what stands behind it without blanks at the end
+-- the byte in front of a text without blanks at its end
 abbrev pub unless_last : ℕ → List ℕ → List ℕ
 unless_last b [] = cond (is_blank b) [] (b ∷ [])
 unless_last b (c ∷ cs) = b ∷ c ∷ cs
@@ -103,8 +103,7 @@ pub record SpellsHeader (bytes : List ℕ) (h : Header) : Type 0 where
   pub count_is : IsNumeralOf count h.count
   pub states_are : IsNumeralOf states h.states
 
--- The label that stands between the commas: bare, without quotes and commas, or in double quotes, where any byte may
--- stand, a quote too.
+-- The label between the commas: bare, without quotes and commas, or in double quotes, with any bytes, a quote too.
 abbrev pub SpellsLabel : List ℕ → List ℕ → Type 0
 SpellsLabel text label =
     ((text ≡ label) × IsTrue (lacks 34 label) × IsTrue (lacks 44 label)) ⊎ (text ≡ 34 ∷ (label ++ 34 ∷ []))
@@ -115,7 +114,7 @@ pub record Form : Type 0 where
   pub label : List ℕ
   pub target : ℕ
 
--- `(A, LABEL, B)`: A stands before the first comma of the line, B behind the last, and the label between, with blanks
+-- `(A, LABEL, B)`: A comes before the first comma of the line, B after the last, and the label between, with blanks
 -- free round it
 pub record SpellsForm (bytes : List ℕ) (form : Form) : Type 0 where
   pub front : List ℕ
@@ -157,7 +156,7 @@ abbrev pub HasName : List ℕ → List ℕ → Option (List ℕ) → Type 0
 HasName label name None = IsNameAlone label name
 HasName label name (Some text) = IsGuarded label name text
 
--- the guard that stands there: `true` where no text does
+-- the guard of the text, or `true` if there is no text
 abbrev pub SpellsGuard : List (List ℕ) → Option (List ℕ) → Formula → Type 0
 SpellsGuard features None g = g ≡ always
 SpellsGuard features (Some text) g = Spells features text g
@@ -170,7 +169,7 @@ pub record SpellsTransition (features : List (List ℕ)) (bytes name : List ℕ)
   pub label_is : HasName label name text
   pub guard_is : SpellsGuard features text t.guard
 
--- the names with this one, which comes last where it is new
+-- the names with this one, which is put last if it is new
 abbrev pub with_name : List (List ℕ) → List ℕ → List (List ℕ)
 with_name names name = if list_any (bytes_eq name) names then names else names ++ name ∷ []
 
@@ -178,8 +177,8 @@ with_name names name = if list_any (bytes_eq name) names then names else names +
 abbrev pub place_with : List (List ℕ) → List ℕ → ℕ
 place_with names name = position_or_len (bytes_eq name) names
 
--- Lines with a transition each, between so many states. The number of an action is the place of its name among the
--- names that stand up to there. Before the lines there are the one names, and behind them the other.
+-- Lines with a transition each, between this many states. The number of an action is the place of its name among the
+-- names up to there. Before the lines there are the first names, and after them the last.
 abbrev pub AreTransitions :
     List (List ℕ) → ℕ → List (List ℕ) → List (List ℕ) → List Transition → List (List ℕ) → Type 0
 AreTransitions features states names [] [] all = names ≡ all
@@ -198,7 +197,7 @@ not_blank line = not (list_all is_blank line)
 abbrev pub kept : List (List ℕ) → List (List ℕ)
 kept ls = filter not_blank ls
 
--- what the header of a system says
+-- the header of a system
 abbrev pub header_of : NamedSystem → Header
 header_of s = record { first = s.first; count = length s.transitions; states = s.states }
 
@@ -207,8 +206,8 @@ pub record IsWithin (h : Header) : Type 0 where
   pub few_states : h.states ≤ 65536
   pub few_transitions : h.count ≤ 1048576
 
--- The text spells this system, whose guards are over these features, within the limits: its lines that are not blank
--- are a header, and then one line for each transition.
+-- The text spells this system over these features, within the limits. Its lines that are not blank are a header, and
+-- then one line for each transition.
 pub record IsTextOf (features : List (List ℕ)) (text : List ℕ) (s : NamedSystem) : Type 0 where
   pub features_are : s.features ≡ length features
   pub header : List ℕ

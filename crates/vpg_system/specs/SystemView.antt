@@ -1,4 +1,4 @@
--- What the code keeps, in the words of the definitions. This project's own.
+-- The code's values in the words of the definitions. This project's own.
 use Rattle.std.specs.Prelude.{ℕ, List, map, Option, option_map}
 use Rattle.std.specs.Borrow.{Bor}
 use Rattle.std.specs.Str.Parse.{digits_value}

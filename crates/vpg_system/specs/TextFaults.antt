@@ -11,7 +11,7 @@ use Rattle.vpg_system.specs.declared.fault.SystemFault.TheVariants as faults
 use Rattle.vpg_system.specs.declared.fault.LineFault.{LineFault}
 use Rattle.vpg_system.specs.declared.fault.LineFault.TheVariants as line_faults
 
--- the first line that is not blank is refused: each fault where none above it is
+-- the first line that is not blank is refused: each fault if none above it is
 abbrev pub IsHeaderFault : List ℕ → ℕ → SystemFault → Type 0
 IsHeaderFault bytes number (faults.NoHeader line) = (line ≡ number) × ((h : Header) → SpellsHeader bytes h → ⊥)
 IsHeaderFault bytes number (faults.TooMany line) =
@@ -24,7 +24,7 @@ IsHeaderFault bytes number fault = ⊥
 abbrev pub HasStates : ℕ → Form → Type 0
 HasStates states form = (form.source < states) × (form.target < states)
 
--- the text between the brackets spells no guard, and its place is behind the last `[` of the line
+-- the text between the brackets spells no guard, and its place is after the last `[` of the line
 pub record IsGuardFault (features : List (List ℕ)) (states : ℕ) (bytes : List ℕ) (form : Form) (at : ℕ)
     (fault : GuardFault) : Type 0 where
   pub name : List ℕ
@@ -39,7 +39,7 @@ pub record IsGuardFault (features : List (List ℕ)) (states : ℕ) (bytes : Lis
   pub no_guard : (g : Formula) → Spells features text g → ⊥
   pub not_memory : fault ≢ guard_faults.Memory
 
--- a form that is refused behind so many transitions: each fault where none above it is
+-- a form that is refused after this many transitions: each fault if none above it is
 abbrev pub IsFormFault : List (List ℕ) → Header → ℕ → List ℕ → Form → LineFault → Type 0
 IsFormFault features h before bytes form line_faults.Syntax = ⊥
 IsFormFault features h before bytes form line_faults.WrongCount = h.count ≤ before
@@ -57,7 +57,7 @@ IsLineFault features h before bytes line_faults.Syntax = (form : Form) → Spell
 IsLineFault features h before bytes kind =
     (form : Form) × SpellsForm bytes form × IsFormFault features h before bytes form kind
 
--- these lines up to a header that is not refused, and transitions behind it
+-- these lines up to a header that is not refused, and transitions after it
 pub record AreLinesOf (features : List (List ℕ)) (ls : List (List ℕ)) (number : ℕ) (h : Header)
     (ts : List Transition) : Type 0 where
   pub blanks : List (List ℕ)

@@ -4,11 +4,11 @@ use Rattle.vpg_guards.specs.Formula.{Formula, always}
 use Rattle.vpg_guards.specs.Writing.{guard_text}
 use Rattle.vpg_system.specs.SystemText.{Transition, NamedSystem, is_closed}
 
--- a guard in brackets, behind a blank
+-- a guard in brackets, after a blank
 abbrev pub bracketed : List ℕ → List ℕ
 bracketed text = codes " [" ++ (text ++ codes "]")
 
--- A guard other than `true`. Behind a name that ends in a `]`, `true` too, since the name's own brackets would be read
+-- A guard other than `true`. After a name that ends in a `]`, `true` too, since the name's own brackets would be read
 -- as a guard.
 abbrev pub guard_part : List (List ℕ) → List ℕ → Formula → List ℕ
 guard_part features name always = cond (is_closed name) (bracketed (guard_text features always)) []

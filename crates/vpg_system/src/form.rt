@@ -1,4 +1,4 @@
-//! The forms of lines, and what a label says.
+//! The forms of lines, and the parts of a label.
 
 ghost use Rattle.std.specs.Prelude.{◌≡◌, ◌==◌, ◌&&◌, [], ◌∷◌, bytes_eq, length, option_map, IfOk};
 ghost use Rattle.vpg_system.specs.SystemText.{words, lacks, trimmed, is_nonempty, is_numeral};
@@ -18,7 +18,7 @@ struct Between<'a> {
     right: &'a [u8],
 }
 
-/// The numeral, if it stands between these.
+/// Returns the numeral, if it stands between these.
 fn numeral_between<'a>(words: Between<'a>, left: &[u8], right: &[u8]) -> Option<&'a [u8]>
     ensures { text_in result
         ≡ between left.now right.now words.entry.left.now words.entry.digits.now words.entry.right.now }
@@ -56,7 +56,7 @@ pub(crate) struct LineForm<'a> {
     pub(crate) target: &'a [u8],
 }
 
-/// The numeral behind `(`, where nothing else stands.
+/// Returns the numeral after `(`, if there is nothing else.
 fn opening(text: &[u8]) -> Option<&[u8]>
     ensures { text_in result ≡ opening text.now }
 {
@@ -70,7 +70,7 @@ fn opening(text: &[u8]) -> Option<&[u8]>
     }
 }
 
-/// The numeral before `)`, where nothing else stands.
+/// Returns the numeral before `)`, if there is nothing else.
 fn closing(text: &[u8]) -> Option<&[u8]>
     ensures { text_in result ≡ closing text.now }
 {
@@ -84,7 +84,7 @@ fn closing(text: &[u8]) -> Option<&[u8]>
     }
 }
 
-/// What stands in quotes.
+/// Returns the text in quotes.
 fn unquoted(text: &[u8]) -> Option<&[u8]>
     ensures { text_in result ≡ unquoted text.now }
 {
@@ -100,7 +100,7 @@ fn unquoted(text: &[u8]) -> Option<&[u8]>
     }
 }
 
-/// The label that stands there, bare or in quotes.
+/// Returns the label in a text, bare or in quotes.
 fn label_in(text: &[u8]) -> Option<&[u8]>
     ensures { text_in result ≡ label_in text.now }
 {
@@ -110,7 +110,7 @@ fn label_in(text: &[u8]) -> Option<&[u8]>
     if lacks(text, b',') { Some(text) } else { None }
 }
 
-/// The form of its parts.
+/// Returns the form made of its parts.
 fn make_form<'a>(
     source: Option<&'a [u8]>,
     label: Option<&'a [u8]>,
@@ -129,7 +129,7 @@ fn make_form<'a>(
     }
 }
 
-/// The form of a line, if it has one.
+/// Returns the form of a line, if it has one.
 pub(crate) fn form_of(line: &[u8]) -> Option<LineForm>
     ensures { option_map view_form result ≡ form_of line.now }
 {
@@ -150,7 +150,7 @@ pub(crate) struct HeaderForm<'a> {
     pub(crate) states: &'a [u8],
 }
 
-/// The header of its parts.
+/// Returns the header made of its parts.
 fn make_header<'a>(
     first: Option<&'a [u8]>,
     count: Option<&'a [u8]>,
@@ -169,7 +169,7 @@ fn make_header<'a>(
     }
 }
 
-/// The header that words are.
+/// Returns the header that words spell.
 fn header_in<'a>(words: &[&'a [u8]]) -> Option<HeaderForm<'a>>
     ensures { option_map view_header result ≡ header_in (texts words.now) }
 {
@@ -202,7 +202,7 @@ fn header_in<'a>(words: &[&'a [u8]]) -> Option<HeaderForm<'a>>
     }
 }
 
-/// The header that a line is, if it is one.
+/// Returns the header that a line spells, if it does.
 pub(crate) fn header_at(alloc: Global, line: &[u8]) -> Result<Option<HeaderForm>, AllocError>
     ensures { IfOk result (λ found. option_map view_header found ≡ header_at line.now) }
 {
@@ -227,7 +227,7 @@ fn named<'a>(name: &'a [u8], guard: Option<&'a [u8]>) -> Option<Name<'a>>
     }
 }
 
-/// The name before the last `[`, and the text behind it.
+/// Returns the name before the last `[`, and the text after it.
 fn guarded(front: &[u8]) -> Option<Name>
     ensures { option_map view_name result ≡ guarded (cut_last 91 front.now) }
 {
@@ -237,7 +237,7 @@ fn guarded(front: &[u8]) -> Option<Name>
     }
 }
 
-/// The name of a label.
+/// Returns the name of a label.
 pub(crate) fn name_of(label: &[u8]) -> Option<Name>
     ensures { option_map view_name result ≡ label_of label.now }
 {
@@ -248,7 +248,7 @@ pub(crate) fn name_of(label: &[u8]) -> Option<Name>
     }
 }
 
-/// The place behind the last `[`.
+/// Returns the place after the last `[`.
 pub(crate) fn guard_place(line: &[u8]) -> usize
     ensures { result ≡ guard_place line.now }
 {

@@ -6,12 +6,12 @@ pub fn texts_spell_one_system()
     ensures { TextsSpellOneSystem }
 {}
 
-/// What a text spells is within the limits, leads between its states, and has guards over the features.
+/// A system that a text spells is within the limits, leads between its states, and has guards over the features.
 pub fn spelled_are_systems()
     ensures { SpelledAreSystems }
 {}
 
-/// What is written spells the system.
+/// The text that is written spells the system.
 pub fn writings_spell_the_system()
     ensures { WritingsSpellTheSystem }
 {}

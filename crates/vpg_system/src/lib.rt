@@ -4,14 +4,14 @@
 //! an action and a guard over features. The system of a product has the transitions whose guard is true in it. The text
 //! is that of the Aldebaran format, as CADP and mCRL2 write it; a guard in brackets at a label's end is an addition.
 //!
-//! The crates above use `System`: `read` and `write`, its first state and how many states it has, its transitions in
-//! the order of the text, and the names of its actions, which are numbered in the order of their first use.
+//! The crates above use `System`: `read` and `write`, its first state and its number of states, its transitions in the
+//! order of the text, and the names of its actions. Actions are numbered in the order of their first use.
 //!
-//! Definitions stand in `specs/`: `SystemText` (which text spells a system), `TextFaults` (which fault a text has),
-//! `System` (what every system has that is read), `Writing` (the one writing of a system), `SystemView` (transitions of
-//! the code as those of the definitions), `Coding` (systems as lists of numbers, for models that hold them) and `Laws`
-//! (statements of the laws of the module `laws`). `SystemReading` and `ReadCode` are the reader as a function on lists;
-//! only private contracts name them.
+//! Definitions stand in `specs/`: `SystemText` (which text spells a system); `TextFaults` (which fault a text has);
+//! `System` (properties of every system that is read); `Writing` (the one writing of a system); `SystemView` (the
+//! code's transitions as those of the definitions); `Coding` (systems as lists of numbers, for models that hold them);
+//! `Laws` (statements of the laws of the module `laws`). `SystemReading` and `ReadCode` are the reader as a function on
+//! lists; only private contracts name them.
 #![tactic(auto)]
 
 mod actions;

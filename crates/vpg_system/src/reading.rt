@@ -16,10 +16,10 @@ use std::alloc::Global;
 use vpg_features::Names;
 use vpg_guards::{Guard, GuardFault, parse_guard};
 
-/// The most states of a system.
+/// The greatest number of states in a system.
 pub const MOST_STATES: u32 = 65_536;
 
-/// The most transitions of a system.
+/// The greatest number of transitions in a system.
 pub const MOST_TRANSITIONS: u32 = 1_048_576;
 
 /// The first state, and how many transitions and states there are.
@@ -30,14 +30,14 @@ pub(crate) struct Header {
     pub(crate) states: u32,
 }
 
-/// What is read so far.
+/// The actions and transitions read so far.
 #[derive(Drop)]
 pub(crate) struct Reader {
     pub(crate) actions: Actions,
     pub(crate) transitions: Vec<Transition>,
 }
 
-/// The guard of a text in a line, `true` where there is no text.
+/// Returns the guard of a text in a line, `true` if there is no text.
 fn guard_of(
     alloc: Global,
     features: &Names,
@@ -50,7 +50,7 @@ fn guard_of(
     let Some(text) = text else {
         return Ok(Guard::Always);
     };
-    // `len` tells that the names are feature names, each once.
+    // The contract of `len` says that the names are feature names, each once.
     let _count = features.len();
     match parse_guard(alloc, text, features) {
         Ok(guard) => Ok(guard),
@@ -58,7 +58,7 @@ fn guard_of(
     }
 }
 
-/// Why a line is not read whose guard, at a place, is not read.
+/// Returns the error of a line whose guard, at a place, has this fault.
 fn guard_error(at: usize, fault: GuardFault) -> LineError
     ensures { result ≡ guard_error at fault }
 {
@@ -68,7 +68,7 @@ fn guard_error(at: usize, fault: GuardFault) -> LineError
     }
 }
 
-/// Reads a line that is not blank behind the others.
+/// Reads a line that is not blank after the others.
 fn add_line(
     alloc: Global,
     features: &Names,
@@ -111,7 +111,7 @@ fn add_line(
     Ok(())
 }
 
-/// The header that a line is, within the limits.
+/// Returns the header that a line spells, within the limits.
 fn header_of(alloc: Global, line: &[u8], at: usize) -> Result<Header, SystemFault>
     ensures ok { IfOk result (λ h. header_at line.now ≡ Some (header_of h)) }
     ensures within { IfOk result (λ h. IsGoodHeader (header_of h)) }
@@ -136,7 +136,7 @@ fn header_of(alloc: Global, line: &[u8], at: usize) -> Result<Header, SystemFaul
     })
 }
 
-/// The header, what stands behind its line, and the line's number.
+/// The header, the text after its line, and the line's number.
 #[derive(Clone, Copy)]
 pub(crate) struct Head<'a> {
     pub(crate) header: Header,
@@ -176,7 +176,7 @@ pub(crate) fn read_header<'a>(
     })
 }
 
-/// Reads the lines behind the header.
+/// Reads the lines after the header.
 pub(crate) fn read_lines(
     alloc: Global,
     features: &Names,

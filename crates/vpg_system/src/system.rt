@@ -21,7 +21,7 @@ pub struct System {
     transitions: Vec<Transition>,
 }
 
-// Not derived, so that letting one go is one call: a derived way would be proved anew at each exit that owns one.
+// Not derived: a derived `drop` would be proved again at each exit that owns such a value.
 impl Drop for System {
     fn drop(self) {
         let System {
@@ -68,21 +68,22 @@ impl System {
     ghost use Rattle.vpg_system.specs.TextFaults.{IsFirstFault};
     ghost use Rattle.vpg_system.specs.System.{IsSystem};
 
-    /// The system that a text spells, with guards over these features, of at most 65,536 states and 1,048,576
-    /// transitions. A text that is refused has the first fault of its first faulty line, in the order of `SystemFault`.
+    /// Returns the system that a text spells, with guards over these features, of at most 65,536 states and 1,048,576
+    /// transitions. If the text is refused, the fault is the first of its first faulty line, in the order of
+    /// `SystemFault`.
     pub fn read(alloc: Global, text: &[u8], features: &Names) -> Result<System, SystemFault>
-        // What is read is spelled so.
+        // The text spells the result.
         ensures found { IfOk result (IsTextOf features.now text.now) }
         // A text that is refused spells no system within the limits.
         ensures refused { IfErr result
             (λ fault. fault ≢ SystemFault.Memory → (s : NamedSystem) → IsTextOf features.now text.now s → ⊥) }
         // The fault is that of the first faulty line, and the first that this line has.
         ensures fault { IfErr result (IsFirstFault features.now text.now) }
-        // What is spelled so is read, unless memory runs out.
+        // All that the text spells is read, unless memory runs out.
         ensures only { (s : NamedSystem) → IsTextOf features.now text.now s →
             MatchResult result (λ read. read ≡ s) (λ fault. fault ≡ SystemFault.Memory) }
     {
-        // `len` tells that the names are feature names, each once.
+        // The contract of `len` says that the names are feature names, each once.
         let count = features.len();
         let head = match read_header(alloc, features, text) {
             Ok(head) => head,
@@ -104,29 +105,29 @@ impl System {
         }
     }
 
-    /// Over how many features its guards are, at most 512.
+    /// Returns the number of features that its guards are over, at most 512.
     pub fn features(&self) -> usize
         ensures { result ≡ self.now.features }
     {
         self.features
     }
 
-    /// The first state.
+    /// Returns the first state.
     pub fn first(&self) -> u32
         ensures { result ≡ self.now.first }
     {
         self.first
     }
 
-    /// How many states there are. They are the numbers below.
+    /// Returns the number of states. They are the numbers below it.
     pub fn states(&self) -> u32
         ensures { result ≡ self.now.states }
     {
         self.states
     }
 
-    /// The transitions, in the order of the text. They lead between states, have one of the actions each, and guards
-    /// over the features.
+    /// Returns the transitions, in the order of the text. They lead between states, have one of the actions each, and
+    /// guards over the features.
     pub fn transitions(&self) -> &[Transition]
         ensures value { transitions_of result.now ≡ self.now.transitions }
         ensures system { IsSystem self.now }
@@ -134,7 +135,7 @@ impl System {
         &self.transitions
     }
 
-    /// The transitions, in the order of the text. All else is let go.
+    /// Returns the transitions, in the order of the text, and discards the rest.
     pub fn into_transitions(self) -> Vec<Transition>
         ensures { transitions_of result.items ≡ self.transitions }
     {
@@ -148,7 +149,8 @@ impl System {
         transitions
     }
 
-    /// How many actions there are, at most 1,048,576. They are the numbers below, in the order of their first use.
+    /// Returns the number of actions, at most 1,048,576. They are the numbers below it, in the order of their first
+    /// use.
     pub fn actions(&self) -> usize
         ensures count { result ≡ length self.now.actions }
         ensures few { result ≤ 1048576 }
@@ -156,14 +158,14 @@ impl System {
         self.actions.len()
     }
 
-    /// The names of the actions.
+    /// Returns the names of the actions.
     pub(crate) fn names(&self) -> &Actions
         ensures { result.now ≡ self.now.actions }
     {
         &self.actions
     }
 
-    /// The name of an action.
+    /// Returns the name of an action.
     pub fn action_name(&self, action: usize) -> &[u8]
         requires { action < length self.now.actions }
         ensures { result.now ≡ slice_index_or self.now.actions action [] }
@@ -171,7 +173,7 @@ impl System {
         self.actions.name(action)
     }
 
-    /// The action of a name, if there is one.
+    /// Returns the action of a name, if there is one.
     pub fn action(&self, name: &[u8]) -> Option<usize>
         ensures { result ≡ index_of self.now.actions name.now }
     {

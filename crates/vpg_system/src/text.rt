@@ -23,14 +23,14 @@ fn is_sign(byte: u8) -> bool
     byte == b'(' || byte == b')' || byte == b','
 }
 
-/// Whether only blanks stand there.
+/// Whether the text is all blanks.
 pub(crate) fn is_all_blank(text: &[u8]) -> bool
     ensures { result ≡ list_all is_blank text.now }
 {
     text.iter().all(|b| is_blank(*b))
 }
 
-/// Whether something stands there.
+/// Whether the text is not empty.
 pub(crate) fn is_nonempty(text: &[u8]) -> bool
     ensures { result ≡ is_nonempty text.now }
 {
@@ -40,7 +40,7 @@ pub(crate) fn is_nonempty(text: &[u8]) -> bool
     }
 }
 
-/// The text without the blanks at its front.
+/// Returns the text without the blanks at its front.
 fn without_front(text: &[u8]) -> &[u8]
     ensures text { result.now ≡ without_front text.now }
     ensures within { length result.now ≤ length text.now }
@@ -56,7 +56,7 @@ fn without_front(text: &[u8]) -> &[u8]
     rest
 }
 
-/// The text without the blanks at its end.
+/// Returns the text without the blanks at its end.
 fn without_end(text: &[u8]) -> &[u8]
     ensures { result.now ≡ without_end text.now }
 {
@@ -70,7 +70,7 @@ fn without_end(text: &[u8]) -> &[u8]
     rest
 }
 
-/// The text without the blanks round it.
+/// Returns the text without the blanks round it.
 pub(crate) fn trimmed(text: &[u8]) -> &[u8]
     ensures { result.now ≡ trimmed text.now }
 {
@@ -87,7 +87,7 @@ fn goes_on(text: &[u8]) -> bool
     }
 }
 
-/// How long the word at the front is, where no sign stands.
+/// Returns the length of the word at the front, up to the next sign.
 fn word_len(text: &[u8]) -> usize
     requires { goes_on text.now ≡ true }
     ensures some { 0 < result }
@@ -101,7 +101,7 @@ fn word_len(text: &[u8]) -> usize
     len
 }
 
-/// The first word, and what stands behind it.
+/// Splits the text after its first word.
 fn first_word(text: &[u8]) -> Option<(&[u8], &[u8])>
     ensures some { IfSome result (λ p. words text.now ≡ p.0.now ∷ words p.1.now) }
     ensures shorter { IfSome result (λ p. length p.1.now < length text.now) }
@@ -120,7 +120,7 @@ fn first_word(text: &[u8]) -> Option<(&[u8], &[u8])>
     }
 }
 
-/// The words of a line.
+/// Returns the words of a line.
 pub(crate) fn words(alloc: Global, line: &[u8]) -> Result<Vec<&[u8]>, AllocError>
     ensures { IfOk result (λ v. texts v.items ≡ words line.now) }
 {
@@ -133,7 +133,7 @@ pub(crate) fn words(alloc: Global, line: &[u8]) -> Result<Vec<&[u8]>, AllocError
     Ok(found)
 }
 
-/// The two words of a text that has no others.
+/// Returns the two words of a text that has no others.
 pub(crate) fn two_words(text: &[u8]) -> Option<(&[u8], &[u8])>
     ensures { pair_in result ≡ two (words text.now) }
 {
@@ -155,7 +155,7 @@ fn place_of(text: &[u8], sign: u8) -> Option<usize>
     text.iter().position(|b| *b == sign)
 }
 
-/// What stands before the first such byte, and behind it.
+/// Returns the texts before and after the first such byte.
 pub(crate) fn cut(text: &[u8], sign: u8) -> Option<(&[u8], &[u8])>
     ensures { pair_in result ≡ cut sign text.now }
 {
@@ -165,7 +165,7 @@ pub(crate) fn cut(text: &[u8], sign: u8) -> Option<(&[u8], &[u8])>
     }
 }
 
-/// What stands before the last such byte, and behind it.
+/// Returns the texts before and after the last such byte.
 pub(crate) fn cut_last(text: &[u8], sign: u8) -> Option<(&[u8], &[u8])>
     ensures { pair_in result ≡ cut_last sign text.now }
 {
@@ -179,7 +179,7 @@ pub(crate) fn cut_last(text: &[u8], sign: u8) -> Option<(&[u8], &[u8])>
     None
 }
 
-/// What stands before such a byte that comes last.
+/// Returns the text before such a byte, if the byte comes last.
 pub(crate) fn before_end(text: &[u8], sign: u8) -> Option<&[u8]>
     ensures { text_in result ≡ before_end sign text.now }
 {
@@ -195,7 +195,7 @@ pub(crate) fn before_end(text: &[u8], sign: u8) -> Option<&[u8]>
     }
 }
 
-/// Whether a byte stands nowhere.
+/// Whether a byte does not occur.
 pub(crate) fn lacks(text: &[u8], sign: u8) -> bool
     ensures { result ≡ lacks sign text.now }
 {
@@ -222,10 +222,10 @@ pub(crate) fn is_numeral(word: &[u8]) -> bool
     is_nonempty(word) && has_digits(word)
 }
 
-/// No number of states or transitions is as great as this.
+/// A number greater than any number of states or transitions.
 const GREAT: u64 = 1 << 60;
 
-/// The number that digits write, and `GREAT` where it is greater.
+/// Returns the number that digits write, or `GREAT` if it is greater.
 fn number(digits: &[u8]) -> u64
     ensures { result ≡ min (digits_value 10 digits.now) (2 ^ 60) }
 {
@@ -237,7 +237,7 @@ fn number(digits: &[u8]) -> u64
     value
 }
 
-/// The number that digits write, where it is below a limit.
+/// Returns the number that digits write, if it is below a limit.
 pub(crate) fn number_below(digits: &[u8], limit: u32) -> Option<u32>
     ensures some { IfSome result (λ n. (n ≡ digits_value 10 digits.now) × (n < limit)) }
     ensures none { IfNone result (limit ≤ digits_value 10 digits.now) }
@@ -250,7 +250,7 @@ pub(crate) fn number_below(digits: &[u8], limit: u32) -> Option<u32>
     }
 }
 
-/// A line without the one carriage return at its end.
+/// Returns a line without the one carriage return at its end.
 fn without_return(line: &[u8]) -> &[u8]
     ensures { result.now ≡ strip_carriage_return line.now }
 {
@@ -266,7 +266,7 @@ fn line_end(text: &[u8]) -> Option<usize>
     text.iter().position(|b| *b == b'\n')
 }
 
-/// The first line of a text, and what stands behind it.
+/// Splits the text after its first line.
 pub(crate) fn first_line(text: &[u8]) -> (&[u8], &[u8])
     requires { 0 < length text.now }
     ensures lines { lines text.now ≡ result.0.now ∷ lines result.1.now }

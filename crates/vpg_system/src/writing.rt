@@ -17,7 +17,7 @@ use vpg_features::Names;
 use vpg_guards::Guard;
 
 impl System {
-    /// Writes the system behind what is there, as mCRL2 writes transition systems: a header, then a line for each
+    /// Writes the system after what is there, as mCRL2 writes transition systems: a header, then a line for each
     /// transition, with the label in double quotes. A refusal writes nothing.
     pub fn write(
         &self,
@@ -28,10 +28,10 @@ impl System {
         requires { length features.now ≡ self.now.features }
         ensures ok { OnOk result (out.new.items ≡ out.old.items ++ system_text features.now self.now) }
         ensures err { OnErr result (out.new.items ≡ out.old.items) }
-        // What is written spells this system, so that `read` reads the same system again.
+        // The text that is written spells this system, so that `read` reads the same system again.
         ensures reads_back { OnOk result (IsTextOf features.now (system_text features.now self.now) self.now) }
     {
-        // `len` tells that the names are feature names, each once.
+        // The contract of `len` says that the names are feature names, each once.
         let _count = features.len();
         let mut text = Vec::new(alloc);
         put_header(
@@ -72,7 +72,7 @@ fn put_header(
     Ok(())
 }
 
-/// A line for each transition.
+/// Writes a line for each transition.
 fn put_transitions(
     alloc: Global,
     transitions: &[Transition],
@@ -126,7 +126,7 @@ fn is_closed(text: &[u8]) -> bool
     }
 }
 
-/// A guard in brackets, unless it is `true` and the name in front of it has none at its end.
+/// Writes a guard in brackets. The guard `true` is left out, unless the name before it ends in a `]`.
 fn put_guard(
     alloc: Global,
     guard: &Guard,

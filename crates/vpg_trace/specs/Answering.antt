@@ -71,7 +71,7 @@ neither_line identifier = codes "possible " ++ decimal identifier ++ codes " uns
 abbrev pub unsettled_line : List ℕ
 unsettled_line = codes "unsettled\n"
 
--- the walk along these moves of a player: Even for the first table, Odd for the second
+-- the walk along these moves of a player: Even for the hopeful table, Odd for the dual one
 abbrev pub walk_along : Page → List Tri → Which → ℕ → List (Option ℕ) → Walked
 walk_along page known mover vertex moves = walk_from (caution_for known mover page.game) moves vertex
 
@@ -82,7 +82,7 @@ walk_text page known behaviour mover vertex moves =
     ++ trace_text (family_on page known behaviour) (walk_along page known mover vertex moves).visits
     (is_left (walk_along page known mover vertex moves).waiting)
 
--- What is told behind what was there is the walk along these moves, under what the decisions make known.
+-- The text added is the walk along these moves, under what the decisions make known.
 pub record IsWalkTold (page : Page) (behaviour : Behaviour) (mover : Which) (vertex : ℕ) (moves : List (Option ℕ))
     (before after : List ℕ) : Type 0 where
   pub known : List Tri
@@ -107,7 +107,7 @@ abbrev pub TellsWon : Page → Behaviour → Limits → (mover : Which) → (ver
 TellsWon page behaviour limits mover vertex text =
     TellsWalk page behaviour mover vertex text ⊎ (IsTooShort page limits mover × (text ≡ unsettled_line))
 
--- Where the page has the vertex hopeless the walk is along Odd's moves, where it has it sure along Even's.
+-- If the page has the vertex hopeless, the walk is along Odd's moves; if it has it sure, along Even's.
 abbrev pub TellsTrace : Page → Behaviour → Limits → (vertex : ℕ) → (text : List ℕ) → Type 0
 TellsTrace page behaviour limits vertex text =
     (HasVerdict page Hopeful vertex × TellsWon page behaviour limits Dual vertex text)
@@ -116,6 +116,6 @@ TellsTrace page behaviour limits vertex text =
     ⊎ (¬ (HasVerdict page Hopeful vertex) × ¬ (HasVerdict page Dual vertex)
     × (text ≡ neither_line (identifier_of page vertex)))
 
--- such a text stands behind what was there
+-- such a text is added after what was there
 abbrev pub Appends : (List ℕ → Type 0) → List ℕ → List ℕ → Type 0
 Appends Tells before after = (text : List ℕ) × Tells text × (after ≡ before ++ text)

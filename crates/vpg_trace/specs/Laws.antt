@@ -1,5 +1,4 @@
--- What holds of the steps that are told, and of who wins. This project's own; products' systems after Classen et al.
--- 2010.
+-- Laws of the reported steps, and of who wins. This project's own; products' systems after Classen et al. 2010.
 use Rattle.std.specs.Prelude.{◌≡◌, ℕ, ◌<◌, Bool, false, Option, List, length, Contains, IsSome}
 use Rattle.std.specs.List.{AllZip}
 use Rattle.vpg_players.specs.declared.player.Player.TheVariants.{Even}
@@ -31,7 +30,7 @@ use Rattle.vpg_trace.specs.Telling.{IsTakenBy}
 use Rattle.vpg_trace.specs.Traces.{IsTrace, Moves}
 use Rattle.vpg_trace.specs.Walks.{visit_at}
 
--- the step that is told
+-- the reported step
 abbrev pub step_of : List (List Departure) → Taken → Step
 step_of states taken = record {
   source = taken.state;
@@ -39,7 +38,7 @@ step_of states taken = record {
   target = (departure_at states taken).target;
 }
 
--- A step that is told, and is not marked as depending, is one of the system of each product that is left.
+-- A reported step without the mark "depends" is one of the system of each product that is left.
 abbrev pub UnmarkedStepsAreThere : Type 0
 UnmarkedStepsAreThere = (lines : List Line) (choices : List Literal) (known : List Tri) (system : System Guard)
     (states : List (List Departure)) (sets : List (List Bool)) (parts : List Part) (from to : ℕ × ℕ)
@@ -48,7 +47,7 @@ UnmarkedStepsAreThere = (lines : List Line) (choices : List Literal) (known : Li
     (set : List Bool) → IsRemaining lines choices set →
     Contains (product_system (truth set) system).steps (step_of states taken)
 
--- an edge to the same vertex, that is known not to be there where the first one is
+-- an edge to the same vertex that is known not to be there if the first one is
 pub record IsNoLess (known : List Tri) (edge other : GuardedEdge Guard) : Type 0 where
   pub to : other.to ≡ edge.to
   pub absent : kleene known edge.guard ≡ No → kleene known other.guard ≡ No
@@ -57,16 +56,15 @@ pub record IsNoLess (known : List Tri) (edge other : GuardedEdge Guard) : Type 0
 pub record IsNoLessVertex (known : List Tri) (vertex other : GuardedVertex Guard) : Type 0 where
   pub edges : AllZip (IsNoLess known) vertex.edges other.edges
 
--- The games differ in how their guards are written, and the second one's are known to be false where the first one's
--- are.
+-- The games differ in how their guards are written. A guard of the second is known to be false if that of the first is.
 abbrev pub IsNoLessGame : List Tri → GuardedGame Guard → GuardedGame Guard → Type 0
 IsNoLessGame known game other = AllZip (IsNoLessVertex known) game other
 
--- A game is such to itself.
+-- A game is related so to itself.
 abbrev pub EachGameIsNoLess : Type 0
 EachGameIsNoLess = (known : List Tri) (game : GuardedGame Guard) → IsNoLessGame known game game
 
--- In the game of a system and requirements each move from a box or a diamond that the walk makes goes by a transition.
+-- In the game of a system and requirements, each move from a box or a diamond that the walk makes goes by a transition.
 -- Its guards may be written otherwise than the transitions give them.
 abbrev pub MovesGoByTransitions : Type 0
 MovesGoByTransitions = (states : List (List Departure)) (sets : List (List Bool)) (parts : List Part)
@@ -76,7 +74,7 @@ MovesGoByTransitions = (states : List (List Departure)) (sets : List (List Bool)
     Moves (caution_for known which game) moves v w → IsStep (resolved_part parts (pair_at pairs v).1) x a →
     IsSome (taken_from known states sets parts (pair_at pairs v) (pair_at pairs w))
 
--- Where the moves win, no visit stands for want of a move of the winner.
+-- If the moves win, no visit stands because the winner lacks a move.
 abbrev pub WinnersGoOn : Type 0
 WinnersGoOn = (game : Game) (moves : List (Option ℕ)) (first : ℕ) (visits : List Visit) →
     IsTrace game moves first visits → Wins game Even (strategy_of moves) first → (i : ℕ) → i < length visits →

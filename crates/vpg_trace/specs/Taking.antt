@@ -1,4 +1,4 @@
--- By which transition of the system a move of the game goes. This project's own.
+-- The transition of the system that a move of the game goes by. This project's own.
 use Rattle.std.specs.Prelude.{◌≡◌, ℕ, ◌&&◌, ◌==◌, Bool, true, false, Option, Some, None, List, position, slice_index_or}
 use Rattle.vpg_guards.specs.declared.tri.Tri.{Tri}
 use Rattle.vpg_guards.specs.declared.tri.Tri.TheVariants.{No, Unknown, Yes}
@@ -23,8 +23,8 @@ is_value _ wanted = false
 abbrev pub is_pair : ℕ × ℕ → ℕ × ℕ → Bool
 is_pair p q = (p.0 == q.0) && (p.1 == q.1)
 
--- Whether a transition leads to this pair by an action of the set, with the part at this place, under a guard that has
--- this value.
+-- Whether a transition leads to this pair by an action of the set, with the part at this place, under a guard with this
+-- value.
 abbrev pub fits : List Tri → List (List Bool) → List Part → ℕ → ℕ → ℕ × ℕ → Tri → Departure → Bool
 fits known sets parts x a to wanted t =
     is_permitted sets x t.action && is_pair (pair_for parts t.target a) to && is_value (kleene known t.guard) wanted
@@ -40,18 +40,18 @@ abbrev pub taken_if_open : ℕ → Option ℕ → Option Taken
 taken_if_open s None = None
 taken_if_open s (Some i) = Some (record { state = s; index = i; depends = true })
 
--- one that is there whatever is open, if there is one, else one that depends on it
+-- one that is there whatever is open, if there is one, otherwise one that depends on it
 abbrev pub taken_by : ℕ → Option ℕ → Option ℕ → Option Taken
 taken_by s (Some i) other = Some (record { state = s; index = i; depends = false })
 taken_by s None other = taken_if_open s other
 
--- by a transition from the state, whose action the set has
+-- the transition from the state that is taken, with an action of the set
 abbrev pub taken_along : List Tri → List (List Departure) → List (List Bool) → List Part → ℕ → ℕ → ℕ → ℕ × ℕ →
     Option Taken
 taken_along known states sets parts s x a to = taken_by s (first_fit known states sets parts s x a to Yes)
     (first_fit known states sets parts s x a to Unknown)
 
--- at this part in the state
+-- the transition that is taken at this part in the state
 abbrev pub taken_at : List Tri → List (List Departure) → List (List Bool) → List Part → ℕ → Part → ℕ × ℕ → Option Taken
 taken_at known states sets parts s True to = None
 taken_at known states sets parts s False to = None
@@ -62,8 +62,8 @@ taken_at known states sets parts s (EveryStep x a) to = taken_along known states
 taken_at known states sets parts s (Fixpoint kind p b) to = None
 taken_at known states sets parts s (Variable m) to = None
 
--- The transition by which a move from the one pair to the other goes, under what is known. A move within a requirement
--- has none.
+-- The transition by which a move from the first pair to the second goes, under what is known. A move within a
+-- requirement has none.
 abbrev pub taken_from : List Tri → List (List Departure) → List (List Bool) → List Part → ℕ × ℕ → ℕ × ℕ → Option Taken
 taken_from known states sets parts from to =
     taken_at known states sets parts from.0 (resolved_part parts from.1) to
@@ -86,7 +86,7 @@ IsStep (EveryStep y b) x a = (y ≡ x) × (b ≡ a)
 IsStep (Fixpoint kind p b) x a = ⊥
 IsStep (Variable m) x a = ⊥
 
--- the value of its guard: true where it does not depend on open features, else open
+-- the value of its guard: true if it does not depend on open features, otherwise open
 abbrev pub value_told : Bool → Tri
 value_told false = Yes
 value_told true = Unknown

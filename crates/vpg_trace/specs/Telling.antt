@@ -1,4 +1,4 @@
--- What is told of a step of the system. Featured transition systems after Classen et al. 2010; the marks are this
+-- The report of a step of the system. Featured transition systems after Classen et al. 2010; the marks are this
 -- project's own.
 use Rattle.std.specs.Prelude.{◌≡◌, ℕ, ◌<◌, Bool, true, List, length}
 use Rattle.vpg_guards.specs.declared.tri.Tri.{Tri}
@@ -11,8 +11,8 @@ use Rattle.vpg_model.specs.Pairs.{pair_for, departures_at}
 use Rattle.vpg_trace.specs.declared.taking.Taken.{Taken}
 use Rattle.vpg_trace.specs.Taking.{departure_at, IsStep, value_told}
 
--- The transition is one by which a move from the one pair to the other goes: the part is a box or a diamond, the
--- transition leaves the state, the part permits its action, and with the part that follows it leads to the other pair.
+-- The transition is one by which a move from the first pair to the second goes. The part is a box or a diamond, the
+-- transition leaves the state, the part permits its action, and with the part that follows it leads to the second pair.
 -- Its guard is true under what is known if the transition does not depend on open features, and open if it does.
 pub record IsTakenBy (known : List Tri) (states : List (List Departure)) (sets : List (List Bool)) (parts : List Part)
     (from to : ℕ × ℕ) (taken : Taken) : Type 0 where

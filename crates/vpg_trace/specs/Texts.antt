@@ -16,7 +16,7 @@ use Rattle.vpg_trace.specs.declared.walking.Visit.{Visit}
 use Rattle.vpg_trace.specs.Taking.{taken_from, departure_at}
 use Rattle.vpg_trace.specs.Walks.{visit_at}
 
--- two blanks for each side branch that it stands in
+-- two blanks for each side branch around it
 abbrev pub indent : ℕ → List ℕ
 indent zero = []
 indent (suc n) = indent n ++ codes "  "
@@ -31,7 +31,7 @@ is_always _ = false
 abbrev pub guard_part : List (List ℕ) → Formula → List ℕ
 guard_part features guard = if is_always guard then [] else codes "[" ++ guard_text features guard ++ codes "]"
 
--- the action with its guard, and the state where the transition leads
+-- the action with its guard, and the state that the transition leads to
 abbrev pub arrow_text : (features actions : List (List ℕ)) → Departure → List ℕ
 arrow_text features actions t = codes " -" ++ slice_index_or actions t.action [] ++ guard_part features t.guard
     ++ codes "-> " ++ decimal t.target
@@ -51,7 +51,7 @@ abbrev pub step_text : (features actions : List (List ℕ)) → List (List Depar
 step_text features actions states depth None = []
 step_text features actions states depth (Some taken) = step_line features actions states depth taken
 
--- the transition by which a vertex is come to from this visit, if it is by one
+-- the transition by which a vertex is reached from this visit, if there is one
 abbrev pub step_from : List Tri → List (List Departure) → List (List Bool) → List Part → List (ℕ × ℕ) → List Visit →
     Option ℕ → ℕ → Option Taken
 step_from known states sets parts pairs visits None w = None
@@ -60,7 +60,7 @@ step_from known states sets parts pairs visits (Some p) w =
 
 -- ---- ends
 
--- whether the set has all of so many actions
+-- whether the set has all of this many actions
 abbrev pub all_permitted : List (List Bool) → ℕ → ℕ → Bool
 all_permitted sets x zero = true
 all_permitted sets x (suc n) = all_permitted sets x n && is_permitted sets x n
@@ -68,18 +68,18 @@ all_permitted sets x (suc n) = all_permitted sets x n && is_permitted sets x n
 abbrev pub action_if : List (List ℕ) → ℕ → Bool → List ℕ
 action_if actions n is_permitted = if is_permitted then 32 ∷ slice_index_or actions n [] else []
 
--- the names of those of so many actions that the set has
+-- the names of those of this many actions that the set has
 abbrev pub permitted_text : List (List ℕ) → List (List Bool) → ℕ → ℕ → List ℕ
 permitted_text actions sets x zero = []
 permitted_text actions sets x (suc n) =
     permitted_text actions sets x n ++ action_if actions n (is_permitted sets x n)
 
--- what was asked for: any step, or one of these actions
+-- the wanted steps: any step, or one of these actions
 abbrev pub asked_text : List (List ℕ) → List (List Bool) → ℕ → List ℕ
 asked_text actions sets x = if all_permitted sets x (length actions) then codes " step"
     else permitted_text actions sets x (length actions)
 
--- no step that was asked for is there
+-- the text that none of the wanted steps is there
 abbrev pub missing_text : List (List ℕ) → List (List Bool) → ℕ → ℕ → List ℕ
 missing_text actions sets s x = codes "no" ++ asked_text actions sets x ++ codes " from " ++ decimal s
 
@@ -87,7 +87,7 @@ missing_text actions sets s x = codes "no" ++ asked_text actions sets x ++ codes
 abbrev pub unmoved_text : ℕ → List ℕ
 unmoved_text s = codes "no move from " ++ decimal s
 
--- what stands at a part where nobody moves
+-- the text for a part where nobody moves
 abbrev pub standing_text : List (List ℕ) → List (List Bool) → ℕ → Part → List ℕ
 standing_text actions sets s True = codes "true"
 standing_text actions sets s False = codes "false"
@@ -111,7 +111,7 @@ state_of pairs visits k = (pair_at pairs (visit_at visits k).vertex).0
 abbrev pub return_line : ℕ → List ℕ → ℕ → List ℕ
 return_line depth word s = indent depth ++ word ++ decimal s ++ codes "\n"
 
--- how a visit ends, unless it goes on
+-- the end of a visit, unless it goes on
 abbrev pub end_text : List (List ℕ) → List (List Bool) → List Part → List (ℕ × ℕ) → List Visit → ℕ → ℕ → End → List ℕ
 end_text actions sets parts pairs visits depth v GoesOn = []
 end_text actions sets parts pairs visits depth v (Loop k) =
@@ -123,9 +123,8 @@ end_text actions sets parts pairs visits depth v Cut = indent depth ++ codes "cu
 
 -- ---- the walk
 
--- What a walk is told in words of: the names of features and of actions, what is known of the features, the
--- transitions from each state, the sets of actions and the parts of requirements, and the state and the part of each
--- vertex.
+-- The words of a walk: the names of features and of actions, what is known of the features, and the transitions from
+-- each state. Then come the sets of actions and the parts of requirements, and the state and the part of each vertex.
 pub record Family : Type 0 where
   pub features : List (List ℕ)
   pub actions : List (List ℕ)
@@ -135,7 +134,7 @@ pub record Family : Type 0 where
   pub parts : List Part
   pub pairs : List (ℕ × ℕ)
 
--- what these are together
+-- these as one value
 abbrev pub family_of : (features actions : List (List ℕ)) → List Tri → List (List Departure) → List (List Bool) →
     List Part → List (ℕ × ℕ) → Family
 family_of features actions known states sets parts pairs = record {
@@ -148,12 +147,12 @@ family_of features actions known states sets parts pairs = record {
   pairs = pairs;
 }
 
--- the transition by which a visit is come to, if it is by one
+-- the transition by which a visit is reached, if there is one
 abbrev pub step_to : Family → List Visit → Visit → Option Taken
 step_to family visits visit = step_from family.known family.states family.sets family.parts family.pairs visits
     visit.before visit.vertex
 
--- a line for the step by which it is come to, and one for its end
+-- a line for the step to the visit, and one for its end
 abbrev pub visit_text : Family → List Visit → Visit → List ℕ
 visit_text family visits visit =
     step_text family.features family.actions family.states visit.depth (step_to family visits visit)
@@ -168,7 +167,7 @@ abbrev pub one_if : Bool → ℕ
 one_if true = 1
 one_if false = 0
 
--- how many of the first n visits are come to by a step of the system
+-- the number of the first n visits that are reached by a step of the system
 abbrev pub steps_in : Family → List Visit → ℕ → ℕ
 steps_in family visits zero = 0
 steps_in family visits (suc n) = steps_in family visits n + one_if (is_some (step_to family visits (visit_at visits n)))
@@ -177,7 +176,7 @@ abbrev pub cut_text : Bool → List ℕ
 cut_text false = codes "\n"
 cut_text true = codes " cut\n"
 
--- The lines of all visits, and then how many steps of the system they are, and whether the walk was cut.
+-- The lines of all visits, and then the number of steps of the system, and whether the walk was cut.
 abbrev pub trace_text : Family → List Visit → Bool → List ℕ
 trace_text family visits is_cut = visits_text family visits (length visits)
     ++ codes "steps " ++ decimal (steps_in family visits (length visits)) ++ cut_text is_cut

@@ -1,5 +1,5 @@
--- What a walk shows: a part of the tree of all plays that the moves allow. Strategies and the plays that they allow are
--- the standard of parity games; the walk is this project's own.
+-- The meaning of a walk: a part of the tree of all plays that the moves allow. Strategies and the plays that they allow
+-- are the standard of parity games; the walk is this project's own.
 use Rattle.std.specs.Prelude.{◌≡◌, ◌≢◌, ℕ, ◌<◌, ◌≤◌, Option, Some, None, List, length}
 use Rattle.vpg_players.specs.declared.player.Player.TheVariants.{Even}
 use Rattle.vpg_hope.specs.Games.{Game}
@@ -10,11 +10,11 @@ use Rattle.vpg_trace.specs.declared.walking.End.TheVariants.{GoesOn, Loop, Seen,
 use Rattle.vpg_trace.specs.declared.walking.Visit.{Visit}
 use Rattle.vpg_trace.specs.Walks.{visit_at, visit_before}
 
--- a move from the one vertex to the other that Even's moves allow
+-- a move from the first vertex to the second that Even's moves allow
 abbrev pub Moves : Game → List (Option ℕ) → ℕ → ℕ → Type 0
 Moves game moves v w = AllowsMove game Even (strategy_of moves) v w
 
--- the first visit is the second, or stands on the way to it
+-- the first visit is the second, or on the way to it
 pub data IsAbove (visits : List Visit) : ℕ → ℕ → Type 0 where
   same : {k : ℕ} → IsAbove visits k k
   back : {k i j : ℕ} → visit_before visits j ≡ Some i → IsAbove visits k i → IsAbove visits k j
@@ -54,7 +54,7 @@ pub record IsFollowed (visits : List Visit) (p w : ℕ) : Type 0 where
   pub before : visit_before visits visit ≡ Some p
   pub vertex : (visit_at visits visit).vertex ≡ w
 
--- Each move that is allowed from where a visit goes on is followed.
+-- Each allowed move from a visit that goes on is followed.
 abbrev pub IsComplete : Game → List (Option ℕ) → List Visit → Type 0
 IsComplete game moves visits = (p w : ℕ) → p < length visits → (visit_at visits p).end ≡ GoesOn →
     Moves game moves (visit_at visits p).vertex w → IsFollowed visits p w

@@ -1,5 +1,5 @@
--- A walk over the plays that moves of Even allow, Odd moving along any edge: a depth-first search (Tarjan 1972), within
--- bounds. This project's own.
+-- A walk over the plays that moves of Even allow, with Odd moving along any edge: a depth-first search (Tarjan 1972),
+-- within bounds. This project's own.
 use Rattle.std.specs.Prelude.{◌≡◌, ℕ, zero, suc, ◌||◌, ◌==◌, nat_lt, Bool, true, false, if◌then◌else◌, Option, Some, None, List, [], ◌∷◌, ◌++◌, length, filter, position, slice_index_or}
 use Rattle.vpg_players.specs.declared.player.Player.{Player}
 use Rattle.vpg_players.specs.declared.player.Player.TheVariants.{Even, Odd}
@@ -18,7 +18,7 @@ allows Odd choice w = true
 allows Even None w = false
 allows Even (Some chosen) w = chosen == w
 
--- where the moves from a vertex lead, in the order of the game
+-- the targets of the moves from a vertex, in the order of the game
 abbrev pub moves_from : Game → List (Option ℕ) → ℕ → List ℕ
 moves_from game moves v = filter (allows (owner_of game v) (strategy_of moves v)) (successors_of game v)
 
@@ -35,7 +35,7 @@ visit_at visits k = slice_index_or visits k no_visit
 abbrev pub visit_before : List Visit → ℕ → Option ℕ
 visit_before visits k = (visit_at visits k).before
 
--- whether a visit is this one, or stands on the way to it; the way has at most so many visits
+-- whether a visit is this one, or on the way to it; the way has at most this many visits
 abbrev pub is_above : List Visit → ℕ → ℕ → Option ℕ → Bool
 is_above visits k zero at = false
 is_above visits k (suc n) None = false
@@ -45,21 +45,21 @@ is_above visits k (suc n) (Some i) = (i == k) || is_above visits k n (visit_befo
 abbrev pub first_visit : List Visit → ℕ → Option ℕ
 first_visit visits v = position (λ visit. visit.vertex == v) visits
 
--- What follows the first visit of a vertex. It may stand in 31 side branches and be gone on from.
+-- The end of the first visit of a vertex. A visit in up to 31 side branches goes on.
 abbrev pub fresh_end : ℕ → End
 fresh_end depth = if nat_lt depth 32 then GoesOn else Cut
 
--- what follows a visit behind this one, where the vertex was first visited there, if it was
+-- the end of a visit after this one, given the first visit of its vertex, if there is one
 abbrev pub end_where : List Visit → Option ℕ → ℕ → Option ℕ → End
 end_where visits before depth None = fresh_end depth
 end_where visits before depth (Some k) = if is_above visits k (length visits) before then Loop k else Seen k
 
--- what follows the visit that waits, behind these, where these moves lead from its vertex
+-- the end of the waiting visit, after these, if these moves lead from its vertex
 abbrev pub end_of : List Visit → Waiting → List ℕ → End
 end_of visits next [] = Stands
 end_of visits next (w ∷ ws) = end_where visits next.before next.depth (first_visit visits next.vertex)
 
--- the visit that waits, behind these
+-- the waiting visit, after these
 abbrev pub visit_of : Game → List (Option ℕ) → List Visit → Waiting → Visit
 visit_of game moves visits next = record {
   vertex = next.vertex;
@@ -74,7 +74,7 @@ visit_of game moves visits next = record {
 abbrev pub deeper : ℕ → ℕ
 deeper depth = if nat_lt depth 32 then suc depth else depth
 
--- the last one stands at this depth, the others are side branches
+-- the depth of the next one: the last has this depth, the others are side branches
 abbrev pub depth_before : ℕ → List ℕ → ℕ
 depth_before depth [] = depth
 depth_before depth (w ∷ ws) = deeper depth
@@ -85,7 +85,7 @@ waiting_from k depth [] = []
 waiting_from k depth (w ∷ ws) =
     record { vertex = w; before = Some k; depth = depth_before depth ws } ∷ waiting_from k depth ws
 
--- they wait where the walk goes on
+-- they wait if the walk goes on
 abbrev pub waiting_by : End → List Waiting → List Waiting
 waiting_by GoesOn next = next
 waiting_by (Loop k) next = []
@@ -93,7 +93,7 @@ waiting_by (Seen k) next = []
 waiting_by Stands next = []
 waiting_by Cut next = []
 
--- what comes to wait by the visit that waits, behind these
+-- the visits that the waiting visit adds, after these
 abbrev pub opened : Game → List (Option ℕ) → List Visit → Waiting → List Waiting
 opened game moves visits next = waiting_by (visit_of game moves visits next).end
     (waiting_from (length visits) next.depth (moves_from game moves next.vertex))
@@ -108,7 +108,7 @@ pub record Walked : Type 0 where
 abbrev pub walked : List Visit → List Waiting → Walked
 walked visits waiting = record { visits = visits; waiting = waiting }
 
--- so many visits at most, of those that wait and of those that come to wait
+-- at most this many visits, of those that wait and of those that come to wait
 abbrev pub walk : Game → List (Option ℕ) → ℕ → List Waiting → List Visit → Walked
 walk game moves zero waiting visits = walked visits waiting
 walk game moves (suc n) [] visits = walked visits []
@@ -128,7 +128,7 @@ abbrev pub is_left : List Waiting → Bool
 is_left [] = false
 is_left (next ∷ waiting) = true
 
--- The visits are those of the walk from the vertex, and whether it was cut.
+-- The visits are those of the walk from the vertex, with the mark whether it was cut.
 pub record IsWalkFrom (game : Game) (moves : List (Option ℕ)) (first : ℕ) (visits : List Visit)
     (is_cut : Bool) : Type 0 where
   pub made : visits ≡ (walk_from game moves first).visits

@@ -31,7 +31,7 @@ fn has_top(order: &Order, which: Which, vertex: u32) -> bool
     order.table(which).get(vertex) == order.shape(which).top()
 }
 
-/// The table whose top says that the player of this one wins.
+/// Returns the table that has the top where the player of this one wins.
 fn other_table(which: Which) -> Which
     ensures { result ≡ other_table which }
 {
@@ -41,7 +41,7 @@ fn other_table(which: Which) -> Which
     }
 }
 
-/// The cautious game of a player, who stands as Even there.
+/// Returns the cautious game of a player, who stands as Even there.
 fn caution(
     alloc: Global,
     game: &GuardedGame,
@@ -84,7 +84,7 @@ fn put_unsettled(out: &mut Vec<u8>) -> Result<(), AllocError>
     out.extend_from_slice(b"unsettled\n")
 }
 
-/// The identifier of a vertex.
+/// Returns the identifier of a vertex.
 fn identifier(order: &Order, vertex: u32) -> u32
     requires { vertex < length order.now.game.vertices }
     ensures { result ≡ slice_index (vertex_ids order.now.game.vertices) vertex }
@@ -153,7 +153,7 @@ fn put_won(
     )
 }
 
-/// Appends how a player wins, where the page says so: Even for the first table, Odd for the second.
+/// Appends how a player wins, if the page says so: Even for the hopeful table, Odd for the dual one.
 fn won(
     alloc: Global,
     order: &Order,
@@ -177,9 +177,9 @@ fn won(
     }
 }
 
-/// Appends how the verdict of a page at a vertex comes about: where it is hopeless a walk along moves of Odd that win
-/// in each product that is left, where it is sure one along moves of Even. Or that it is neither, or that the limits
-/// leave no room.
+/// Appends how the verdict of a page at a vertex comes about. If it is hopeless, that is a walk along moves of Odd that
+/// win in each product that is left; if it is sure, one along moves of Even. Or it is that the vertex is neither, or
+/// that the limits leave no room.
 ///
 /// The behaviour is what the game was made of, over the features of the order's diagram. The first line is the verdict,
 /// `hopeless 0` or `sure 0`; the walk follows, as of `put_trace`, up to the line `steps 12`. Else there is one line:

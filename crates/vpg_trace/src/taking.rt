@@ -1,4 +1,4 @@
-//! By which transition of the system a move of the game goes.
+//! The transition of the system that a move of the game goes by.
 ghost use Rattle.std.specs.Prelude.{◌≡◌, ◌<◌, All, IfSome, length, position};
 ghost use Rattle.vpg_guards.specs.Formula.{IsBelow};
 ghost use Rattle.vpg_model.specs.Pairs.{HaveGuards, pair_at};
@@ -10,7 +10,7 @@ use vpg_guards::Tri;
 use vpg_model::{Source, Transition};
 use vpg_parts::Part;
 
-/// The transition by which a move goes.
+/// A transition that a move goes by.
 #[derive(Clone, Copy, Debug, PartialEq, Eq)]
 pub struct Taken {
     /// The state that it leaves.
@@ -38,7 +38,7 @@ fn is_pair(one: (u32, u32), other: (u32, u32)) -> bool
     one.0 == other.0 && one.1 == other.1
 }
 
-/// The state and the place of the part of a vertex.
+/// Returns the state and the place of the part of a vertex.
 pub(crate) fn pair_of(pairs: &IndexSet<(u32, u32)>, v: u32) -> (u32, u32)
     ensures { result ≡ pair_at pairs.now.keys v }
 {
@@ -48,8 +48,8 @@ pub(crate) fn pair_of(pairs: &IndexSet<(u32, u32)>, v: u32) -> (u32, u32)
     }
 }
 
-/// What is asked of a transition: an action of a set, the pair to which it leads with the part at a place, and the
-/// value of its guard.
+/// The wanted transition: an action of a set, the pair that it leads to with the part at a place, and the value of its
+/// guard.
 #[derive(Clone, Copy)]
 struct Wanted {
     set: u32,
@@ -58,7 +58,7 @@ struct Wanted {
     value: Tri,
 }
 
-/// Whether a transition is such.
+/// Whether a transition is the wanted one.
 fn fits(source: &Source, known: &[Tri], wanted: Wanted, transition: &Transition) -> bool
     requires { IsBelow (length known.now) transition.now.guard }
     ensures { result ≡ fits known.now source.now.sets.items source.now.parts.items wanted.set wanted.place wanted.to
@@ -69,7 +69,7 @@ fn fits(source: &Source, known: &[Tri], wanted: Wanted, transition: &Transition)
         && is_value(transition.guard.kleene(known), wanted.value)
 }
 
-/// The place of the first of these transitions that is such.
+/// Returns the place of the first of these transitions that is wanted.
 fn first_of(
     source: &Source,
     known: &[Tri],
@@ -88,7 +88,7 @@ fn first_of(
     None
 }
 
-/// The place of the first such transition from a state.
+/// Returns the place of the first wanted transition from a state.
 fn first_fit(source: &Source, known: &[Tri], state: u32, wanted: Wanted) -> Option<usize>
     requires { HaveGuards (length known.now) source.now.states.items }
     ensures { result ≡ first_fit known.now source.now.states.items source.now.sets.items source.now.parts.items state
@@ -100,7 +100,8 @@ fn first_fit(source: &Source, known: &[Tri], state: u32, wanted: Wanted) -> Opti
     }
 }
 
-/// By which one a move goes: by one that is there, else by the other one, which depends on open features.
+/// Returns the transition that a move goes by: the one that is there, otherwise the other one, which depends on open
+/// features.
 fn taken_by(state: u32, there: Option<usize>, other: Option<usize>) -> Option<Taken>
     ensures { result ≡ taken_by state there other }
 {
@@ -121,7 +122,7 @@ fn taken_by(state: u32, there: Option<usize>, other: Option<usize>) -> Option<Ta
     }
 }
 
-/// The transition from a state by which a move goes that a box or a diamond has.
+/// Returns the transition from a state that a move of a box or a diamond goes by.
 fn taken_along(
     source: &Source,
     known: &[Tri],
@@ -153,7 +154,7 @@ fn taken_along(
     )
 }
 
-/// The transition by which a move between two pairs goes.
+/// Returns the transition that a move between two pairs goes by.
 fn step_from(source: &Source, known: &[Tri], from: (u32, u32), to: (u32, u32)) -> Option<Taken>
     requires { HaveGuards (length known.now) source.now.states.items }
     ensures { result ≡ taken_from known.now source.now.states.items source.now.sets.items source.now.parts.items from
@@ -172,8 +173,8 @@ fn step_from(source: &Source, known: &[Tri], from: (u32, u32), to: (u32, u32)) -
     }
 }
 
-/// Returns the transition by which a move between two vertices goes, under what is known: the first one from the
-/// state whose guard is true, else the first one whose guard is open. A move within a requirement has none.
+/// Returns the transition that a move between two vertices goes by, under what is known. It is the first one from the
+/// state with a true guard, otherwise the first with an open guard. A move within a requirement has none.
 pub fn step_between(
     source: &Source,
     pairs: &IndexSet<(u32, u32)>,
@@ -182,7 +183,7 @@ pub fn step_between(
     to: u32,
 ) -> Option<Taken>
     requires { HaveGuards (length known.now) source.now.states.items }
-    // It leaves the state, its action is permitted, it leads where the move does, and its guard is true if the
+    // It leaves the state, its action is permitted, it leads to the move's target, and its guard is true if the
     // transition does not depend on open features.
     ensures taken { IfSome result (IsTakenBy known.now source.now.states.items source.now.sets.items
         source.now.parts.items (pair_at pairs.now.keys from) (pair_at pairs.now.keys to)) }

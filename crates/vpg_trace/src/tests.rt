@@ -14,7 +14,7 @@ use vpg_verdict::Which;
 
 const SYSTEM: &[u8] = b"des (0, 3, 2)\n(0, \"a [f]\", 1)\n(0, b, 0)\n(1, \"b [g]\", 0)\n";
 
-/// The sets of `a`, of `b`, and of both.
+/// Returns the sets of `a`, of `b`, and of both.
 fn sets(alloc: Global) -> Result<Vec<Permitted>, Fail> {
     let mut sets = Vec::new(alloc);
     sets.push(Permitted {
@@ -47,7 +47,7 @@ fn parts(alloc: Global) -> Result<Vec<Part>, Fail> {
     Ok(parts)
 }
 
-/// The text of the walk over the system's game by these moves, under what the diagram makes known.
+/// Returns the text of the walk over the system's game by these moves, under what the diagram makes known.
 fn walk(
     rt: &impl Abort,
     alloc: Global,

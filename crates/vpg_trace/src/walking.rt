@@ -8,24 +8,24 @@ use std::alloc::{AllocError, Global};
 use vpg_hope::Arena;
 use vpg_players::Player;
 
-/// How many visits a walk may make.
+/// The greatest number of visits in a walk.
 pub const MOST_VISITS: usize = 1_000;
 
-/// In how many side branches a visit may stand that is gone on from.
+/// The number of side branches around a visit at which the walk does not go on from it.
 pub const MOST_DEPTH: u32 = 32;
 
-/// What follows a visit.
+/// The end of a visit, or that it goes on.
 #[derive(Clone, Copy, Debug, PartialEq, Eq)]
 pub enum End {
     /// A visit for each move from the vertex.
     GoesOn,
     /// Nothing: the visit of this number is of the same vertex, and the way to here leads over it.
     Loop(usize),
-    /// Nothing: the visit of this number is of the same vertex, and stands elsewhere.
+    /// Nothing: the visit of this number is of the same vertex, and is elsewhere.
     Seen(usize),
     /// Nothing: there is no move.
     Stands,
-    /// Nothing: it stands in as many side branches as may be.
+    /// Nothing: it has as many side branches around it as are allowed.
     Cut,
 }
 
@@ -35,16 +35,16 @@ pub struct Visit {
     pub vertex: u32,
     /// The visit that the move to here leaves. The first visit has none.
     pub before: Option<usize>,
-    /// In how many side branches it stands.
+    /// The number of side branches around it.
     pub depth: u32,
     pub end: End,
 }
 
-/// A walk: its visits, each behind the one that it comes from.
+/// A walk: its visits, each after the one that it comes from.
 #[derive(Drop)]
 pub struct Trace {
     pub visits: Vec<Visit>,
-    /// Whether some moves were left out, since there are as many visits as may be.
+    /// Whether some moves were left out, since there are as many visits as allowed.
     pub is_cut: bool,
 }
 
@@ -69,7 +69,7 @@ fn allows(owner: Player, choice: Option<u32>, w: u32) -> bool
     }
 }
 
-/// The move at a vertex, if there is one.
+/// Returns the move at a vertex, if there is one.
 fn choice_at(moves: &[Option<u32>], v: u32) -> Option<u32>
     ensures { result ≡ strategy_of moves.now v }
 {
@@ -79,7 +79,7 @@ fn choice_at(moves: &[Option<u32>], v: u32) -> Option<u32>
     }
 }
 
-/// Where the moves from a vertex lead.
+/// Returns the targets of the moves from a vertex.
 fn moves_from(
     alloc: Global,
     arena: &Arena,
@@ -103,7 +103,7 @@ fn moves_from(
     Ok(found)
 }
 
-/// The visit of this number. Past the last one there is none but of the first vertex, which stands.
+/// Returns the visit of this number. Past the last one it is a visit of the first vertex, which stands.
 pub(crate) fn visit_at(visits: &[Visit], k: usize) -> Visit
     ensures { result ≡ visit_at visits.now k }
 {
@@ -118,7 +118,7 @@ pub(crate) fn visit_at(visits: &[Visit], k: usize) -> Visit
     }
 }
 
-/// Whether a visit is this one, or stands on the way to it.
+/// Whether a visit is this one, or on the way to it.
 fn is_above(visits: &[Visit], k: usize, from: Option<usize>) -> bool
     ensures { result ≡ is_above visits.now k (length visits.now) from }
 {
@@ -135,14 +135,14 @@ fn is_above(visits: &[Visit], k: usize, from: Option<usize>) -> bool
     false
 }
 
-/// The first visit of a vertex.
+/// Returns the first visit of a vertex.
 fn first_visit(visits: &[Visit], v: u32) -> Option<usize>
     ensures { result ≡ first_visit visits.now v }
 {
     visits.iter().position(|visit| visit.vertex == v)
 }
 
-/// What follows the first visit of a vertex.
+/// Returns the end of the first visit of a vertex.
 fn fresh_end(depth: u32) -> End
     ensures { result ≡ fresh_end depth }
 {
@@ -153,7 +153,7 @@ fn fresh_end(depth: u32) -> End
     }
 }
 
-/// What follows a visit from which there are moves, where its vertex was first visited there, if it was.
+/// Returns the end of a visit with moves; `first` is the first visit of its vertex, if there is one.
 fn end_where(visits: &[Visit], before: Option<usize>, depth: u32, first: Option<usize>) -> End
     ensures { result ≡ end_where visits.now before depth first }
 {
@@ -169,7 +169,7 @@ fn end_where(visits: &[Visit], before: Option<usize>, depth: u32, first: Option<
     }
 }
 
-/// What follows a visit from which these moves lead.
+/// Returns the end of a visit from which these moves lead.
 fn end_of(visits: &[Visit], next: Waiting, moves: &[u32]) -> End
     ensures { result ≡ end_of visits.now next moves.now }
 {
@@ -184,15 +184,15 @@ fn end_of(visits: &[Visit], next: Waiting, moves: &[u32]) -> End
     }
 }
 
-/// The depth of a side branch.
+/// Returns the depth of a side branch.
 fn deeper(depth: u32) -> u32
     ensures { result ≡ deeper depth }
 {
     if depth < MOST_DEPTH { depth + 1 } else { depth }
 }
 
-/// Puts the visits of these vertices before all that wait, the first one foremost. The last one stands at this depth,
-/// the others are side branches.
+/// Puts the visits of these vertices before all that wait, in their order. The last one has this depth, the others are
+/// side branches.
 fn wait(pending: &mut Vec<Waiting>, at: usize, depth: u32, moves: &[u32]) -> Result<(), AllocError>
     ensures { OnOk result
         (reverse pending.new.items ≡ waiting_from at depth moves.now ++ reverse pending.old.items) }
@@ -210,7 +210,7 @@ fn wait(pending: &mut Vec<Waiting>, at: usize, depth: u32, moves: &[u32]) -> Res
     Ok(())
 }
 
-/// The same, where the walk goes on.
+/// Puts the visits of these vertices before all that wait, if the walk goes on.
 fn wait_by(
     end: End,
     pending: &mut Vec<Waiting>,
@@ -253,7 +253,7 @@ fn make_visit(
     Ok(())
 }
 
-/// Makes the visits that wait, and those that come to wait then, so many at most.
+/// Makes the visits that wait, and those that come to wait then, at most this many.
 fn walk(
     alloc: Global,
     arena: &Arena,
@@ -274,20 +274,20 @@ fn walk(
     Ok(visits)
 }
 
-/// Follows the plays from a vertex that these moves of Even allow, whatever Odd does: a visit for each move, depth
-/// first, in the order of the game. A vertex that was visited is not gone on from again.
+/// Follows the plays from a vertex that these moves of Even allow, whatever Odd does. It makes a visit for each move,
+/// depth first, in the order of the game. The walk does not go on again from a vertex that was visited.
 ///
-/// Where more moves than one lead from a vertex, all but the last are side branches. There are at most 1,000 visits,
-/// and none is gone on from that stands in 32 side branches. The one error is want of memory.
+/// If several moves lead from a vertex, all but the last are side branches. There are at most 1,000 visits, and none in
+/// 32 side branches goes on. The only error is a lack of memory.
 pub fn follow(
     alloc: Global,
     arena: &Arena,
     moves: &[Option<u32>],
     first: u32,
 ) -> Result<Trace, AllocError>
-    // Each visit comes from an earlier one by a move that is allowed, and ends as it says.
+    // Each visit comes from an earlier one by an allowed move, and ends as it says.
     ensures trace { IfOk result (λ trace. IsTrace arena.now moves.now first trace.visits.items) }
-    // Each move that is allowed where a visit goes on is followed, unless the walk was cut.
+    // Each allowed move from a visit that goes on is followed, unless the walk was cut.
     ensures complete { IfOk result (λ trace. trace.is_cut ≡ false →
         IsComplete arena.now moves.now trace.visits.items) }
     // There is one such walk.

@@ -66,7 +66,7 @@ fn put_guard(
     }
 }
 
-/// Appends the action of a transition with its guard, and the state where it leads.
+/// Appends the action of a transition with its guard, and the state that it leads to.
 fn put_arrow(
     alloc: Global,
     names: &Names,
@@ -86,7 +86,7 @@ fn put_arrow(
     put_number(transition.target as u64, out)
 }
 
-/// Appends what marks a step that is not one of each product that is left, and ends the line.
+/// Appends the mark of a step that is not one of each product that is left, and ends the line.
 fn put_mark(depends: bool, out: &mut Vec<u8>) -> Result<(), AllocError>
     ensures { OnOk result (out.new.items ≡ out.old.items ++ mark_text depends) }
 {
@@ -97,7 +97,7 @@ fn put_mark(depends: bool, out: &mut Vec<u8>) -> Result<(), AllocError>
     }
 }
 
-/// The transition that is taken.
+/// Returns the transition that is taken.
 fn transition_of(source: &Source, taken: Taken) -> &Transition
     requires { taken.index < length (departures_at source.now.states.items taken.state) }
     ensures { result.now ≡ departure_at source.now.states.items taken }
@@ -185,7 +185,7 @@ fn put_permitted(
     Ok(())
 }
 
-/// Appends what was asked for: any step, or one of a set's actions.
+/// Appends the wanted steps: any step, or one of a set's actions.
 fn put_asked(
     actions: &[Text],
     source: &Source,
@@ -202,7 +202,7 @@ fn put_asked(
     }
 }
 
-/// Appends that no step that was asked for is there.
+/// Appends that none of the wanted steps is there.
 fn put_missing(
     actions: &[Text],
     source: &Source,
@@ -227,7 +227,7 @@ fn put_unmoved(state: u32, out: &mut Vec<u8>) -> Result<(), AllocError>
     put_number(state as u64, out)
 }
 
-/// Appends what stands where nobody moves.
+/// Appends the text for a part where nobody moves.
 fn put_standing(
     actions: &[Text],
     source: &Source,
@@ -250,7 +250,7 @@ fn put_standing(
     }
 }
 
-/// Appends what stands at a pair where nobody moves, as a line.
+/// Appends the line for a pair where nobody moves.
 fn put_standing_line(
     actions: &[Text],
     source: &Source,
@@ -266,7 +266,7 @@ fn put_standing_line(
     out.extend_from_slice(b"\n")
 }
 
-/// The state of a visit.
+/// Returns the state of a visit.
 fn state_of(pairs: &IndexSet<(u32, u32)>, visits: &[Visit], k: usize) -> u32
     ensures { result ≡ state_of pairs.now.keys visits.now k }
 {
@@ -313,7 +313,7 @@ fn put_end(
     }
 }
 
-/// The transition by which a visit is come to, if it is by one.
+/// Returns the transition by which a visit is reached, if there is one.
 fn step_to(
     source: &Source,
     pairs: &IndexSet<(u32, u32)>,
@@ -362,7 +362,7 @@ fn put_step_if(
     }
 }
 
-/// Appends the lines of a visit: of the step by which it is come to, and of its end.
+/// Appends the lines of a visit: of the step to it, and of its end.
 fn put_visit(
     alloc: Global,
     names: &Names,
@@ -412,7 +412,7 @@ fn put_visits(
     Ok(())
 }
 
-/// How many visits are come to by a step of the system.
+/// Returns the number of visits that are reached by a step of the system.
 fn steps_in(source: &Source, pairs: &IndexSet<(u32, u32)>, known: &[Tri], visits: &[Visit]) -> usize
     requires { HaveGuards (length known.now) source.now.states.items }
     ensures { (features actions : List (List ℕ)) → result ≡ steps_in (family_of features actions known.now
@@ -439,7 +439,7 @@ fn put_cut(is_cut: bool, out: &mut Vec<u8>) -> Result<(), AllocError>
     }
 }
 
-/// Appends the text of a walk: the lines of its visits, and how many steps of the system they are.
+/// Appends the text of a walk: the lines of its visits, and the number of steps of the system.
 fn put(
     alloc: Global,
     names: &Names,
@@ -472,14 +472,15 @@ fn put(
     put_cut(trace.is_cut, out)
 }
 
-/// Writes a walk behind what is there, over the features of these names. A refusal writes nothing.
+/// Writes a walk after what is there, over the features of these names. A refusal writes nothing.
 ///
-/// Each visit that is come to by a transition of the system has a line, as `0 -pay[paid]-> 1`: the state that it
-/// leaves, its action, its guard unless that is always true, the state where it leads, and ` depends` where the guard
-/// is open under what is known. Moves within the requirement have none. Where a visit doesn't go on there is a line
-/// with the end: `loop to 1` and `seen 1` name the state of the visit to which the walk is back or which was seen,
-/// `no tea from 1` what was asked for and is not there, `true` and `false` the part that is reached, `cut` that the
-/// walk doesn't go on. Side branches stand two blanks further to the right. The last line has the number of steps.
+/// Each visit that is reached by a transition of the system has a line, as `0 -pay[paid]-> 1`. It has the state that
+/// the transition leaves, its action, its guard unless that is always true, and the state that it leads to. It ends in
+/// ` depends` if the guard is open under what is known. Moves within the requirement have no line. If a visit doesn't
+/// go on, there is a line with its end. `loop to 1` and `seen 1` name the state of the visit that the walk is back at
+/// or that was seen. `no tea from 1` names the wanted step that is not there, `true` and `false` the part that is
+/// reached, and `cut` says that the walk doesn't go on. Side branches are indented by two more blanks. The last line
+/// has the number of steps.
 pub fn put_trace(
     alloc: Global,
     names: &Names,

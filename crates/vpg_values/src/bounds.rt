@@ -1,4 +1,4 @@
-//! Bounds for the top of what Odd is taken to win, and for values cut to a weight, with ranks that are to show them.
+//! Bounds for the vertices that Odd is guessed to win, and for values cut to a weight, with ranks to show them.
 use crate::ground::{GuessGround, value_in};
 use crate::improve::Guess;
 use crate::subgame::{Solved, Subgame};
@@ -7,13 +7,13 @@ use std::alloc::{AllocError, Global};
 use vpg_players::Player;
 use vpg_regions::{Budget, Choices, Found, PerVertex, Regions};
 
-// Values that a table is to be raised to, and the vertices where they exceed it.
+// Values that a table is to be raised to, and the vertices at which they exceed it.
 struct Raises {
     bounds: PerVertex<u64>,
     exceeding: Vec<u32>,
 }
 
-// Not derived, so that letting one go is one call: a derived way would be proved anew at each exit that owns one.
+// Not derived: a derived `drop` would be proved again at each exit that owns such a value.
 impl Drop for Raises {
     fn drop(self) {
         let Raises {
@@ -29,7 +29,7 @@ impl Raises {
         Ok(Raises { bounds, exceeding })
     }
 
-    // Its values, shown by these ranks.
+    // Its values, with these ranks to show them.
     fn with_ranks(self, ranks: PerVertex<u64>) -> RankedBounds {
         let Raises {
             bounds,
@@ -44,13 +44,13 @@ impl Raises {
     }
 }
 
-/// Bounds with the ranks that are to show them.
+/// Bounds with the ranks to show them.
 pub struct RankedBounds {
     pub bounds: PerVertex<u64>,
     pub ranks: PerVertex<u64>,
 }
 
-// Not derived, so that letting one go is one call: a derived way would be proved anew at each exit that owns one.
+// Not derived: a derived `drop` would be proved again at each exit that owns such a value.
 impl Drop for RankedBounds {
     fn drop(self) {
         let RankedBounds {
@@ -60,7 +60,7 @@ impl Drop for RankedBounds {
     }
 }
 
-// The top where Odd is taken to win, and the table elsewhere.
+// The top where Odd is guessed to win, and the table elsewhere.
 fn raises_to_top(
     alloc: Global,
     ground: &GuessGround,
@@ -138,7 +138,7 @@ fn raising_edges(ground: &GuessGround, bounds: &PerVertex<u64>, game: &mut Subga
     }
 }
 
-// Odd's move at a vertex of its own: the game's choice, or one that leaves the game and still gives the bound.
+// Odd's move at a vertex of its own: the game's choice, or one that leaves the game and still supports the bound.
 fn move_of(ground: &GuessGround, bounds: &PerVertex<u64>, solved: &Solved, v: u32) -> Option<u32> {
     if let Some(w) = solved.choice(v) {
         return Some(w);
@@ -174,7 +174,7 @@ fn ranks_along(
     Ok(ranks)
 }
 
-// The vertices to be raised, and what is known of them.
+// The vertices to be raised, and the guess for them.
 #[derive(Drop)]
 struct Straight<'a> {
     ground: &'a GuessGround,
@@ -185,8 +185,8 @@ struct Straight<'a> {
 }
 
 impl<'a> Straight<'a> {
-    // Odd's move over which the bound of v follows: that of the guess where Odd is taken to win; else out of the
-    // vertices to be raised; else to the one of the greatest present value.
+    // Odd's move that gives v its bound: the guess's move where Odd is guessed to win; otherwise one out of the
+    // vertices to be raised; otherwise one to the greatest present value.
     fn move_from(&self, v: u32) -> Option<u32> {
         let bounds = &self.raises.bounds;
         if self.ground.even.top <= bounds.get(v)
@@ -260,7 +260,7 @@ fn are_ranked(ground: &GuessGround, ranks: &PerVertex<u64>, vertices: &[u32]) ->
     true
 }
 
-// Ranks along Odd's straight moves, where they show all bounds. No game is solved.
+// Ranks along Odd's straight moves, if they show all bounds. No game is solved.
 fn straight_ranks(
     alloc: Global,
     ground: &GuessGround,
@@ -278,7 +278,7 @@ fn straight_ranks(
     })
 }
 
-// Ranks of what Odd wins, along its moves.
+// Ranks of the vertices that Odd wins, along its moves.
 fn ranks_won(
     alloc: Global,
     ground: &GuessGround,
@@ -298,7 +298,7 @@ fn ranks_won(
     ranks_along(alloc, ground, &choice, &raised, budget)
 }
 
-// Ranks of what Odd wins; what it does not win keeps its value.
+// Ranks of the vertices that Odd wins; the others keep their value.
 fn rank(
     alloc: Global,
     ground: &GuessGround,
@@ -330,7 +330,7 @@ fn rank_by_game(
     rank(alloc, ground, bounds, &solved, table, budget)
 }
 
-// Ranks by straight moves, and by a game where those do not do.
+// Ranks by straight moves, and by a game if those do not suffice.
 fn rank_raises(
     alloc: Global,
     ground: &GuessGround,
@@ -345,7 +345,7 @@ fn rank_raises(
     }
 }
 
-/// Bounds and ranks for the top where Odd is taken to win, or nothing where that raises nothing.
+/// Returns bounds and ranks for the top where Odd is guessed to win, or nothing if that raises nothing.
 pub fn ranked_top(
     alloc: Global,
     ground: &GuessGround,
@@ -361,7 +361,7 @@ pub fn ranked_top(
     Ok(Some(raises.with_ranks(ranks)))
 }
 
-/// Bounds and ranks for values cut to a weight, or nothing where they exceed the table nowhere.
+/// Returns bounds and ranks for values cut to a weight, or nothing if they exceed the table nowhere.
 pub fn ranked(
     alloc: Global,
     ground: &GuessGround,

@@ -1,4 +1,4 @@
-//! Cycles of an even priority on which the values above it stay equal. Going round them, they fall.
+//! Cycles of an even priority on which the values above it stay equal. Values fall along them.
 use crate::ground::value_in;
 use crate::scale::Scale;
 use crate::subgame::{Solved, Subgame};
@@ -45,7 +45,7 @@ impl<'a> Level<'a> {
             && self.scale.cut(value_in(self.table, v), weight) < self.scale.cut(value, weight)
     }
 
-    // Those of the region up to this vertex's priority that exceed the table above it; none where nothing of that
+    // The vertices of the region up to this vertex's priority that exceed the table above it; none if no vertex of that
     // priority does.
     fn falling(&self, alloc: Global, region: &[u32], even: u32) -> Result<Vec<u32>, AllocError> {
         let limit = self.graph.priority(even);
@@ -103,7 +103,7 @@ impl<'a> Level<'a> {
         }
     }
 
-    // Even's choices where it wins, or nothing where it wins nowhere.
+    // Even's choices where it wins, or nothing if it wins nowhere.
     fn choices(
         &self,
         alloc: Global,
@@ -125,7 +125,7 @@ impl<'a> Level<'a> {
         Ok(Some(choices.list()?))
     }
 
-    // Choices of Even in a region that go round cycles of one even priority, where it wins by some.
+    // Choices of Even in a region that go round cycles of one even priority, if it wins by some.
     fn choices_at(
         &self,
         alloc: Global,
@@ -141,7 +141,7 @@ impl<'a> Level<'a> {
         self.choices(alloc, &solved)
     }
 
-    /// Choices of Even in a region that go round such cycles, of the greatest even priority that has some.
+    /// Returns choices of Even in a region that go round such cycles, of the greatest even priority that has some.
     pub fn even_cycles(
         &self,
         alloc: Global,

@@ -1,12 +1,12 @@
-//! What values of one table are guessed over.
+//! The graphs and scales of a table that guesses of values use.
 use crate::scale::Scale;
 use std::alloc::{AllocError, Global};
 use vpg_regions::{Found, Graph, PerVertex, Predecessors};
 
-/// A part with less than one in so many of the vertices is small.
+/// A part with less than one in this many of the vertices is small.
 const SMALL_PART: usize = 4;
 
-/// What lifts go by: who moves to each vertex, and how measures grow for Even.
+/// The graph and scale that lifts use: who moves to each vertex, and how measures grow for Even.
 #[derive(Clone, Copy)]
 pub struct LiftGround<'a> {
     pub predecessors: &'a Predecessors,
@@ -18,25 +18,25 @@ impl LiftGround<'_> {
         self.predecessors.vertices()
     }
 
-    /// So many looks at each edge and vertex.
+    /// Returns the number of looks for this many at each edge and vertex.
     pub fn looks(self, each: u64) -> u64 {
         self.predecessors.size().saturating_mul(each)
     }
 
-    /// Whether so many vertices are a small part of all.
+    /// Whether this many vertices are a small part of all.
     pub fn is_small_part(self, count: usize) -> bool {
         count < self.vertices() as usize / SMALL_PART
     }
 }
 
-/// What lifts of one table go by, as it was made for some page of a game. On other pages some edges are others: the
-/// lists may miss one that lifts would follow, and never cost a clause.
+/// The lists that lifts of one table use, made for some page of a game. Other pages have some other edges: the lists
+/// may miss one that lifts would follow, and never cost a clause.
 pub struct TableGround {
     pub predecessors: Predecessors,
     pub even: Scale,
 }
 
-// Not derived, so that letting one go is one call: a derived way would be proved anew at each exit that owns one.
+// Not derived: a derived `drop` would be proved again at each exit that owns such a value.
 impl Drop for TableGround {
     fn drop(self) {
         let TableGround {
@@ -67,7 +67,7 @@ pub struct GuessGround {
     pub odd: Scale,
 }
 
-// Not derived, so that letting one go is one call: a derived way would be proved anew at each exit that owns one.
+// Not derived: a derived `drop` would be proved again at each exit that owns such a value.
 impl Drop for GuessGround {
     fn drop(self) {
         let GuessGround {
@@ -79,7 +79,7 @@ impl Drop for GuessGround {
 }
 
 impl GuessGround {
-    /// What its lifts go by, all else let go.
+    /// Returns the lists that its lifts use, and discards the rest.
     pub fn into_lifts(self) -> TableGround {
         let GuessGround {
             graph,
@@ -92,7 +92,7 @@ impl GuessGround {
         }
     }
 
-    /// What lifts go by.
+    /// Returns the graph and scale that lifts use.
     pub fn lifts(&self) -> LiftGround<'_> {
         LiftGround {
             predecessors: self.graph.predecessor_lists(),
@@ -100,7 +100,7 @@ impl GuessGround {
         }
     }
 
-    /// The vertices that stand at the top.
+    /// Returns the vertices at the top.
     pub fn lost(&self, alloc: Global, table: &[u64]) -> Result<Vec<u32>, AllocError> {
         let mut lost = Found::none(alloc);
         for v in 0..self.graph.vertices() {
@@ -121,7 +121,8 @@ impl GuessGround {
         true
     }
 
-    /// The weights that values are cut to, stage by stage: the top, and those of the odd priorities, greatest first.
+    /// Returns the weights that values are cut to, stage by stage: the top, and those of the odd priorities, greatest
+    /// first.
     pub fn weights(&self, alloc: Global) -> Result<Vec<u64>, AllocError> {
         let mut odd = Found::none(alloc);
         for v in 0..self.graph.vertices() {
@@ -144,7 +145,7 @@ impl GuessGround {
     }
 }
 
-/// A vertex's value in a table.
+/// Returns a vertex's value in a table.
 #[inline(always)]
 pub fn value_in(table: &[u64], v: u32) -> u64 {
     match table.get(v as usize) {

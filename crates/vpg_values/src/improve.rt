@@ -1,7 +1,7 @@
-//! The least values of Even's region, by strategy improvement: each strategy is valued exactly, and then changed where
+//! The least values of Even's region, by strategy improvement. Each strategy is valued exactly, and then changed if
 //! that is better. A better move lowers the value at once, and those of the vertices that move there: so most choices
-//! are found before the next valuing. Only what leads to a changed choice is valued again, and only what moves to a
-//! changed value is looked at again.
+//! are found before the next valuation. Only the vertices that lead to a changed choice are valued again, and only
+//! those that move to a changed value are looked at again.
 use crate::even_cycles::Level;
 use crate::ground::{GuessGround, value_in};
 use crate::scale::Scale;
@@ -10,13 +10,13 @@ use std::alloc::{AllocError, Global};
 use vpg_players::Player;
 use vpg_regions::{Budget, Choices, Found, Graph, PerVertex, Regions};
 
-/// A guess of values, and choices. Odd's are those that win, where its value is the top.
+/// A guess of values, and choices. Odd's choices are those that win, at vertices with the top.
 pub struct Guess {
     pub values: PerVertex<u64>,
     pub choice: Choices,
 }
 
-// Not derived, so that letting one go is one call: a derived way would be proved anew at each exit that owns one.
+// Not derived: a derived `drop` would be proved again at each exit that owns such a value.
 impl Drop for Guess {
     fn drop(self) {
         let Guess {
@@ -26,10 +26,11 @@ impl Drop for Guess {
     }
 }
 
-/// How often lowering looks at all edges and vertices at most before strategies are valued again.
+/// The greatest number of times that lowering looks at all edges and vertices before strategies are valued again.
 const LOWERINGS: u64 = 8;
 
-/// How often moves round even cycles are taken at most. They may raise a value, too, and then come again and again.
+/// The greatest number of turns of moves round even cycles. Such moves may raise a value, too, and then come again and
+/// again.
 const MOST_TURNS: u32 = 64;
 
 struct Improvement<'a> {
@@ -42,7 +43,7 @@ struct Improvement<'a> {
     before: PerVertex<u64>,
     // whether the value exceeds the table, and may still fall
     open: PerVertex<bool>,
-    // those whose value was lowered to the table's since the last evaluation
+    // those with a value that was lowered to the table's since the last evaluation
     closed: Found<u32>,
     mark: PerVertex<u32>,
     stamp: u32,
@@ -52,7 +53,7 @@ struct Improvement<'a> {
     evaluation: Evaluation,
 }
 
-// Not derived, so that letting one go is one call: a derived way would be proved anew at each exit that owns one.
+// Not derived: a derived `drop` would be proved again at each exit that owns such a value.
 impl<'a> Drop for Improvement<'a> {
     fn drop(self) {
         let Improvement {
@@ -121,7 +122,7 @@ impl<'a> Improvement<'a> {
         Guess { values, choice }
     }
 
-    // The top where Odd is taken to win.
+    // Sets the top where Odd is guessed to win.
     fn lose(&mut self, regions: &Regions, vertices: &[u32]) {
         for v in vertices {
             if regions.winner(*v) == Some(Player::Odd) {
@@ -150,7 +151,7 @@ impl<'a> Improvement<'a> {
         Ok(())
     }
 
-    // Even's vertices that changed: for better moves, and else round even cycles, in so many turns at most.
+    // Even's vertices that changed: for better moves, and otherwise round even cycles, in at most this many turns.
     fn changes(
         &mut self,
         alloc: Global,
@@ -167,7 +168,7 @@ impl<'a> Improvement<'a> {
         self.switch_even_cycles(alloc, region, budget)
     }
 
-    // Values what leads to those that changed, and gives what is to be looked at again.
+    // Values the vertices that lead to changed ones, and returns the vertices to be looked at again.
     fn value_again(
         &mut self,
         alloc: Global,
@@ -203,7 +204,7 @@ impl<'a> Improvement<'a> {
         value_in(self.table, v) < self.values.get(v)
     }
 
-    // Notes which vertices exceed the table, and gives Even's of them.
+    // Notes which vertices exceed the table, and returns Even's of them.
     fn open_all(&mut self, alloc: Global, region: &[u32]) -> Result<Vec<u32>, AllocError> {
         let mut own = Found::none(alloc);
         for v in region {
@@ -217,8 +218,8 @@ impl<'a> Improvement<'a> {
         own.list()
     }
 
-    // Takes better moves from these vertices on, lowers values along, and gives Even's vertices that changed. What is
-    // not looked at for want of looks is looked at the next time.
+    // Takes better moves from these vertices on, lowers values along, and returns Even's vertices that changed.
+    // Vertices that the budget does not reach are looked at the next time.
     fn lower(
         &mut self,
         alloc: Global,
@@ -263,7 +264,7 @@ impl<'a> Improvement<'a> {
         }
     }
 
-    // Those that move to v, whose value fell, are looked at where that may make theirs fall.
+    // After the value of v fell, marks the vertices that move to v to be looked at, if theirs may fall.
     fn wake(&mut self, v: u32) {
         let graph = self.graph;
         let value = self.values.get(v);
@@ -275,7 +276,7 @@ impl<'a> Improvement<'a> {
         }
     }
 
-    // Lowers the value of v where its moves allow that, and says whether they do.
+    // Lowers the value of v if its moves allow that, and returns whether they do.
     fn falls(&mut self, v: u32, changed: &mut Found<u32>) -> bool {
         let value = if self.graph.owner(v) == Player::Even {
             let Some(w) = self.better(v) else {
@@ -310,7 +311,7 @@ impl<'a> Improvement<'a> {
         self.scale.prog(v, greatest)
     }
 
-    // The move of least value, where it gives less than the present one.
+    // The move of least value, if that is less than the present one.
     fn better(&self, v: u32) -> Option<u32> {
         let mut least = self.values.get(v).saturating_sub(self.scale.step(v));
         let mut better = None;
@@ -324,7 +325,7 @@ impl<'a> Improvement<'a> {
         better
     }
 
-    // Moves round cycles of an even priority. Gives those that changed.
+    // Moves round cycles of an even priority. Returns the vertices that changed.
     fn switch_even_cycles(
         &mut self,
         alloc: Global,
@@ -348,7 +349,7 @@ impl<'a> Improvement<'a> {
         self.choose(alloc, &choices)
     }
 
-    // Takes over these choices. Gives Even's vertices that changed.
+    // Takes over these choices. Returns Even's vertices that changed.
     fn choose(&mut self, alloc: Global, choices: &[(u32, u32)]) -> Result<Vec<u32>, AllocError> {
         let mut changed = Found::none(alloc);
         for (v, w) in choices {
@@ -360,7 +361,7 @@ impl<'a> Improvement<'a> {
         changed.list()
     }
 
-    // The vertices that changed or were closed, and the open ones from where moves lead there.
+    // The vertices that changed or were closed, and the open ones with moves that lead there.
     fn leading_to(
         &mut self,
         changed: Vec<u32>,
@@ -377,7 +378,7 @@ impl<'a> Improvement<'a> {
         leading.list()
     }
 
-    // Marks the vertices that changed and those that were closed, and gives each once.
+    // Marks the vertices that changed and those that were closed, and returns each once.
     fn with_closed(&mut self, changed: Vec<u32>) -> Found<u32> {
         self.stamp = self.stamp.saturating_add(1);
         for v in &changed {
@@ -408,7 +409,7 @@ impl<'a> Improvement<'a> {
         self.graph.owner(u) == Player::Odd || self.choice.get(u) == Some(v)
     }
 
-    // Even's open vertices with an edge to one of these whose value changed.
+    // Even's open vertices with an edge to one of these with a changed value.
     fn looks_again(
         &mut self,
         alloc: Global,
@@ -442,7 +443,7 @@ impl<'a> Improvement<'a> {
     }
 }
 
-// Those of some vertices that are below the top and that Even is taken to win.
+// Those of some vertices that are below the top and guessed to be Even's.
 fn even_region(
     alloc: Global,
     ground: &GuessGround,
@@ -459,7 +460,7 @@ fn even_region(
     region.list()
 }
 
-// As `guess_table`, where Even's region is known.
+// The guess of `guess_table`, for a known region of Even.
 fn guess_over(
     alloc: Global,
     ground: &GuessGround,
@@ -475,8 +476,9 @@ fn guess_over(
     Ok(improvement.into_guess())
 }
 
-/// Guesses the least progress table above a table that has its values but at some vertices: the top where Odd is taken
-/// to win, and elsewhere from Even's choices on. Where the budget is spent, the values are those of some choices.
+/// Guesses the least progress table above a table that has its values except at some vertices. The guess has the top
+/// where Odd is guessed to win, and values that begin with Even's choices elsewhere. If the budget is spent, the values
+/// are those of some choices.
 pub fn guess_table(
     alloc: Global,
     ground: &GuessGround,

@@ -1,12 +1,12 @@
-//! What the values of a parity game are taken to be: what guesses of progress tables are made of.
+//! Guessed values of a parity game: guesses of progress tables are made of them.
 //!
 //! The least values of Even's region come from strategy improvement: each strategy is valued exactly, and then changed
-//! where that is better. Bounds cut from such values have ranks that are to show them. Nothing is promised but that all
-//! this is safe and ends: what it says is taken over only as far as certificates show it.
+//! if that is better. Bounds cut from such values have ranks to show them. The only promise is that all this is safe
+//! and ends: its results count only as far as certificates show them.
 //!
 //! The layer above, `vpg_guess`, makes a `GuessGround` of an arena: its graph, and the `Scale` of measures for either
-//! player. Over it `guess_table` gives a `Guess` of values, and `ranked_top` and `ranked` give `RankedBounds`.
-//! `TableGround` and `LiftGround` are what lifts go by. This crate has no arenas and no tables, only their numbers.
+//! player. Over it `guess_table` returns a `Guess` of values, and `ranked_top` and `ranked` return `RankedBounds`.
+//! `TableGround` and `LiftGround` have what lifts use. This crate has no arenas and no tables, only their numbers.
 #![tactic(auto)]
 
 mod bounds;

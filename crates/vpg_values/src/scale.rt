@@ -9,15 +9,15 @@ pub struct Scale {
     pub top: u64,
     // each vertex's priority, as the shape counts it
     priorities: PerVertex<u32>,
-    // what one more counts at each priority
+    // the value of one more at each priority
     weights: PerVertex<u64>,
-    // the same where the other player wins if that priority recurs, and else nothing
+    // these weights where the other player wins if that priority recurs, and otherwise nothing
     steps: PerVertex<u64>,
     // the weights less these
     gaps: PerVertex<u64>,
 }
 
-// Not derived, so that letting one go is one call: a derived way would be proved anew at each exit that owns one.
+// Not derived: a derived `drop` would be proved again at each exit that owns such a value.
 impl Drop for Scale {
     fn drop(self) {
         let Scale {
@@ -32,8 +32,8 @@ impl Drop for Scale {
 }
 
 impl Scale {
-    /// The scale of a player with this top, of vertices with these priorities: what one more counts is given for each
-    /// priority up to the greatest.
+    /// Returns the scale of a player with this top, of vertices with these priorities. The value of one more is given
+    /// for each priority up to the greatest.
     pub fn with(
         alloc: Global,
         player: Player,
@@ -64,17 +64,17 @@ impl Scale {
         self.weights.get(self.priorities.get(v))
     }
 
-    /// What one more counts at a vertex where the other player wins if its priority recurs; else nothing.
+    /// Returns the value of one more at a vertex if the other player wins when its priority recurs; otherwise nothing.
     pub fn step(&self, v: u32) -> u64 {
         self.steps.get(self.priorities.get(v))
     }
 
-    /// Whether the other player wins where the priority of this vertex recurs.
+    /// Whether the other player wins when the priority of this vertex recurs.
     pub fn is_strict(&self, v: u32) -> bool {
         self.priorities.get(v) % 2 == 1
     }
 
-    /// The least number over an edge from this vertex to one of this value.
+    /// Returns the least number over an edge from this vertex to one of this value.
     pub fn prog(&self, v: u32, value: u64) -> u64 {
         if self.top <= value {
             return self.top;
@@ -90,14 +90,14 @@ impl Scale {
         bound <= value.saturating_add(self.step(v))
     }
 
-    /// The least value over an edge to which the number at this vertex exceeds its own, itself such a number; past all
-    /// values at the top.
+    /// Returns the least value over an edge that makes the number at this vertex exceed its own, itself such a number.
+    /// It is past all values at the top.
     #[inline(always)]
     pub fn limit(&self, v: u32, own: u64) -> u64 {
         self.limit_at(self.priorities.get(v), own)
     }
 
-    /// The same at a vertex of this priority.
+    /// Returns the least such value at a vertex of this priority.
     #[inline(always)]
     pub fn limit_at(&self, priority: u32, own: u64) -> u64 {
         if own < self.top {
@@ -107,7 +107,7 @@ impl Scale {
         }
     }
 
-    /// The value without what stands below a weight; the top stays.
+    /// Returns the value without its part below a weight; the top stays.
     pub fn cut(&self, value: u64, weight: u64) -> u64 {
         if self.top <= value {
             self.top
@@ -117,7 +117,7 @@ impl Scale {
     }
 }
 
-/// The greatest multiple of a weight up to a value.
+/// Returns the greatest multiple of a weight up to a value.
 fn cut(value: u64, weight: u64) -> u64 {
     if weight <= 1 {
         value

@@ -3,7 +3,7 @@ use std::alloc::{AllocError, Global};
 use vpg_players::Player;
 use vpg_regions::{Budget, Choices, Draft, Graph, Regions, solve_regions};
 
-/// Some vertices of a graph under numbers of their own, and behind them a dead end of Even, where Odd wins.
+/// Some vertices of a graph under numbers of their own, and after them a dead end of Even, where Odd wins.
 pub struct Subgame {
     pub vertices: Vec<u32>,
     places: Choices,
@@ -11,7 +11,7 @@ pub struct Subgame {
     draft: Draft,
 }
 
-// Not derived, so that letting one go is one call: a derived way would be proved anew at each exit that owns one.
+// Not derived: a derived `drop` would be proved again at each exit that owns such a value.
 impl Drop for Subgame {
     fn drop(self) {
         let Subgame {
@@ -43,12 +43,12 @@ impl Subgame {
         self.places.get(v).is_some()
     }
 
-    /// An edge of the vertex that comes next; to the dead end where w is not in the game.
+    /// Adds an edge of the vertex that comes next; it leads to the dead end if w is not in the game.
     pub fn edge(&mut self, w: u32) {
         self.draft.edge(self.places.get(w).unwrap_or(self.sink));
     }
 
-    /// The next vertex, with the edges since the last one.
+    /// Adds the next vertex, with the edges since the last one.
     pub fn vertex(&mut self, graph: &Graph, v: u32) {
         self.draft.vertex(graph.owner(v), graph.priority(v));
     }
@@ -70,7 +70,7 @@ impl Subgame {
     }
 }
 
-// Solves a game with a dead end of Even behind its vertices.
+// Solves a game with a dead end of Even after its vertices.
 fn solve_with_sink(
     alloc: Global,
     draft: Draft,
@@ -82,14 +82,14 @@ fn solve_with_sink(
     solve_regions(alloc, &graph, Vec::new(alloc), budget)
 }
 
-/// A game over some vertices and who wins where.
+/// A game over some vertices, and its winners.
 pub struct Solved {
     vertices: Vec<u32>,
     places: Choices,
     regions: Regions,
 }
 
-// Not derived, so that letting one go is one call: a derived way would be proved anew at each exit that owns one.
+// Not derived: a derived `drop` would be proved again at each exit that owns such a value.
 impl Drop for Solved {
     fn drop(self) {
         let Solved {
@@ -112,7 +112,7 @@ impl Solved {
         }
     }
 
-    /// The winner's choice, where it stays in the game.
+    /// Returns the winner's choice, if it stays in the game.
     pub fn choice(&self, v: u32) -> Option<u32> {
         let place = self.places.get(v)?;
         let chosen = self.regions.choice(place)?;

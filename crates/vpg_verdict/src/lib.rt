@@ -1,6 +1,6 @@
-//! What the two tables of a page are called, and what they say of a vertex.
+//! The names of a page's two tables, and a vertex's verdict.
 //!
-//! Scripts, pictures and watchers name tables and tell verdicts, and need no measure for it.
+//! Scripts, pictures and watchers name tables and report verdicts, and need no measure for it.
 #![tactic(auto)]
 
 mod verdict;

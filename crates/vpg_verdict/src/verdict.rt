@@ -1,7 +1,7 @@
-//! What the two tables say of a vertex.
+//! The verdict of the two tables on a vertex.
 
-/// Hopeless where the first table is top: Even has no winning strategy in any product that remains. Sure where the
-/// second one is: Odd has none.
+/// Hopeless if the hopeful table has the top: Even has no winning strategy in any product that remains. Sure if the
+/// dual table has it: Odd has none.
 #[derive(Clone, Copy, Debug, PartialEq, Eq)]
 pub struct Verdict {
     pub hopeless: bool,

@@ -1,8 +1,8 @@
-//! Fronts, as far as sheets need them: what a type has to say of itself so that sheets may stand for its values.
+//! Fronts, as far as sheets need them: the trait of a type that sheets may stand for.
 ghost use Rattle.std.specs.Prelude.{◌≡◌, ◌≤◌, ℕ, Bool, List};
 ghost use Rattle.vpg_verdict.specs.declared.verdict.Verdict.{Verdict};
 
-/// A front: the first so many calls of some row of calls. A row only grows at its end, so of two fronts of one row one
+/// A front: a number of first calls of some row of calls. A row only grows at its end, so of two fronts of one row one
 /// begins with the other.
 ///
 /// An impl gives four definitions and one function, and proves five laws of them.
@@ -13,14 +13,14 @@ pub trait Follows: Drop {
     /// The front that has no call.
     ghost empty: { Self };
 
-    /// How many calls it has.
+    /// The number of calls of a front.
     ghost calls: { Self → ℕ };
 
-    /// `belongs front at settled verdicts`: what a sheet of the front has to tell. It says which number of calls,
-    /// whether the page to which they lead is settled, and which verdicts that page has.
+    /// `belongs front at settled verdicts`: the right content of a sheet of the front. It fixes the number of calls,
+    /// whether the page to which they lead is settled, and the verdicts of that page.
     ghost belongs: { Self → ℕ → Bool → List Verdict → Type 0 };
 
-    /// How many calls it has.
+    /// Returns the number of calls.
     fn len(&self) -> usize
         ensures { result ≡ calls self.now };
 
@@ -36,7 +36,7 @@ pub trait Follows: Drop {
     /// No front is shorter than its beginnings.
     ghost grows: { (f g : Self) → begins f g → calls g ≤ calls f };
 
-    /// What a sheet tells of the number of calls is so.
+    /// A sheet of a front has the right number of calls.
     ghost counted: { (f : Self) (at : ℕ) (settled : Bool) (verdicts : List Verdict) → belongs f at settled verdicts →
         at ≡ calls f };
 }

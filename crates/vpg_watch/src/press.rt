@@ -16,11 +16,11 @@ use std::alloc::{AllocError, Global};
 use std::marker::Model;
 use std::sync::{Arc, Wait};
 
-/// How many watches there may be at once.
+/// The greatest number of watches at once.
 const PLACES: usize = 64;
 
-/// What publishes sheets, one after another: the newest one is shown to all watches. It is a linear value: the compiler
-/// refuses a program that lets it go, and `close` alone ends it.
+/// A publisher of sheets, one after another: the newest one is shown to all watches. It is a linear value: the compiler
+/// refuses a program that drops it, and only `close` ends it.
 ///
 /// Contracts see it as the sheet that it last accepted, by `open` or `publish`.
 pub struct Press<F: Follows>
@@ -46,7 +46,7 @@ where
     ghost invariant = { λ p. known p.writer.desk.place ≡ (arc_value p.writer.desk.shown.value.sheet).front };
 }
 
-// Shows the sheet that was handed in last, if one was, and notes which one is shown. Out of memory nothing
+// Shows the sheet that was last accepted, if there is one, and notes which one is shown. If memory runs out, nothing
 // changes.
 fn show_last<F: Follows, R: Wait>(
     before: ShelfWriter<F>,
@@ -68,8 +68,8 @@ fn show_last<F: Follows, R: Wait>(
 }
 
 impl<F: Follows> Press<F> {
-    /// A press that shows this sheet, which has to belong to its front. The one refusal is out of memory; then the
-    /// sheet comes back.
+    /// Returns a press that shows this sheet, which has to belong to its front. The only refusal is a lack of memory;
+    /// then the sheet comes back.
     pub fn open<R: Wait>(
         rt: &R,
         alloc: Global,
@@ -97,8 +97,8 @@ impl<F: Follows> Press<F> {
         }
     }
 
-    /// Shows a sheet, which has to belong to its front, and whose front has to begin with that of the sheet last
-    /// accepted. It waits for reads that have begun on the sheet shown before that one. The one refusal is want of
+    /// Shows a sheet. It has to belong to its front, and the front has to begin with that of the sheet last accepted.
+    /// The call waits for reads that have begun on the sheet shown before that one. The only refusal is a lack of
     /// memory: then the sheet comes back, and watches read what they read before.
     pub fn publish<R: Wait>(&mut self, rt: &R, sheet: Arc<Sheet<F>>) -> Result<(), Arc<Sheet<F>>>
         requires belongs { Belongs F.belongs (arc_value sheet) }
@@ -119,8 +119,8 @@ impl<F: Follows> Press<F> {
         }
     }
 
-    /// A watch, whose first read gives the sheet last accepted or a later one. There may be 64 watches at once; the
-    /// place of one that is let go is free again.
+    /// Returns a watch; its first read returns the sheet last accepted or a later one. There may be 64 watches at once.
+    /// The place of a dropped watch is free again.
     pub fn watch(&mut self) -> Result<Watch<F>, NoPlace>
         ensures same { self.new ≡ self.old }
         ensures seen { IfOk result (λ watch. watch ≡ self.old.front) }
@@ -132,7 +132,8 @@ impl<F: Follows> Press<F> {
         Ok(Watch { reader })
     }
 
-    /// Ends the press, once reads that have begun are done. From then on watches read nothing. It is never refused.
+    /// Ends the press, once reads that have begun are done. From then on watches read nothing. The call is never
+    /// refused.
     pub fn close<R: Wait>(self, rt: &R) {
         let Press { writer } = self;
         writer.take(rt);

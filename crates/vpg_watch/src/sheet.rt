@@ -1,4 +1,4 @@
-//! Sheets: what is told of a page.
+//! Sheets: the verdicts of a page.
 ghost use Rattle.std.specs.Prelude.{◌≡◌, ◌^◌, ◌<◌};
 
 use crate::follows::Follows;
@@ -23,14 +23,14 @@ impl Model for Verdicts {
 }
 
 impl Verdicts {
-    /// Made from a `Vec`, without memory.
+    /// Makes the list from a `Vec`, without taking memory.
     pub fn new(verdicts: Vec<Verdict>) -> Verdicts
         ensures { result ≡ verdicts.items }
     {
         Verdicts { verdicts }
     }
 
-    /// The `Vec` itself, without memory.
+    /// Returns the `Vec` itself, without taking memory.
     pub fn into_vec(self) -> Vec<Verdict>
         ensures { result.items ≡ self }
     {
@@ -38,7 +38,7 @@ impl Verdicts {
         verdicts
     }
 
-    /// The verdicts; that of vertex `v` stands at `v`.
+    /// Returns the verdicts; that of vertex `v` is at `v`.
     pub fn as_slice(&self) -> &[Verdict]
         ensures { result.now ≡ self.now }
     {
@@ -46,7 +46,7 @@ impl Verdicts {
     }
 }
 
-/// What is told of the page to which a front leads.
+/// The number of calls, settledness and verdicts of the page to which a front leads.
 #[derive(Drop)]
 pub struct Sheet<F> {
     /// The number of calls of the front: the length of the row when the sheet was made. Of two sheets that one watch
@@ -54,14 +54,14 @@ pub struct Sheet<F> {
     pub at: u32,
     /// Whether both tables of the page are settled.
     pub settled: bool,
-    /// What the page's tables say of each vertex. Sheets of pages that say the same of each vertex may share the list.
+    /// The verdict of the page's tables on each vertex. Sheets of pages with the same verdicts may share the list.
     pub verdicts: Arc<Verdicts>,
     /// The calls that led to the page.
     pub front: F,
 }
 
 impl<F: Follows> Sheet<F> {
-    /// A sheet of the front, whose `at` is the front's number of calls.
+    /// Returns a sheet of the front, with the front's number of calls as its `at`.
     pub fn of(front: F, settled: bool, verdicts: Arc<Verdicts>) -> Sheet<F>
         requires { F.calls front < 2 ^ 32 }
         ensures { result ≡ record { at = F.calls front; settled = settled; verdicts = verdicts; front = front } }

@@ -13,10 +13,11 @@ use std::alloc::AllocError;
 use std::marker::Model;
 use std::sync::Arc;
 
-/// What reads sheets, without a lock and without waiting. It may go to another thread, and may outlive the press.
+/// A reader of sheets, without a lock and without waiting. It may be moved to another thread, and may outlive the
+/// press.
 ///
-/// Contracts see it as a front with which all its further reads begin: the front of the sheet that it read last or,
-/// before its first read, of the sheet that the press had last accepted when it made the watch.
+/// Contracts see it as a front that all its further reads begin with. It is the front of the sheet that it read last
+/// or, before its first read, of the sheet that the press had last accepted when it made the watch.
 #[derive(Drop)]
 pub struct Watch<F: Follows> {
     pub(crate) reader: ShelfReader<F>,
@@ -50,11 +51,11 @@ fn read_shown<F: Follows>(
 }
 
 impl<F: Follows> Watch<F> {
-    /// The sheet that is shown. It belongs to its front, which begins with the front that this watch read before (at
-    /// its first read: with that of the sheet that the press had last accepted when it made the watch), so `at` never
-    /// falls.
+    /// Returns the sheet that is shown. It belongs to its front, which begins with the front that this watch read
+    /// before (at its first read: with that of the sheet that the press had last accepted when it made the watch). So
+    /// `at` never falls.
     ///
-    /// The one refusal is `NoSheet`. It takes no memory.
+    /// The only refusal is `NoSheet`. The call takes no memory.
     pub fn read(&mut self) -> Result<Arc<Sheet<F>>, WatchFault>
         ensures begins { IfOk result (λ sheet. F.begins (arc_value sheet).front self.old) }
         ensures belongs { IfOk result (λ sheet. Belongs F.belongs (arc_value sheet)) }
@@ -62,7 +63,7 @@ impl<F: Follows> Watch<F> {
         ensures later { IfOk result (λ sheet. F.calls self.old ≤ (arc_value sheet).at) }
         ensures seen { IfOk result (λ sheet. self.new ≡ (arc_value sheet).front) }
 
-        // Also where there is no sheet, whatever begins with what is seen then begins with what was seen.
+        // Even without a sheet, a front that begins with the new view begins with the old one.
         ensures kept { F.begins self.new self.old }
     {
         match replace_with(&mut self.reader, (), read_shown) {

@@ -1,4 +1,4 @@
--- What a search for a product says.
+-- The results of a search for a product.
 use Rattle.std.specs.Prelude.{ℕ, ◌≡◌, ◌<◌, ◌≤◌, ◌+◌, ⊤, Bool, List, slice_index_or, IsTrue}
 use Rattle.std.specs.List.{AllByRecursion}
 use Rattle.vpg_guards.specs.declared.tri.Tri.{Tri}
@@ -38,8 +38,8 @@ pub record IsOpen (diagram : NamedDiagram) (choices : List Literal) (feature : �
   pub unknown : slice_index_or known feature Unknown ≡ Unknown
   pub below : (f : ℕ) → f < feature → slice_index_or known f Unknown ≡ Unknown → ⊥
 
--- What choices say of an aim before any split: no product that agrees with them meets it; or this is the only one that
--- agrees, and does; or this is the first feature that is not known; or a limit was met.
+-- The outlook of choices on an aim before any split. Either no product that agrees with them meets it, or this is the
+-- only one that agrees, and does. Or this is the first feature that is not known, or a limit was met.
 abbrev pub IsOutlook : NamedGame → NamedDiagram → Aim → List Literal → Outlook → Type 0
 IsOutlook game diagram aim choices outlooks.Lost = NoneMeets game diagram aim choices
 IsOutlook game diagram aim choices (outlooks.Met product) = IsOnlyRemaining diagram.lines choices product.items × Meets game aim product.items
@@ -53,7 +53,7 @@ IsOutlookExact (outlooks.Met product) = ⊤
 IsOutlookExact (outlooks.Open feature) = ⊤
 IsOutlookExact outlooks.Unsettled = ⊥
 
--- A search from the choices on that is so deep, with so many trials, comes to its end.
+-- A search from these choices, of this depth and with this many trials, comes to its end.
 pub record HasRoom (diagram : NamedDiagram) (choices : List Literal) (depth trials : ℕ) : Type 0 where
   pub from : ℕ
   pub below : AreKnownBelow diagram choices from
@@ -61,7 +61,7 @@ pub record HasRoom (diagram : NamedDiagram) (choices : List Literal) (depth tria
   pub deep : feature_count diagram.lines < from + depth
   pub enough : most_trials depth ≤ trials
 
--- A product that agrees with the choices and meets the aim; it is the first one, where that is shown.
+-- A product that agrees with the choices and meets the aim; it is the first one, if that is shown.
 pub record IsFoundProduct (game : NamedGame) (diagram : NamedDiagram) (aim : Aim) (choices : List Literal) (set : List Bool) (first : Bool) : Type 0 where
   pub remaining : IsRemaining diagram.lines choices set
   pub meets : Meets game aim set
@@ -91,26 +91,26 @@ IsFoundExact (founds.Product example) = IsTrue example.first
 IsFoundExact founds.Nothing = ⊤
 IsFoundExact founds.Unsettled = ⊥
 
--- some decisions because of which no product meets the aim, or a product that does
+-- some decisions that leave no product that meets the aim, or a product that does
 abbrev pub IsWhyLost : NamedGame → NamedDiagram → Aim → List Decision → WhyLost → Type 0
 IsWhyLost game diagram aim decisions (whys.Because found) = Explains (Suffice game diagram (asks.Lost aim)) decisions found.decisions.items found.exact
 IsWhyLost game diagram aim decisions (whys.Unless example) = IsFoundProduct game diagram aim (choices decisions) example.features.items example.first
 IsWhyLost game diagram aim decisions whys.Unsettled = ⊤
 
--- no limit was met in saying why
+-- no limit was met in the search for the reason
 abbrev pub IsWhyLostExact : WhyLost → Type 0
 IsWhyLostExact (whys.Because found) = IsTrue found.exact
 IsWhyLostExact (whys.Unless example) = IsTrue example.first
 IsWhyLostExact whys.Unsettled = ⊥
 
--- what each product has that agrees with the choices and meets the aim, where there is one
+-- the literals of each product that agrees with the choices and meets the aim, if there is one
 abbrev pub AreFoundNeeds : NamedGame → NamedDiagram → Aim → List Literal → Demand → Type 0
 AreFoundNeeds game diagram aim choices (demands.These found) =
     ((set : List Bool) × IsRemaining diagram.lines choices set × Meets game aim set) × AreNeeds game diagram aim choices found.literals.items found.exact
 AreFoundNeeds game diagram aim choices demands.Nothing = NoneMeets game diagram aim choices
 AreFoundNeeds game diagram aim choices demands.Unsettled = ⊤
 
--- no limit was met in listing what is needed
+-- no limit was met in listing the needs
 abbrev pub AreNeedsExact : Demand → Type 0
 AreNeedsExact (demands.These found) = IsTrue found.exact
 AreNeedsExact demands.Nothing = ⊤

@@ -1,4 +1,4 @@
--- What holds of explanations, as statements.
+-- Laws of explanations, as statements.
 use Rattle.std.specs.Prelude.{◌≡◌, ℕ, ◌<◌, Bool, true, List, length}
 use Rattle.vpg_diagram.specs.DiagramText.{NamedDiagram, IsNamedDiagram}
 use Rattle.vpg_diagram.specs.FeatureDiagram.{Line, IsDiagram}
@@ -19,18 +19,19 @@ use Rattle.vpg_why.specs.Products.{NoneMeets, MeetsIn, IsFirstIn, AreNeedsIn}
 use Rattle.vpg_why.specs.Repaired.{IsRepair}
 use Rattle.vpg_why.specs.Suffices.{Suffice, SufficeIn}
 
--- what suffices still suffices with more choices
+-- choices that suffice still suffice with more choices
 abbrev pub MoreChoicesSuffice : Type 0
 MoreChoicesSuffice = (game : GuardedGame Formula) (lines : List Line) (question : Question) (few many : List Literal) →
     IsDiagram lines → AreChoicesOf lines few → AreAmong few many → SufficeIn game lines question few → SufficeIn game lines question many
 
--- Where choices suffice for a verdict, they do.
+-- If choices suffice for a verdict, its loser loses.
 abbrev pub SufficientChoicesLose : Type 0
 SufficientChoicesLose = (game : NamedGame) (diagram : NamedDiagram) (which : Which) (vertex : ℕ) (choices : List Literal) →
     IsGame game → IsNamedDiagram diagram → AreChoicesOf diagram.lines choices → vertex < length game.vertices → Suffice game diagram (asks.Verdict which vertex) choices →
     NoneMeets game diagram (aims.Won which vertex) choices
 
--- Two explanations of one question from the same decisions are the same, where it is shown of both that none can be left out.
+-- Two explanations of one question from the same decisions are the same, if it is shown of both that none can be left
+-- out.
 abbrev pub ExplanationsAreOne : Type 0
 ExplanationsAreOne = (game : GuardedGame Formula) (lines : List Line) (question : Question) (decisions one other : List Decision) →
     IsDiagram lines → AreChoicesOf lines (choices decisions) → Explains (SufficeIn game lines question) decisions one true → Explains (SufficeIn game lines question) decisions other true → one ≡ other
@@ -41,12 +42,12 @@ FirstProductsAreOne = (game : GuardedGame Formula) (lines : List Line) (aim : Ai
     IsRemaining lines choices one → MeetsIn game aim one → IsFirstIn game lines aim choices one →
     IsRemaining lines choices other → MeetsIn game aim other → IsFirstIn game lines aim choices other → one ≡ other
 
--- Two lists of what is needed for one aim are the same, where it is shown of both that nothing else is.
+-- Two lists of needs for one aim are the same, if it is shown of both that there are no others.
 abbrev pub NeedsAreOne : Type 0
 NeedsAreOne = (game : GuardedGame Formula) (lines : List Line) (aim : Aim) (choices one other : List Literal) →
     AreNeedsIn game lines aim choices one true → AreNeedsIn game lines aim choices other true → one ≡ other
 
--- Two repairs of one page give up the same decisions, where it is shown of both that each of them has to be.
+-- Two repairs of one page give up the same decisions, if it is shown of both that each of them has to be given up.
 abbrev pub RepairsAreOne : Type 0
 RepairsAreOne =
     (game : GuardedGame Formula) (lines : List Line) (question : Question)

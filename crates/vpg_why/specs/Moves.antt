@@ -29,7 +29,7 @@ WinsInEach game lines choices player strategy vertex =
     (set : List Bool) → IsRemaining lines choices set →
     Wins (product_game (truth set) game) player strategy vertex
 
--- the cautious game under what is known, of the game or of its dual: whose moves are asked for stands as Even there
+-- the cautious game under what is known, of the game or of its dual; the player of the moves stands as Even there
 abbrev pub caution_for : List Tri → Which → GuardedGame Formula → Game
 caution_for known which game = cautious_game (kleene known) (game_for which game)
 
@@ -42,13 +42,14 @@ pub record AreLeastMoves (game : GuardedGame Formula) (which : Which) (known : L
   pub low : slice_index table vertex < top_for which game
   pub chosen : AreChoices (levels_for which game) (caution_for known which game) table moves
 
--- No strategy wins from the vertex in the cautious game: against all that may still be there.
+-- No strategy wins from the vertex in the cautious game, against all that may still be there.
 abbrev pub NoneWins : GuardedGame Formula → Which → List Tri → ℕ → Type 0
 NoneWins game which known vertex =
     (strategy : Strategy) → Wins (caution_for known which game) Player.Even strategy vertex → ⊥
 
 -- The moves win in each product that agrees with the choices. They are the moves of the least table of the cautious
--- game under what is known, at the vertices that a play from this one can come to there, and no others.
+-- game under what is known. They are given at the vertices that a play from this one can come to there, and at no
+-- others.
 pub record AreWinning (game : GuardedGame Formula) (lines : List Line) (choices : List Literal) (which : Which)
     (vertex : ℕ) (moves : List (Option ℕ)) : Type 0 where
   pub wins : WinsInEach game lines choices (loser which) (strategy_of moves) vertex
@@ -66,20 +67,20 @@ abbrev pub NoneWinsUnder : GuardedGame Formula → List Line → List Literal �
 NoneWinsUnder game lines choices which vertex =
     (known : List Tri) × IsKnownTable lines choices known × NoneWins game which known vertex
 
--- moves that win in each product that agrees with the choices; or none win against all that may still be there
+-- moves that win in each product that agrees with the choices, or none win against all that may still be there
 abbrev pub AreFound : GuardedGame Formula → List Line → List Literal → Which → ℕ → Moves → Type 0
 AreFound game lines choices which vertex (Winning moves) = AreWinning game lines choices which vertex moves.items
 AreFound game lines choices which vertex Nothing = NoneWinsUnder game lines choices which vertex
 AreFound game lines choices which vertex Unsettled = ⊤
 
--- under what is known, so many rounds of lifts from zeros leave a progress table of the cautious game
+-- under what is known, this many rounds of lifts from zeros leave a progress table of the cautious game
 abbrev pub SettlesInCaution : ℕ → GuardedGame Formula → Which → List Tri → Type 0
 SettlesInCaution rounds game which known =
     IsProgressTable (levels_for which game) (caution_for known which game)
     (after_rounds (levels_for which game) (caution_for known which game) rounds
     (replicate (length (caution_for known which game)) 0))
 
--- so it is under what the choices make known
+-- the cautious game settles so under what the choices make known
 abbrev pub ChoicesSettleInCaution : ℕ → GuardedGame Formula → List Line → List Literal → Which → Type 0
 ChoicesSettleInCaution rounds game lines choices which =
     (known : List Tri) → IsKnownTable lines choices known → SettlesInCaution rounds game which known

@@ -1,4 +1,4 @@
--- What can be reached over edges that may be there. This project's own.
+-- Vertices that can be reached over edges that may be there. This project's own.
 use Rattle.std.specs.Prelude.{◌≡◌, ◌≢◌, ◌↔◌, ℕ, Bool, true, false, Contains, List, Option, Some, length, slice_index_or}
 use Rattle.vpg_guards.specs.declared.tri.Tri.{Tri}
 use Rattle.vpg_guards.specs.Formula.{Formula}
@@ -13,8 +13,8 @@ pub data Leads (Step : ℕ → ℕ → Type 0) : ℕ → ℕ → Type 0 where
   here : {v : ℕ} → Leads Step v v
   onward : {v w u : ℕ} → Step v w → Leads Step w u → Leads Step v u
 
--- Along an edge that, under what is known, may be there; at a vertex of the mover, to the vertex that is listed. Where
--- there is no mover, nothing is listed.
+-- A step along an edge that may be there under what is known; at a vertex of the mover it leads to the listed vertex.
+-- If there is no mover, nothing is listed.
 pub record MayStep (game : GuardedGame Formula) (known : List Tri) (mover : Option Player) (moves : List (Option ℕ))
     (v w : ℕ) : Type 0 where
   pub edge : GuardedEdge Formula
@@ -23,7 +23,7 @@ pub record MayStep (game : GuardedGame Formula) (known : List Tri) (mover : Opti
   pub leads : edge.to ≡ w
   pub listed : mover ≡ Some (vertex_in game v).owner → strategy_of moves v ≡ Some w
 
--- Marked is each vertex that such steps lead to from the first one, and no other.
+-- Each vertex is marked that such steps lead to from the first one, and no other.
 abbrev pub AreReachable : GuardedGame Formula → (known : List Tri) → (mover : Option Player) →
     (moves : List (Option ℕ)) → (first : ℕ) → (marks : List Bool) → Type 0
 AreReachable game known mover moves first marks =

@@ -1,12 +1,12 @@
 -- Vertices as a search finds them. This project's own.
 use Rattle.std.specs.Prelude.{◌≡◌, ◌↔◌, ℕ, Bool, true, false, List, ◌++◌, length, slice_index_or, Contains, count_by}
 
--- Those in the queue are marked, and no others; each stands there once.
+-- The vertices in the queue are marked, and no others; each is there once.
 pub record AreQueued (marks : List Bool) (queue : List ℕ) : Type 0 where
   pub marked : (v : ℕ) → slice_index_or marks v false ≡ true ↔ Contains queue v
   pub count : length queue ≡ count_by (λ b. b) marks
 
--- Each vertex of which it is so was noted, and no other was added.
+-- Each vertex with the property was noted, and no other was added.
 pub record AreNoted (Is : ℕ → Type 0) (marks : List Bool) (queue : List ℕ) (later_marks : List Bool)
     (later_queue : List ℕ) : Type 0 where
   pub count : length later_marks ≡ length marks
@@ -16,7 +16,7 @@ pub record AreNoted (Is : ℕ → Type 0) (marks : List Bool) (queue : List ℕ)
   pub noted : (v : ℕ) → Is v → slice_index_or later_marks v false ≡ true
   pub queued : AreQueued later_marks later_queue
 
--- the first vertex alone is found
+-- only the first vertex is found
 pub record IsBegun (first : ℕ) (marks : List Bool) (queue : List ℕ) : Type 0 where
   pub queued : AreQueued marks queue
   pub alone : (v : ℕ) → Contains queue v ↔ (v ≡ first)

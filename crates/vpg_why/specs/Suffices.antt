@@ -1,4 +1,4 @@
--- What may be asked of a list of choices, and when they alone make it so. This project's own.
+-- Questions on a list of choices, and when the choices alone make it so. This project's own.
 use Rattle.std.specs.Prelude.{ℕ, zero, suc, ◌+◌, ◌<◌, ◌≤◌, ⊤, Bool, List, [], ◌∷◌, ◌++◌, length, replicate, slice_index, IsTrue}
 use Rattle.vpg_guards.specs.declared.tri.Tri.{Tri}
 use Rattle.vpg_guards.specs.Formula.{Formula}
@@ -33,24 +33,24 @@ IsTopIn game which vertex known = IsValueBelow (levels_for which game) (arena_fo
 abbrev pub IsTopUnder : NamedGame → Which → ℕ → List Tri → Type 0
 IsTopUnder game = IsTopIn (graph_of game)
 
--- Of a game over the features of a diagram's lines: the choices alone make it so. (Where they contradict the diagram, they make everything so.)
+-- The choices alone make it so, for a game over the features of a diagram's lines. (If they contradict the diagram,
+-- they make everything so.)
 abbrev pub SufficeIn : GuardedGame Formula → List Line → Question → List Literal → Type 0
 SufficeIn game lines (asks.Verdict which vertex) choices = (known : List Tri) → IsKnownTable lines choices known → IsTopIn game which vertex known
 SufficeIn game lines (asks.Lost aim) choices = NoneMeetsIn game lines aim choices
 SufficeIn game lines (asks.Known feature value) choices = (known : List Tri) → IsKnownTable lines choices known → IsTrue (literals_in known (choice feature value))
 SufficeIn game lines (asks.Conflict feature value) choices = HasConflictOf lines (choices ++ choice feature value ∷ [])
 
--- of a game over the features of a diagram: the choices alone make it so, where vertices have identifiers, and
--- features names
+-- the choices alone make it so, for a game with identifiers over the features of a diagram with names
 abbrev pub Suffice : NamedGame → NamedDiagram → Question → List Literal → Type 0
 Suffice game diagram = SufficeIn (graph_of game) diagram.lines
 
--- a vertex that is spoken of is one of the game's
+-- a vertex in the aim is one of the game's
 abbrev pub IsAim : NamedGame → Aim → Type 0
 IsAim game aims.Any = ⊤
 IsAim game (aims.Won which vertex) = vertex < length game.vertices
 
--- what is asked is of a vertex of the game, or of a feature of the diagram
+-- the question is on a vertex of the game, or on a feature of the diagram
 abbrev pub IsAskable : NamedGame → NamedDiagram → Question → Type 0
 IsAskable game diagram (asks.Verdict which vertex) = vertex < length game.vertices
 IsAskable game diagram (asks.Lost aim) = IsAim game aim
@@ -74,30 +74,31 @@ MayMeet game (aims.Won which vertex) known = IsLowUnder game which vertex known
 
 -- ---- limits
 
--- under what is known, so many rounds of lifts from zeros leave a progress table
+-- under what is known, this many rounds of lifts from zeros leave a progress table
 abbrev pub SettlesWithin : ℕ → NamedGame → Which → List Tri → Type 0
 SettlesWithin rounds game which known = IsProgressTable (levels_for which (graph_of game)) (arena_for (kleene known) which (graph_of game))
     (after_rounds (levels_for which (graph_of game)) (arena_for (kleene known) which (graph_of game)) rounds (replicate (length (arena_for (kleene known) which (graph_of game))) 0))
 
--- so it is whatever was chosen
+-- the table settles so whatever was chosen
 abbrev pub AlwaysSettles : ℕ → NamedGame → NamedDiagram → Which → Type 0
 AlwaysSettles rounds game diagram which = (choices : List Literal) (known : List Tri) → IsKnownTable diagram.lines choices known → SettlesWithin rounds game which known
 
--- the same of an aim: of the game in which a product is to be won
+-- this many rounds of lifts from zeros settle the game in which a product is to be won
 abbrev pub AimSettlesUnder : ℕ → NamedGame → Aim → List Tri → Type 0
 AimSettlesUnder rounds game aims.Any known = ⊤
 AimSettlesUnder rounds game (aims.Won which vertex) known = SettlesWithin rounds game which known
 
--- so it is of an aim's game, whatever was chosen
+-- the game of an aim settles so whatever was chosen
 abbrev pub AimSettles : ℕ → NamedGame → NamedDiagram → Aim → Type 0
 AimSettles rounds game diagram aim = (choices : List Literal) (known : List Tri) → IsKnownTable diagram.lines choices known → AimSettlesUnder rounds game aim known
 
--- how many trials a search over so many features, less one, makes at most
+-- the greatest number of trials of a search over this many features, less one
 abbrev pub most_trials : ℕ → ℕ
 most_trials zero = 0
 most_trials (suc n) = suc (most_trials n + most_trials n)
 
--- The limits leave room for an answer, whatever was chosen: the rounds settle each table, and the trials suffice for each case. (What is known of features is computed without a limit.)
+-- The limits leave room for an answer, whatever was chosen: the rounds settle each table, and the trials suffice for
+-- each case. (The known features are computed without a limit.)
 abbrev pub IsSettled : NamedGame → NamedDiagram → Limits → Question → Type 0
 IsSettled game diagram limits (asks.Verdict which vertex) = AlwaysSettles limits.rounds game diagram which
 IsSettled game diagram limits (asks.Lost aim) = AimSettles limits.rounds game diagram aim × (most_trials (feature_count diagram.lines + 1) ≤ limits.trials)

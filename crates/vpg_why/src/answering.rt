@@ -32,8 +32,8 @@ fn lost_shown(
     }
 }
 
-/// Whether the decisions alone make it so, of the order's game and diagram. The one error is want of memory. `Unsettled` is answered where a limit was met: never of
-/// features, nor where the limits leave room for an answer.
+/// Whether the decisions alone make it so, for the order's game and diagram. The only error is a lack of memory.
+/// `Unsettled` is returned if a limit was met: never for features, nor if the limits leave room for an answer.
 pub fn suffice(
     alloc: Global,
     order: &Order,

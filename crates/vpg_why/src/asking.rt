@@ -23,7 +23,8 @@ use vpg_measure::{
 use vpg_partial::{Decision, Partial, PartialFault};
 use vpg_verdict::Which;
 
-// Raises a table by certified bounds and, where these do not settle it, by rounds of lifts; says whether it is a progress table then.
+// Raises a table by certified bounds and, if these do not settle it, by rounds of lifts. Returns whether it is a
+// progress table then.
 fn raise(
     alloc: Global,
     shape: &Shape,
@@ -37,7 +38,7 @@ fn raise(
     ensures table { IsTableOf shape.now arena.now table.new }
     ensures below { (other : List ℕ) → IsTableOf shape.now arena.now other → IsProgressTable shape.now arena.now other →
         IsBelowTable table.old other → IsBelowTable table.new other }
-    // It is one where so many rounds alone leave one.
+    // It is one if this many rounds alone leave one.
     ensures rounds { IfOk result (λ settled. IsProgressTable shape.now arena.now (after_rounds shape.now arena.now limits.rounds table.old) → IsTrue settled) }
 {
     let settled = raise_by_bounds(alloc, shape, dual_shape, arena, table, limits.budget)?;
@@ -48,8 +49,8 @@ fn raise(
     Ok(is_progress(shape, arena, table))
 }
 
-/// Whether every progress table of one of the two games has the top at the vertex: the least one does. The games are those of
-/// some decisions.
+/// Whether every progress table of one of the two games has the top at the vertex: the least one has it. The games are
+/// those of some decisions.
 pub(crate) fn is_top(
     alloc: Global,
     order: &Order,
@@ -95,7 +96,8 @@ fn is_known(known: &Partial, feature: u16, value: bool) -> bool
     }
 }
 
-// What the decisions make known; nothing where they have a conflict. It is asked where the game is not: of features alone.
+// The features that the decisions make known; nothing if they have a conflict. It serves questions of features alone,
+// without a game.
 pub(crate) fn closed(
     alloc: Global,
     order: &Order,
@@ -112,7 +114,8 @@ pub(crate) fn closed(
     }
 }
 
-/// What the decisions make of the order's game, from what the order's own make of it; nothing where they have a conflict.
+/// Returns the games that the decisions make of the order's game, made from the order's own games; nothing if they have
+/// a conflict.
 pub fn games_with(
     alloc: Global,
     order: &Order,
@@ -181,7 +184,7 @@ pub(crate) fn known_shown(
     }
 }
 
-/// The decisions and one more.
+/// Returns the decisions and one more.
 pub fn with_one(
     alloc: Global,
     decisions: &[Decision],

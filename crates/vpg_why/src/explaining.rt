@@ -1,4 +1,4 @@
-//! Explanations: some of a page's decisions that suffice, of which none can be left out.
+//! Explanations: some of a page's decisions that suffice, none of which can be left out.
 ghost use Rattle.std.specs.Prelude.{◌≡◌, ◌≢◌, ◌<◌, ◌≤◌, ◌+◌, length, IfOk, IfSome, IsNone, IsTrue};
 ghost use Rattle.vpg_partial.specs.TableLaws.{AreChoicesOf};
 ghost use Rattle.vpg_why.specs.Explained.{choices, front_with, IsLast, Explains};
@@ -18,7 +18,7 @@ pub struct Explanation {
     pub exact: bool,
 }
 
-// The first decisions, and others behind them.
+// The first decisions, and others after them.
 fn joined(
     alloc: Global,
     decisions: &[Decision],
@@ -33,7 +33,7 @@ fn joined(
     Ok(joined)
 }
 
-// Whether the first decisions and others behind them suffice.
+// Whether the first decisions and others after them suffice.
 fn front_suffices(
     alloc: Global,
     order: &Order,
@@ -63,12 +63,12 @@ struct Last {
     exact: bool,
 }
 
-// Whether a decision is among those hinted at.
+// Whether a decision is among those in the hint.
 fn is_hinted(hint: &[Decision], decision: Decision) -> bool {
     hint.iter().any(|d| d.feature == decision.feature)
 }
 
-// A place between two others: behind the last decision hinted at, or before it, or in the middle.
+// A place between two others: after the last decision in the hint, or before it, or in the middle.
 fn between(decisions: &[Decision], hint: &[Decision], low: usize, high: usize) -> usize
     requires apart { low + 1 < high }
     requires within { high ≤ length decisions.now }
@@ -87,7 +87,7 @@ fn between(decisions: &[Decision], hint: &[Decision], low: usize, high: usize) -
     low + (high - low) / 2
 }
 
-// Of the first decisions, of which some are needed beside the kept ones, the last that is.
+// The last of the first decisions that is needed beside the kept ones; some of them are needed.
 fn halve(
     alloc: Global,
     order: &Order,
@@ -166,7 +166,8 @@ fn last_needed(
     Ok(Some(last))
 }
 
-// As `explain`, where it is tried first whether the last of the decisions hinted at are the last that are needed.
+// The explanation of `explain`. It is tried first whether the last of the decisions in the hint are the last that are
+// needed.
 pub(crate) fn explain_by(
     alloc: Global,
     order: &Order,
@@ -181,7 +182,7 @@ pub(crate) fn explain_by(
     ensures explains { IfOk result (λ found. Explains (Suffice order.now.game order.now.diagram question) decisions.now found.decisions.items found.exact) }
     ensures settled { IfOk result (λ found. IsSettled order.now.game order.now.diagram limits question → IsTrue found.exact) }
 {
-    // What every order keeps, for the proof.
+    // Properties of every order, for the proof.
     let _order = order.game();
     let mut kept = Vec::new(alloc);
     let mut exact = true;
@@ -203,12 +204,12 @@ pub(crate) fn explain_by(
     })
 }
 
-/// Some of the decisions, which suffice, that suffice alone. None of them can be left out, where that is told: then no list of
-/// them that lacks one suffices.
+/// Returns some of the decisions, which suffice, that suffice alone. None of them can be left out, if the answer says
+/// so: then no list of them that lacks one suffices.
 ///
-/// It is the explanation whose last decision comes earliest on the page, and before it the next, and so on, as far as no trial met
-/// a limit. It takes about the logarithm of the page's decisions in trials for each decision that it lists.
-/// The one error is want of memory.
+/// It is the explanation with the earliest last decision on the page, and before that the earliest next to last, and so
+/// on. This holds as far as no trial met a limit. It takes about the logarithm of the page's decisions in trials for
+/// each decision that it lists. The only error is a lack of memory.
 pub fn explain(
     alloc: Global,
     order: &Order,

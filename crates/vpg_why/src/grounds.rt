@@ -1,4 +1,4 @@
-//! A guess at a reason: which decisions may alone leave nothing to be found. The search tries it before it trusts it.
+//! A guess at a reason: decisions that may alone leave nothing to be found. The search tries it before it trusts it.
 ghost use Rattle.std.specs.Prelude.{◌≡◌, ◌<◌, ◌≤◌, Bool, List, length, IfOk};
 ghost use Rattle.vpg_guards.specs.Formula.{IsBelow};
 ghost use Rattle.vpg_measure.specs.Games.{ArePageGames};
@@ -20,7 +20,7 @@ use vpg_measure::{Order, PageGames};
 use vpg_partial::{Decision, Partial};
 use vpg_verdict::Which;
 
-/// The decisions that are marked.
+/// Returns the decisions that are marked.
 pub(crate) fn kept_by(
     alloc: Global,
     decisions: &[Decision],
@@ -46,14 +46,14 @@ fn opponent(which: Which) -> Which {
     }
 }
 
-// What is known of an edge.
+// The known value of an edge's guard.
 fn value_of(edge: &Edge, known: &[Tri]) -> Tri
     requires { IsBelow (length known.now) edge.now.guard }
 {
     edge.guard.kleene(known)
 }
 
-// Adds the features on which the moves at a vertex rest: of the chosen move those that make it be there, else those of
+// Adds the features that the moves at a vertex rest on: those that make the chosen move be there, otherwise those of
 // each edge that is not there.
 fn push_used(
     game: &GuardedGame,
@@ -100,7 +100,7 @@ fn mark_each(used: &mut [bool], features: &[u16]) {
     }
 }
 
-// Marks the features on which it rests that the moves win from the vertex.
+// Marks the features that the win of these moves from the vertex rests on.
 fn features_used(
     alloc: Global,
     game: &GuardedGame,
@@ -127,7 +127,7 @@ fn features_used(
     Ok(used)
 }
 
-// The features on which it rests that nobody meets the aim under these games; nothing where a limit was met.
+// The features on which it rests that no product meets the aim under these games; nothing if a limit was met.
 fn used_under(
     alloc: Global,
     order: &Order,
@@ -159,14 +159,14 @@ fn used_under(
     Ok(Some(used))
 }
 
-// What is to be shown of some decisions: a conflict, or a feature known as it is.
+// A goal for some decisions: a conflict, or a feature known as it is.
 #[derive(Clone, Copy)]
 enum Goal {
     Conflict,
     Known { feature: usize, value: Tri },
 }
 
-// The decisions among the first so many, and those marked behind them.
+// A number of first decisions, and the marked ones after them.
 fn with_first(
     alloc: Global,
     decisions: &[Decision],
@@ -184,7 +184,7 @@ fn with_first(
     kept_by(alloc, decisions, &more)
 }
 
-// Whether the first decisions, and those marked behind them, show it. A conflict shows everything.
+// Whether the first decisions, and those marked after them, show it. A conflict shows everything.
 fn is_shown(
     alloc: Global,
     order: &Order,
@@ -206,7 +206,7 @@ fn is_shown(
     }
 }
 
-// A number of first decisions with which it is shown, found by halving: of all of them it is.
+// A number of first decisions that show it, found by halving: all of them do.
 fn fewest(
     alloc: Global,
     order: &Order,
@@ -233,7 +233,7 @@ fn fewest(
     Ok(most)
 }
 
-// The first feature that is marked and known otherwise.
+// The first marked feature that is known otherwise.
 fn differing(known: &Partial, now: &Partial, used: &[bool]) -> Option<Goal> {
     for (feature, value) in known.values().iter().enumerate() {
         if used.get(feature) == Some(&true)
@@ -249,8 +249,8 @@ fn differing(known: &Partial, now: &Partial, used: &[bool]) -> Option<Goal> {
     None
 }
 
-// What the marked decisions do not show yet: that marked features are known as they are, or, where there are none, a
-// conflict.
+// The goal that the marked decisions do not show yet: that marked features are known as they are, or, if there are
+// none, a conflict.
 fn unshown(
     alloc: Global,
     order: &Order,
@@ -269,7 +269,7 @@ fn unshown(
     }
 }
 
-// Marks further decisions until those that are marked show all that is wanted.
+// Marks further decisions until the marked ones show all that is wanted.
 fn mark_until_shown(
     alloc: Global,
     order: &Order,
@@ -294,7 +294,7 @@ fn mark_until_shown(
     Ok(marks)
 }
 
-// A mark for each decision on a feature that is marked.
+// A mark for each decision on a marked feature.
 fn decided(alloc: Global, decisions: &[Decision], used: &[bool]) -> Result<Vec<bool>, AllocError>
     ensures { IfOk result (λ marks. length marks.items ≡ length decisions.now) }
 {
@@ -305,10 +305,10 @@ fn decided(alloc: Global, decisions: &[Decision], used: &[bool]) -> Result<Vec<b
     Ok(marks)
 }
 
-/// A guess at which of the decisions alone leave nothing to be found: a mark for each.
+/// Returns a guess at the decisions that alone leave nothing to be found: a mark for each.
 ///
-/// If they contradict the diagram, it is decisions that do so alone. Else it is those that make known what the winner's
-/// moves rest on: that these edges are there, and that the loser lacks others.
+/// If the decisions contradict the diagram, these are some that do so alone. Otherwise they are those that the winner's
+/// moves rest on: they make known that these edges are there, and that the loser lacks others.
 pub(crate) fn grounds(
     alloc: Global,
     order: &Order,

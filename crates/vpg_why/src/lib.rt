@@ -1,31 +1,32 @@
 //! Answers about a page: why a verdict is so, what else could be decided, a product that is won, and moves that win in
 //! every product that is left.
 //!
-//! Each answer is made from an `Order` (game, diagram, decisions and tables of a page) and changes nothing. A `Question`
-//! asks of a list of decisions whether they *alone* make it so: a vertex hopeless or sure, lost in every product, a
-//! feature known, or one more decision contradictory. What some decisions make so, more do. So `explain` can look for
-//! few: it lists decisions that suffice, of which none can be left out. There is one such list that prefers older
+//! Each answer is made from an `Order` (game, diagram, decisions and tables of a page) and changes nothing. A
+//! `Question` is whether a list of decisions *alone* makes it so: a vertex hopeless or sure, lost in every product, a
+//! feature known, or one more decision contradictory. If some decisions make it so, more do. So `explain` can look for
+//! few: it lists decisions that suffice, none of which can be left out. There is one such list that prefers older
 //! decisions, so the answer is a function of the page. Each trial goes over from the order's games to those of its
-//! decisions; what is asked of features alone makes no games.
+//! decisions; questions of features alone make no games.
 //!
 //! In every product that is left Odd wins from a hopeless vertex, and Even from a sure one. `winning_moves` finds moves
-//! that serve in all of them at once: those by which the player wins the cautious game (`vpg_hope`), where the player
-//! has the edges that are there in each product, and the opponent all that are there in some. There always are such
-//! moves, since parity games are determined (`vpg_determined`). The table of that game is raised by certified bounds and, where these do not settle it, by
-//! rounds of lifts. Of the moves those are given that a play from the vertex can come to, by a search along them and all
-//! edges of the opponent. `reachable` tells which vertices can be reached over edges that may be there, by such moves or
-//! by any.
+//! that serve in all of them at once: those by which the player wins the cautious game (`vpg_hope`). There the player
+//! has the edges that are there in each product, and the opponent all that are there in some. Such moves always exist,
+//! since parity games are determined (`vpg_determined`). The table of that game is raised by certified bounds and, if
+//! these do not settle it, by rounds of lifts. The answer has the moves that a play from the vertex can come to, by a
+//! search along them and all edges of the opponent. `reachable` returns the vertices that can be reached over edges
+//! that may be there, by such moves or by any.
 //!
 //! The layer above uses `why`, `why_lost`, `why_known`, `why_conflict` (explanations), `find` (an example or a
-//! counterexample, or that there is none), `needs` (what all that are won have), `look_ahead`, `look_back`,
-//! `stays_without` (what one more decision, or one fewer, would do), `repair` (what to retract) and `winning_moves`.
-//! `Which::Hopeful` asks for Even, `Which::Dual` for Odd. Every answer has `Limits` of work, and says where it met one:
-//! it is then unsettled, never wrong.
+//! counterexample, or that there is none) and `needs` (the features that all won products share). It uses `look_ahead`,
+//! `look_back`, `stays_without` (the verdicts after one more decision, or one fewer), `repair` (what to retract) and
+//! `winning_moves`. `Which::Hopeful` asks for Even, `Which::Dual` for Odd. Every answer has `Limits` of work, and says
+//! if it met one: it is then unsettled, never wrong.
 //!
-//! Definitions: `specs/Suffices` (what decisions alone make so), `specs/Explained` (explanations), `specs/Products` (what
-//! holds in the products that decisions leave), `specs/Found`, `specs/Offered`, `specs/Repaired` (what the answers say),
-//! `specs/Moves`, `specs/Played` and `specs/Reachable` (moves that win, and what they come to), `specs/Searched` for the
-//! search of vertices, `specs/Reasons` (why a search finds nothing). What holds of them stands in `laws`.
+//! Definitions: `specs/Suffices` (what decisions alone make so); `specs/Explained` (explanations); `specs/Products`
+//! (the products that decisions leave); `specs/Found`, `specs/Offered`, `specs/Repaired` (the meaning of the answers);
+//! `specs/Moves`, `specs/Played` and `specs/Reachable` (moves that win, and the vertices that they come to);
+//! `specs/Searched` for the search of vertices; `specs/Reasons` (why a search finds nothing). Their laws stand in
+//! `laws`.
 #![tactic(auto)]
 
 mod answering;

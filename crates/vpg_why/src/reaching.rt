@@ -1,4 +1,4 @@
-//! Which of a player's moves a play can come to.
+//! The moves of a player that a play can come to.
 ghost use Rattle.std.specs.Prelude.{◌≡◌, ◌↔◌, ◌<◌, [], ◌∷◌, Some, IfOk, IsTrue, OnOk, length, slice_index_or, true, false};
 ghost use Rattle.vpg_hope.specs.Games.{owner_of};
 ghost use Rattle.vpg_hope.specs.Strategies.{AllowsMove};
@@ -102,7 +102,7 @@ pub(crate) fn reached(
     Ok(marks)
 }
 
-// The move at a vertex, where it is Even's and a play can come to it.
+// The move at a vertex, if it is Even's and a play can come to it.
 fn move_at(arena: &Arena, moves: &[Option<u32>], is_reached: bool, v: u32) -> Option<u32>
     requires vertex { v < length arena.now }
     requires moves { length moves.now ≡ length arena.now }
@@ -114,7 +114,7 @@ fn move_at(arena: &Arena, moves: &[Option<u32>], is_reached: bool, v: u32) -> Op
     }
 }
 
-// Of Even's moves those that a play from the first vertex can come to, where Odd moves along any edge.
+// Of Even's moves, those that a play from the first vertex can come to, if Odd moves along any edge.
 pub(crate) fn played(
     alloc: Global,
     arena: &Arena,

@@ -1,4 +1,4 @@
-//! What to retract so that a verdict no longer holds.
+//! The decisions to retract so that a verdict no longer holds.
 ghost use Rattle.std.specs.Prelude.{◌≡◌, ◌↔◌, ◌<◌, ◌++◌, ◌∷◌, [], length, IfOk, IsTrue};
 ghost use Rattle.vpg_partial.specs.TableLaws.{AreChoicesOf};
 ghost use Rattle.vpg_why.specs.Explained.{choices};
@@ -21,10 +21,11 @@ pub struct Retraction {
     pub exact: bool,
 }
 
-/// What to retract so that a verdict no longer holds.
+/// A remedy for a verdict: decisions to retract so that it no longer holds.
 #[derive(Drop)]
 pub enum Remedy {
-    /// Once these are retracted, the vertex is not hopeless any more, for the first table; or not sure, for the second.
+    /// Once these are retracted, the vertex is not hopeless any more (for the hopeful table), or not sure (for the dual
+    /// one).
     Retract(Retraction),
     /// It is hopeless, or sure, whatever is retracted.
     Nothing,
@@ -55,7 +56,7 @@ fn is_yes(shown: Shown) -> bool
     }
 }
 
-// Which decisions to give up, the oldest first to be kept.
+// The decisions to give up, if the oldest are kept first.
 fn give_up(
     alloc: Global,
     order: &Order,
@@ -89,9 +90,9 @@ fn give_up(
     })
 }
 
-/// Which decisions to retract so that the vertex is not hopeless any more, for the first table, or not sure, for the second: as few
-/// as can be where the oldest decisions are to stay. It goes through the page from its first decision, and keeps each that leaves the
-/// verdict open.
+/// Returns the decisions to retract so that the vertex is not hopeless any more (for the hopeful table), or not sure
+/// (for the dual one). They are as few as possible if the oldest decisions are to stay. The call goes through the page
+/// from its first decision, and keeps each that leaves the verdict open.
 pub fn repair(
     alloc: Global,
     order: &Order,

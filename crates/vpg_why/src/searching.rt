@@ -23,12 +23,12 @@ use vpg_measure::{Order, PageGames};
 use vpg_partial::{Decision, Partial};
 use vpg_verdict::Which;
 
-/// What some decisions say of an aim.
+/// The outlook of some decisions on an aim.
 #[derive(Drop)]
 pub enum Outlook {
     /// No product that is left meets it.
     Lost,
-    /// They leave this product alone, and it does.
+    /// They leave only this product, and it meets the aim.
     Met(Vec<bool>),
     /// The feature is the first that is not known.
     Open { feature: u16 },
@@ -41,12 +41,12 @@ pub enum Outlook {
 pub struct Example {
     /// For each feature whether the product has it.
     pub features: Vec<bool>,
-    /// Whether it was shown to be the first: of the products that are left and meet the aim, none comes before it in
-    /// the order of the features, where a product with a feature comes before one without.
+    /// Whether it was shown to be the first: of the products that are left and meet the aim, none comes before it. In
+    /// this order, that of the features, a product with a feature comes before one without.
     pub first: bool,
 }
 
-/// What a search found.
+/// The result of a search.
 #[derive(Drop)]
 pub enum Found {
     /// A product that is left and meets the aim.
@@ -73,8 +73,7 @@ fn open_feature(known: &Partial, features: u16) -> Option<u16>
     None
 }
 
-// What the decisions say of an aim, where this was shown of the verdict under what they make known: that it bars the
-// aim, or not.
+// The outlook of the decisions on an aim, if it was shown under what they make known whether the verdict bars the aim.
 fn outlook_under(
     alloc: Global,
     order: &Order,
@@ -106,7 +105,7 @@ fn outlook_under(
     Ok(Outlook::Unsettled)
 }
 
-// For any product: the features alone are looked at.
+// The outlook for any product: only the features are looked at.
 fn look_at_features(
     alloc: Global,
     order: &Order,
@@ -116,7 +115,7 @@ fn look_at_features(
     ensures outlook { IfOk result (IsOutlook order.now.game order.now.diagram Aim.Any (choices decisions.now)) }
     ensures exact { IfOk result IsOutlookExact }
 {
-    // What every order keeps, for the proof.
+    // Properties of every order, for the proof.
     let _order = order.game();
     match closed(alloc, order, decisions)? {
         Some(known) => {
@@ -127,8 +126,8 @@ fn look_at_features(
     }
 }
 
-/// What some decisions say of a product that is won, under their games: for the first table of one in which Even wins
-/// from the vertex, for the second of one in which Odd does.
+/// Returns the outlook of some decisions on a product that is won, under their games. For the hopeful table it is one
+/// in which Even wins from the vertex, for the dual one a product in which Odd does.
 pub fn look_at_games(
     alloc: Global,
     order: &Order,
@@ -146,7 +145,7 @@ pub fn look_at_games(
     ensures settled { IfOk result
         (λ outlook. AlwaysSettles limits.rounds order.now.game order.now.diagram which → IsOutlookExact outlook) }
 {
-    // What every order keeps, for the proof.
+    // Properties of every order, for the proof.
     let _order = order.game();
     let shown = is_top(alloc, order, games, which, vertex, limits)?;
     let aim = Aim::Won { which, vertex };
@@ -154,7 +153,7 @@ pub fn look_at_games(
     Ok(found)
 }
 
-// For one that is won.
+// The outlook for a product that is won.
 fn look_at_game(
     alloc: Global,
     order: &Order,
@@ -170,7 +169,7 @@ fn look_at_game(
     ensures settled { IfOk result
         (λ outlook. AlwaysSettles limits.rounds order.now.game order.now.diagram which → IsOutlookExact outlook) }
 {
-    // What every order keeps, for the proof.
+    // Properties of every order, for the proof.
     let _order = order.game();
     match games_with(alloc, order, decisions)? {
         Some(games) => look_at_games(alloc, order, &games, which, vertex, decisions, limits),
@@ -197,7 +196,7 @@ pub(crate) fn look(
     }
 }
 
-/// What a search found, with a reason where it is nothing.
+/// The result of a search, with a reason if it is nothing.
 #[derive(Drop)]
 pub enum Reasoned {
     /// A product that is left and meets the aim.
@@ -208,7 +207,7 @@ pub enum Reasoned {
     Unsettled,
 }
 
-/// Marks, and the one that stood last.
+/// Marks, and the last one apart.
 #[derive(Drop)]
 pub(crate) struct Front {
     pub(crate) marks: Vec<bool>,
@@ -227,7 +226,7 @@ fn without_last(marks: Vec<bool>) -> Front
     }
 }
 
-// What is marked in either list.
+// The marks of either list.
 fn either(alloc: Global, one: &[bool], other: &[bool]) -> Result<Vec<bool>, AllocError>
     requires { length one.now ≡ length other.now }
     ensures { IfOk result (λ marks. marks.items ≡ either_of one.now other.now) }
@@ -239,8 +238,8 @@ fn either(alloc: Global, one: &[bool], other: &[bool]) -> Result<Vec<bool>, Allo
     Ok(marks)
 }
 
-// What both halves of a split leave. The first has a reason, which names the feature, or met a limit; of the other this
-// was found, with a last mark for the feature.
+// The result of both halves of a split. The first has a reason, which names the feature, or met a limit. The result of
+// the second has a last mark for the feature.
 fn both(
     alloc: Global,
     count: usize,
@@ -280,7 +279,7 @@ fn both(
     }
 }
 
-// Which of some decisions that leave nothing do so alone: the guess, where it holds, or else all of them.
+// Some of the decisions that leave nothing, which do so alone: the guess, if it holds, or otherwise all of them.
 fn reason(
     alloc: Global,
     order: &Order,
@@ -302,8 +301,8 @@ fn reason(
     }
 }
 
-// As `search`, with a reason if there is nothing. Where the reason of a split's first half does not name the feature,
-// the second half is left out: no product in it meets the aim either.
+// The search of `search`, with a reason if there is nothing. If the reason of a split's first half does not name the
+// feature, the second half is left out: no product in it meets the aim either.
 pub(crate) fn search_with_reasons(
     alloc: Global,
     order: &Order,
@@ -357,8 +356,8 @@ pub(crate) fn search_with_reasons(
     Ok(found)
 }
 
-/// As `find`, among the products that agree with the decisions: one split lies within another at most so deep, and each
-/// look takes one of the trials. Where these are used up it gives up.
+/// Searches as `find` does, among the products that agree with the decisions. Splits nest at most this deep, and each
+/// look takes one of the trials. If these are used up, the search gives up.
 pub fn search(
     alloc: Global,
     order: &Order,
@@ -383,7 +382,7 @@ pub fn search(
     }
 }
 
-/// As `find`, among the products that agree with the decisions in place of the order's own.
+/// Searches as `find` does, among the products that agree with the decisions in place of the order's own.
 pub fn search_all(
     alloc: Global,
     order: &Order,
@@ -403,12 +402,12 @@ pub fn search_all(
     Ok(found)
 }
 
-/// A product that is left and meets the aim: for the first table one in which Even wins from the vertex, for the second
-/// one in which Odd does, or just any. Or nothing, where there is none, however cautious the page's verdict is.
+/// Returns a product that is left and meets the aim. For the hopeful table Even wins from the vertex in it, for the
+/// dual one Odd does; or it is just any. Returns nothing if there is none, however cautious the page's verdict is.
 ///
-/// It splits over one feature that is not known after another, and leaves out what the verdicts of the page and of each
+/// The search splits over one unknown feature after another, and leaves out what the verdicts of the page and of each
 /// trial cut off. If the first half of a split is lost for a reason that does not name the feature, it leaves out the
-/// other half too. After so many trials it gives up.
+/// other half too. After this many trials it gives up.
 pub fn find(alloc: Global, order: &Order, aim: Aim, limits: Limits) -> Result<Found, AllocError>
     requires { IsAim order.now.game aim }
     ensures found { IfOk result (IsFound order.now.game order.now.diagram aim (choices order.now.decisions)) }

@@ -1,4 +1,4 @@
-//! A search for any product that meets an aim, as unlike another product as can be.
+//! A search for any product that meets an aim, as unlike another product as possible.
 ghost use Rattle.std.specs.Prelude.{◌≡◌, ◌≢◌, ◌≤◌, ◌+◌, false, slice_index_or, IfOk};
 ghost use Rattle.vpg_partial.specs.TableLaws.{AreChoicesOf};
 ghost use Rattle.vpg_why.specs.Explained.{choices};
@@ -22,7 +22,8 @@ pub(crate) fn has(product: &[bool], feature: u16) -> bool
     }
 }
 
-// As `search`, for any product: it tries first to have each feature otherwise than a product that is to be avoided.
+// The search of `search`, for any product. It first tries for each feature the value that a product to be avoided does
+// not have.
 fn seek(
     alloc: Global,
     order: &Order,

@@ -1,4 +1,4 @@
-//! The least progress table of an arena, and what it gives.
+//! The least progress table of an arena, and its moves.
 ghost use Rattle.std.specs.Prelude.{◌≡◌, ◌↔◌, ◌<◌, ℕ, List, length, replicate, slice_index, IfOk, IfSome, IsNone, IsTrue};
 ghost use Rattle.vpg_game.specs.Levels.{top_of};
 ghost use Rattle.vpg_hope.specs.Strategies.{Wins};
@@ -13,7 +13,7 @@ use vpg_guess::raise_by_bounds;
 use vpg_hope::Arena;
 use vpg_measure::{Shape, StrategyFault, Table, is_progress, settle_alone, strategy};
 
-// Raises a table by certified bounds and, where these do not settle it, by rounds of lifts; says whether it is a
+// Raises a table by certified bounds and, if these do not settle it, by rounds of lifts. Returns whether it is a
 // progress table then.
 fn raise(
     alloc: Global,
@@ -28,7 +28,7 @@ fn raise(
     ensures table { IsTableOf shape.now arena.now table.new }
     ensures below { (other : List ℕ) → IsTableOf shape.now arena.now other → IsProgressTable shape.now arena.now other →
         IsBelowTable table.old other → IsBelowTable table.new other }
-    // It is one where so many rounds alone leave one.
+    // It is one if this many rounds alone leave one.
     ensures rounds { IfOk result (λ settled.
         IsProgressTable shape.now arena.now (after_rounds shape.now arena.now limits.rounds table.old) →
         IsTrue settled) }
@@ -41,7 +41,7 @@ fn raise(
     Ok(is_progress(shape, arena, table))
 }
 
-// The least progress table of an arena, where the limits leave room for it. The other shape is that of its dual.
+// The least progress table of an arena, if the limits leave room for it. The other shape is that of its dual.
 pub(crate) fn least_table(
     alloc: Global,
     shape: &Shape,
@@ -58,7 +58,7 @@ pub(crate) fn least_table(
     if settled { Ok(Some(table)) } else { Ok(None) }
 }
 
-// The moves of Even that the least progress table gives; nothing where the vertex is at the top there.
+// The moves of Even by the least progress table; nothing if the vertex is at the top there.
 pub(crate) fn moves_by(
     alloc: Global,
     shape: &Shape,

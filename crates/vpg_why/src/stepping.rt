@@ -1,4 +1,4 @@
-//! What can be reached over edges that may be there.
+//! Vertices that can be reached over edges that may be there.
 ghost use Rattle.std.specs.Prelude.{◌≡◌, ◌≢◌, ◌↔◌, ◌<◌, ℕ, None, Some, IfOk, IsTrue, OnOk, length, slice_index_or, true, false};
 ghost use Rattle.vpg_guards.specs.Formula.{IsBelow};
 ghost use Rattle.vpg_guards.specs.Known.{kleene};
@@ -23,7 +23,7 @@ fn is_mover(mover: Option<Player>, owner: Player) -> bool
     }
 }
 
-// The move of a vertex; none where the list has none.
+// The move of a vertex; none if the list has none.
 fn move_of(moves: &[Option<u32>], v: u32) -> Option<u32>
     ensures { result ≡ slice_index_or moves.now v None }
 {
@@ -43,7 +43,7 @@ fn leads_to(listed: Option<u32>, w: u32) -> bool
     }
 }
 
-// Whether an edge may be taken: it may be there, and leads to the listed vertex where moves are listed.
+// Whether an edge may be taken: it may be there, and leads to the listed vertex if moves are listed.
 fn may_take(known: &[Tri], is_listed: bool, listed: Option<u32>, edge: &Edge) -> bool
     requires { IsBelow (length known.now) edge.now.guard }
     ensures { IsTrue result ↔ ((kleene known.now edge.now.guard ≢ Tri.No)
@@ -108,12 +108,12 @@ fn search(
     Ok(())
 }
 
-/// Marks the vertices that can be reached from the first one under what is known: over each edge that may be there, but
-/// where moves of a player are listed, from that player's vertices by these alone. A vertex past the end of the list
-/// has no move.
+/// Marks the vertices that can be reached from the first one under what is known, over each edge that may be there. If
+/// moves of a player are listed, only these lead on from that player's vertices. A vertex past the end of the list has
+/// no move.
 ///
-/// With the moves of `winning_moves` these are the vertices that a play by them can come to. The one error is want of
-/// memory.
+/// With the moves of `winning_moves` these are the vertices that a play by them can come to. The only error is a lack
+/// of memory.
 pub fn reachable(
     alloc: Global,
     game: &GuardedGame,

@@ -18,8 +18,8 @@ use vpg_measure::Order;
 use vpg_partial::Decision;
 use vpg_verdict::Which;
 
-/// Which of the page's decisions make the vertex hopeless, by the first table, or sure, by the second: nothing where the page's
-/// table has it not so.
+/// Returns the decisions of the page that make the vertex hopeless, by the hopeful table, or sure, by the dual one.
+/// Returns nothing if the page's table does not have it so.
 pub fn why(
     alloc: Global,
     order: &Order,
@@ -43,7 +43,7 @@ pub fn why(
     Ok(Some(found))
 }
 
-/// Why no product meets an aim: which decisions make it so, or a product that does.
+/// Why no product meets an aim: the decisions that make it so, or a product that does.
 #[derive(Drop)]
 pub enum WhyLost {
     /// No product that agrees with these decisions alone meets the aim.
@@ -73,8 +73,9 @@ fn hint_for(
     }
 }
 
-/// Which of the page's decisions leave no product that meets the aim, in which Even wins from the vertex, for the first table, or
-/// Odd, for the second: whatever the cautious verdict of the page is. With `Aim::Any`: which decisions leave no product at all.
+/// Returns the decisions of the page that leave no product that meets the aim, whatever the cautious verdict of the
+/// page is. In such a product Even wins from the vertex, for the hopeful table, or Odd, for the dual one. With
+/// `Aim::Any` they are the decisions that leave no product at all.
 pub fn why_lost(
     alloc: Global,
     order: &Order,
@@ -102,7 +103,7 @@ pub fn why_lost(
     Ok(WhyLost::Because(found))
 }
 
-// An explanation, where the page's decisions make it so: for questions that are always answered.
+// An explanation, if the page's decisions make it so: for questions that are always answered.
 fn why_so(
     alloc: Global,
     order: &Order,
@@ -128,7 +129,8 @@ fn why_so(
     Ok(Some(found))
 }
 
-/// Which of the page's decisions make the feature known to be in, or out: nothing where they don't. The explanation is exact.
+/// Returns the decisions of the page that make the feature known to be in, or out; nothing if they do not. The
+/// explanation is exact.
 pub fn why_known(
     alloc: Global,
     order: &Order,
@@ -145,8 +147,8 @@ pub fn why_known(
     Ok(found)
 }
 
-/// Which of the page's decisions contradict one more, that the feature is in, or out: nothing where they don't. The explanation is
-/// exact.
+/// Returns the decisions of the page that contradict one more, that the feature is in, or out; nothing if they do not.
+/// The explanation is exact.
 pub fn why_conflict(
     alloc: Global,
     order: &Order,

@@ -1,4 +1,4 @@
--- Who wins at a vertex in the products that choices leave. Products: Schobbens et al. 2007; winning: the standard of
+-- The winner at a vertex in the products that choices leave. Products: Schobbens et al. 2007; winning: the standard of
 -- parity games.
 use Rattle.std.specs.Prelude.{ℕ, ⊤, Bool, List, IsTrue}
 use Rattle.vpg_players.specs.declared.player.Player.{Player}
@@ -34,8 +34,8 @@ HasRemaining lines choices = (set : List Bool) × IsRemaining lines choices set
 abbrev pub NoneRemains : List Line → List Literal → Type 0
 NoneRemains lines choices = (set : List Bool) → IsRemaining lines choices set → ⊥
 
--- A product that agrees with the choices and that the player wins. It is the first one in the order of the features,
--- where that is shown.
+-- A product that agrees with the choices and that the player wins. It is the first one in the order of the features, if
+-- that is shown.
 pub record IsWonProduct (game : GuardedGame Formula) (lines : List Line) (choices : List Literal) (player : Player)
     (vertex : ℕ) (example : Example) : Type 0 where
   pub remaining : IsRemaining lines choices example.features.items
@@ -43,7 +43,7 @@ pub record IsWonProduct (game : GuardedGame Formula) (lines : List Line) (choice
   pub is_first : IsTrue example.first → (other : List Bool) → IsRemaining lines choices other →
       ComesBefore other example.features.items → WinsProduct game player vertex other → ⊥
 
--- who wins at the vertex in the products that agree with the choices
+-- the winners at the vertex in the products that agree with the choices
 abbrev pub IsDecidedAs : GuardedGame Formula → List Line → List Literal → ℕ → Decided → Type 0
 IsDecidedAs game lines choices vertex decides.Won = HasRemaining lines choices × WinsEach game lines choices Even vertex
 IsDecidedAs game lines choices vertex decides.Lost = HasRemaining lines choices × WinsEach game lines choices Odd vertex
@@ -60,7 +60,7 @@ IsDecidedExact (decides.Mixed won lost) = IsTrue won.first × IsTrue lost.first
 IsDecidedExact decides.Empty = ⊤
 IsDecidedExact decides.Unsettled = ⊥
 
--- what two searches say together: for a product that Even wins, and for one that Odd wins
+-- the joint result of two searches: for a product that Even wins, and for one that Odd wins
 abbrev pub decided_by : Found → Found → Decided
 decided_by (founds.Product won) (founds.Product lost) = decides.Mixed won lost
 decided_by (founds.Product won) founds.Nothing = decides.Won

@@ -1,5 +1,5 @@
--- How parts are joined. This project's own; that two conjunctions that differ in one sign are one without it is the
--- rule of Quine and McCluskey.
+-- The joining of parts. This project's own; the rule that two conjunctions that differ in one sign join into one
+-- without that literal is that of Quine and McCluskey.
 use Rattle.std.specs.Prelude.{◌≡◌, ℕ, ◌<◌, true, false, List, [], ◌∷◌, ◌++◌, length, map, slice_index_or}
 use Rattle.std.specs.List.{All, remove}
 use Rattle.vpg_diagram.specs.declared.clause.Literal.{Literal}
@@ -7,7 +7,7 @@ use Rattle.vpg_partial.specs.Known.{negation}
 use Rattle.vpg_why.specs.Suffices.{choice}
 use Rattle.vpg_winners.specs.declared.parts.Winner.{Winner}
 
--- who wins in each product of a part, and the literals that cut it out
+-- the winner in each product of a part, and the literals that cut it out
 pub record PartView : Type 0 where
   pub winner : Winner
   pub literals : List Literal
@@ -16,7 +16,7 @@ pub record PartView : Type 0 where
 abbrev pub whole_of : Winner → PartView
 whole_of winner = record { winner = winner; literals = [] }
 
--- the part with one literal more, which stands first
+-- the part with one literal more, at its front
 abbrev pub cut_by : Literal → PartView → PartView
 cut_by literal part = record { winner = part.winner; literals = literal ∷ part.literals }
 
@@ -33,7 +33,7 @@ pub record DiffersAt (one other : List Literal) (place : ℕ) : Type 0 where
   pub other_is : other ≡ front ++ negation literal ∷ back
   pub place_is : place ≡ length front
 
--- two parts of one winner whose literals differ in one sign alone
+-- two parts of one winner with literals that differ in one sign alone
 pub record JoinsAt (one other : PartView) (place : ℕ) : Type 0 where
   pub winner : one.winner ≡ other.winner
   pub literals : DiffersAt one.literals other.literals place
@@ -51,8 +51,8 @@ pub record IsFirstMate (parts : List PartView) (part : PartView) (place literal 
   pub joins : (d : PartView) → JoinsAt (slice_index_or parts place d) part literal
   pub before : (k : ℕ) (d : PartView) → k < place → CanJoin (slice_index_or parts k d) part → ⊥
 
--- A part is put to others: while one of these can be joined with it, the first such is taken out and joined with it;
--- then it stands last.
+-- A part is put to others. While one of these can be joined with it, the first such is taken out and joined with it;
+-- then it is put last.
 pub data IsPut : (parts : List PartView) (part : PartView) (new : List PartView) → Type 0 where
   alone : {parts : List PartView} {part : PartView} → HasNoMate parts part → IsPut parts part (parts ++ part ∷ [])
   joined : {parts new : List PartView} {part : PartView} (place literal : ℕ) → IsFirstMate parts part place literal →
@@ -64,8 +64,8 @@ pub data ArePut : (parts added new : List PartView) → Type 0 where
   next : {parts middle new : List PartView} {part : PartView} {rest : List PartView} → IsPut parts part middle →
       ArePut middle rest new → ArePut parts (part ∷ rest) new
 
--- Of the parts with a feature and those without it: where there are none of the one kind, those of the other are all,
--- and need no literal of the feature; else each takes its literal, and those without are put to those with it.
+-- The parts with a feature and those without it. If there are none of one kind, those of the other are all, and need no
+-- literal of the feature. Otherwise each takes its literal, and those without are put to those with it.
 abbrev pub AreHalves : ℕ → (with_it without parts : List PartView) → Type 0
 AreHalves feature [] without parts = parts ≡ without
 AreHalves feature (p ∷ ps) [] parts = parts ≡ p ∷ ps

@@ -1,4 +1,4 @@
--- What choices say of a vertex before any split. This project's own.
+-- The standing of a vertex under choices before any split. This project's own.
 use Rattle.std.specs.Prelude.{◌≢◌, ℕ, ⊤, List}
 use Rattle.vpg_diagram.specs.DiagramText.{NamedDiagram}
 use Rattle.vpg_diagram.specs.declared.clause.Literal.{Literal}
@@ -10,8 +10,8 @@ use Rattle.vpg_winners.specs.declared.standing.Standing.TheVariants as stands
 use Rattle.vpg_winners.specs.Decided.{HasRemaining, NoneRemains}
 use Rattle.vpg_winners.specs.Winners.{AreWonAs}
 
--- No product agrees with the choices; or one does, which is won so, or a limit was met; or each that does is won so,
--- whether there is one or not; or this is the first feature that is not known.
+-- No product agrees with the choices. Or one does, with this winner, or a limit was met. Or each that does has this
+-- winner, whether there is one or not. Or this is the first feature that is not known.
 abbrev pub IsStanding : NamedGame → NamedDiagram → ℕ → List Literal → Standing → Type 0
 IsStanding game diagram vertex choices stands.Empty = NoneRemains diagram.lines choices
 IsStanding game diagram vertex choices (stands.Only winner) =

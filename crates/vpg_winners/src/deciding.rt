@@ -1,4 +1,4 @@
-//! Who wins at a vertex in the products that are left.
+//! The winner at a vertex in the products that are left.
 ghost use Rattle.std.specs.Prelude.{◌≡◌, ◌<◌, length, IfOk};
 ghost use Rattle.vpg_game.specs.Game.{graph_of};
 ghost use Rattle.vpg_partial.specs.TableLaws.{AreChoicesOf};
@@ -12,14 +12,14 @@ use vpg_partial::Decision;
 use vpg_verdict::Which;
 use vpg_why::{Aim, Example, Found, Limits, Question, search_all};
 
-/// Who wins at a vertex in the products that are left.
+/// The winner at a vertex in the products that are left.
 #[derive(Drop)]
 pub enum Decided {
     /// Even wins in each, and there is one.
     Won,
     /// Odd wins in each, and there is one.
     Lost,
-    /// Even wins in the one product, and Odd in the other.
+    /// Even wins in one product, and Odd in another.
     Mixed { won: Example, lost: Example },
     /// No product is left.
     Empty,
@@ -27,7 +27,7 @@ pub enum Decided {
     Unsettled,
 }
 
-// What two searches say together: for a product that Even wins, and for one that Odd wins.
+// The joint result of two searches: for a product that Even wins, and for one that Odd wins.
 fn both(won: Found, lost: Found) -> Decided
     ensures { result ≡ decided_by won lost }
 {
@@ -46,11 +46,11 @@ fn both(won: Found, lost: Found) -> Decided
     }
 }
 
-/// Who wins at the vertex in the products that agree with the decisions. Where both players win some, it gives for each
-/// of them the first product, where no limit was met.
+/// Returns the winner at the vertex in the products that agree with the decisions. If both players win some, the answer
+/// has the first product of each, if no limit was met.
 ///
-/// It looks for a product that Even wins, and for one that Odd wins, each within the limits. The one error is want of
-/// memory.
+/// The call looks for a product that Even wins, and for one that Odd wins, each within the limits. The only error is a
+/// lack of memory.
 pub fn decide(
     alloc: Global,
     order: &Order,
@@ -67,7 +67,7 @@ pub fn decide(
         IsSettled order.now.game order.now.diagram limits (Question.Lost (Aim.Won Which.Dual vertex)) →
         IsDecidedExact decided) }
 {
-    // What every order keeps, for the proof.
+    // Properties of every order, for the proof.
     let _order = order.game();
     let aim = Aim::Won {
         which: Which::Hopeful,

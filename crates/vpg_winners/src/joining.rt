@@ -14,7 +14,7 @@ fn is_same(one: Literal, other: Literal) -> bool
     one.feature == other.feature && one.value == other.value
 }
 
-// How many literals at the front of both lists are the same.
+// The number of equal literals at the front of both lists.
 fn same_front(one: &[Literal], other: &[Literal]) -> usize
     ensures within { result ≤ length one.now }
     ensures within_other { result ≤ length other.now }
@@ -30,7 +30,7 @@ fn same_front(one: &[Literal], other: &[Literal]) -> usize
     one.len()
 }
 
-// The place of the one literal in whose sign two lists differ; nothing where they differ otherwise, or not at all.
+// The place of the only literal with a sign in which two lists differ; nothing if they differ otherwise, or not at all.
 fn differ_at(one: &[Literal], other: &[Literal]) -> Option<usize>
     ensures some { IfSome result (DiffersAt one.now other.now) }
     ensures none { IsNone result → (place : ℕ) → DiffersAt one.now other.now place → ⊥ }
@@ -52,7 +52,7 @@ fn differ_at(one: &[Literal], other: &[Literal]) -> Option<usize>
     Some(place)
 }
 
-// The place of the literal that is left out where two parts are joined; nothing where they cannot be.
+// The place of the literal that is left out if two parts are joined; nothing if they cannot be.
 fn joins_at(one: &Part, other: &Part) -> Option<usize>
     ensures some { IfSome result (JoinsAt (view_of one.now) (view_of other.now)) }
     ensures none { IsNone result → CanJoin (view_of one.now) (view_of other.now) → ⊥ }
@@ -83,7 +83,7 @@ fn mate_of(parts: &[Part], part: &Part) -> Option<Mate>
     None
 }
 
-// Puts a part to others: it is joined with the first of them that it can be joined with, then again, and stands last.
+// Puts a part to others: it is joined with the first of them that it can be joined with, then again, and is put last.
 fn put(parts: &mut Vec<Part>, part: Part) -> Result<(), AllocError>
     ensures { OnOk result (IsPut (views parts.old.items) (view_of part) (views parts.new.items)) }
 {
@@ -113,7 +113,7 @@ fn put_all(
     Ok(())
 }
 
-/// The parts of all, of those with a feature and those without it.
+/// Returns the parts of all, from those with a feature and those without it.
 pub(crate) fn halves(
     alloc: Global,
     feature: u16,

@@ -1,17 +1,17 @@
-//! Which products win: who wins at a vertex in the products that decisions leave, exactly.
+//! The exact winners at a vertex: which of the products that decisions leave are won.
 //!
-//! The verdicts of a page are cautious: a vertex may be possible where no product that is left is won. `decide` says
-//! who wins in fact: Even in each product that is left, Odd in each, or each of them in some, with an example of both.
-//! `winners` says which: it gives parts, cut out by literals, such that each product that is left is in exactly one,
-//! and the winner of a part wins in each of its products. That is the family-based answer to a variability parity game,
-//! all products at once, of a page.
+//! The verdicts of a page are cautious: a vertex may be possible though no product that is left is won. `decide`
+//! returns the exact winner: Even in each product that is left, Odd in each, or each of them in some, with an example
+//! of both. `winners` returns which products these are. Its parts, cut out by literals, have each product that is left
+//! in exactly one, and the winner of a part wins in each of its products. That is the family-based answer to a
+//! variability parity game, all products at once, for a page.
 //!
 //! Both are searches over features that are not known, cut off by the verdicts of each trial (`vpg_why`). Parity games
-//! are determined (`vpg_determined`): so a product in which Even has no strategy is won by Odd. What met a limit is
-//! told as unsettled, and never wrong.
+//! are determined (`vpg_determined`): so a product in which Even has no strategy is won by Odd. A search that met a
+//! limit is reported as unsettled, and never wrong.
 //!
-//! Definitions: `specs/Decided` (who wins in the products that are left), `specs/Winners` (the parts, and the rule by
-//! which they are made), `specs/Joined` (how parts are joined), `specs/Standing` for the search.
+//! Definitions: `specs/Decided` (the winners in the products that are left), `specs/Winners` (the parts, and the rule
+//! by which they are made), `specs/Joined` (how parts are joined), `specs/Standing` for the search.
 #![tactic(auto)]
 
 mod deciding;

@@ -1,4 +1,4 @@
-//! What decisions say of a vertex before any split.
+//! The standing of a vertex under decisions before any split.
 ghost use Rattle.std.specs.Prelude.{◌<◌, length, IfOk};
 ghost use Rattle.vpg_measure.specs.Games.{ArePageGames};
 ghost use Rattle.vpg_partial.specs.TableLaws.{AreChoicesOf};
@@ -13,20 +13,20 @@ use vpg_partial::Decision;
 use vpg_verdict::Which;
 use vpg_why::{Limits, Outlook, games_with, look_at_games};
 
-/// What decisions say of a vertex.
+/// The standing of a vertex under some decisions.
 #[derive(Clone, Copy)]
 pub(crate) enum Standing {
     /// No product is left.
     Empty,
-    /// They leave one product, and this is who wins it; or a limit was met.
+    /// They leave one product, with this winner; or a limit was met.
     Only(Winner),
-    /// This is who wins in each product that is left, whether there is one or not.
+    /// This is the winner in each product that is left, whether there is one or not.
     Each(Winner),
     /// The feature is the first that is not known.
     Open { feature: u16 },
 }
 
-// Under the games of the decisions: first whether Even may win, then whether Odd may.
+// The standing under the games of the decisions: first whether Even may win, then whether Odd may.
 fn look_under(
     alloc: Global,
     order: &Order,
@@ -43,7 +43,7 @@ fn look_under(
         AlwaysSettles limits.rounds order.now.game order.now.diagram Which.Hopeful →
         AlwaysSettles limits.rounds order.now.game order.now.diagram Which.Dual → IsStandingExact standing) }
 {
-    // What every order keeps, for the proof.
+    // Properties of every order, for the proof.
     let _order = order.game();
     match look_at_games(
         alloc,
@@ -66,7 +66,7 @@ fn look_under(
     }
 }
 
-/// What the decisions say of the vertex.
+/// Returns the standing of the vertex under the decisions.
 pub(crate) fn look(
     alloc: Global,
     order: &Order,
@@ -81,7 +81,7 @@ pub(crate) fn look(
         AlwaysSettles limits.rounds order.now.game order.now.diagram Which.Hopeful →
         AlwaysSettles limits.rounds order.now.game order.now.diagram Which.Dual → IsStandingExact standing) }
 {
-    // What every order keeps, for the proof.
+    // Properties of every order, for the proof.
     let _order = order.game();
     match games_with(alloc, order, decisions)? {
         Some(games) => look_under(alloc, order, &games, vertex, decisions, limits),

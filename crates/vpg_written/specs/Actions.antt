@@ -8,7 +8,7 @@ use Rattle.vpg_written.specs.Terms.{IsSetOf}
 use Rattle.vpg_written.specs.declared.sets.Actions.{Actions}
 use Rattle.vpg_written.specs.declared.sets.Actions.TheVariants as sets
 
--- the action formula is that of a mark whose operands have these sets
+-- the action formula is that of a mark with operands of these sets
 abbrev pub IsActionsOf : List (List ℕ) → Mark → List ActionFormula → ℕ → ℕ → ActionFormula → Type 0
 IsActionsOf names m actions first second x =
     (s t : Tree) → actions_at actions first ≡ actions_in names s → actions_at actions second ≡ actions_in names t →

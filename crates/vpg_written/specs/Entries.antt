@@ -1,4 +1,4 @@
--- The entries as the code keeps them. This project's own.
+-- The code's entries, as entries of the definitions. This project's own.
 use Rattle.std.specs.Prelude.{◌≡◌, ℕ, ◌<◌, List, [], ◌++◌, length, Bool, slice_index_or}
 use Rattle.vpg_requirement.specs.Actions.{ActionFormula}
 use Rattle.vpg_formula.specs.declared.requirement.Entry.{Entry}
@@ -11,7 +11,7 @@ pub record IsTermOf (names : List (List ℕ)) (actions : List ActionFormula) (e 
   pub name : term.name.now ≡ e.name
   pub pieces : AreStacked names actions (parsed [] e.formula.marks.items) term.pieces.items
 
--- The terms of so many entries, with more sets than before.
+-- The terms of this many entries, with more sets than before.
 pub record AreMade (names : List (List ℕ)) (actions : List ActionFormula) (entries : List Entry) (count : ℕ)
     (sets : List (List Bool)) (terms : List Term) : Type 0 where
   pub more : List ActionFormula

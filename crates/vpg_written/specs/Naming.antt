@@ -1,4 +1,4 @@
--- How the code looks names up. This project's own.
+-- The code's look-up of names. This project's own.
 use Rattle.std.specs.Prelude.{ℕ, zero, suc, List, [], Option, Some, None, Bool, false, bytes_eq, if◌then◌else◌, map, reverse, slice_index_or}
 use Rattle.vpg_written.specs.Trees.{Around}
 use Rattle.vpg_written.specs.declared.task.Binder.{Binder}
@@ -22,7 +22,7 @@ is_binder (binders.Named y) x = bytes_eq x y.now
 abbrev pub names_of : List Term → List (List ℕ)
 names_of terms = map (λ t. t.name.now) terms
 
--- the number of the latest entry of this name in front of one
+-- the number of the latest entry of this name before one
 abbrev pub latest_before : List (List ℕ) → ℕ → List ℕ → Option ℕ
 latest_before names zero x = None
 latest_before names (suc n) x =

@@ -1,4 +1,4 @@
--- The steps by which the code comes to how a form begins. This project's own.
+-- The steps by which the code finds how a form begins. This project's own.
 use Rattle.std.specs.Prelude.{◌≡◌, ℕ, ◌<◌, List, [], Bool, true, false, not}
 use Rattle.vpg_requirement.specs.NormalForms.{NormalForm}
 use Rattle.vpg_formula.specs.declared.mark.Mark.{Mark}
@@ -29,7 +29,7 @@ pub record IsSeries (g : Basis) (every : Bool) (t : Tree) (step : Step) (ps : Li
   pub step_is : IsStep g step f middle
   pub form : along g.names every t f ≡ along g.names every tree middle
 
--- what is left of a regular formula in front of a task whose form is known
+-- the rest of a regular formula in front of a task with a known form
 pub record IsAlong (g : Basis) (every : Bool) (ps : List Piece) (task : Task) (h : NormalForm) : Type 0 where
   pub tree : Tree
   pub term : IsTree g tree ps
@@ -55,7 +55,7 @@ pub record IsSame (g : Basis) (t : Tree) (sign : Bool) (ps : List Piece) (other 
   pub form : (earlier : Earlier) (around : Around) →
       tree_form g.names earlier sign around t ≡ tree_form g.names earlier other around tree
 
--- the same, and what is left is no negation
+-- the form of the tree under a sign is that of the tree of these pieces under another, and that tree is no negation
 pub record IsBare (g : Basis) (t : Tree) (sign : Bool) (ps : List Piece) (other : Bool) : Type 0 where
   pub same : IsSame g t sign ps other
   pub bare : is_negation same.tree ≡ false
@@ -66,7 +66,7 @@ is_opened marks.Not = false
 is_opened (marks.Named x) = false
 is_opened m = true
 
--- What is found of the form of these pieces.
+-- The result of a look at these pieces, for their form.
 abbrev pub IsFound : Basis → Bool → ℕ → List Binder → Found → NormalForm → Type 0
 IsFound g sign n bs (found.Opening o) f = IsOpening g o f
 IsFound g sign n bs (found.Entry m) f = f ≡ form_at g m sign [] (tree_at g.entries m)
@@ -74,7 +74,7 @@ IsFound g sign n bs (found.Parts it) f =
     (t : Tree) × ArePartsOf g.names g.actions t it × (is_opened it.piece.mark.now ≡ true) ×
     (f ≡ form_at g n sign (around_of bs) t)
 
--- the entry that is found is one of so many
+-- the entry that is found is one of this many
 abbrev pub IsEarlier : ℕ → Found → Type 0
 IsEarlier n (found.Entry m) = m < n
 IsEarlier n it = Unit {0}

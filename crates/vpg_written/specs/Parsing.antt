@@ -8,7 +8,7 @@ use Rattle.vpg_written.specs.Trees.{Tree, nothing, node}
 use Rattle.vpg_written.specs.Terms.{IsTerm, AreSets}
 use Rattle.vpg_written.specs.declared.piece.Piece.{Piece}
 
--- how many operands a mark has
+-- the number of operands of a mark
 abbrev pub arity : Mark → ℕ
 arity marks.OtherThan = 1
 arity marks.Repeated = 1
@@ -44,7 +44,7 @@ abbrev pub below_top : List Tree → List Tree
 below_top [] = []
 below_top (t ∷ ts) = ts
 
--- what a mark with so many operands takes: its first operand, its last one, and the trees below
+-- the operands of a mark with this many, and the rest: its first operand, its last one, and the trees below
 abbrev pub first_of : ℕ → List Tree → Tree
 first_of zero ts = nothing
 first_of (suc zero) ts = nothing
@@ -59,11 +59,11 @@ rest_of zero ts = ts
 rest_of (suc zero) ts = below_top ts
 rest_of (suc (suc n)) ts = below_top (below_top ts)
 
--- the mark with so many trees from the top as its operands
+-- the mark with this many trees from the top as its operands
 abbrev pub reduced : ℕ → Mark → List Tree → List Tree
 reduced n m ts = node m (first_of n ts) (last_of n ts) ∷ rest_of n ts
 
--- the trees that marks make behind these trees, the last one first
+-- the trees that marks make after these trees, the last one first
 abbrev pub parsed : List Tree → List Mark → List Tree
 parsed ts [] = ts
 parsed ts (m ∷ ms) = parsed (reduced (arity m) m ts) ms
@@ -73,21 +73,21 @@ abbrev pub IsNode : Tree → Type 0
 IsNode nothing = ⊥
 IsNode (node m s t) = Unit {0}
 
--- the pieces of trees one behind the other, the last one first
+-- the pieces of trees one after the other, the last one first
 abbrev pub AreStacked : List (List ℕ) → List ActionFormula → List Tree → List Piece → Type 0
 AreStacked names actions [] ps = ps ≡ []
 AreStacked names actions (t ∷ ts) ps =
     (us : List Piece) × (vs : List Piece) × (ps ≡ us ++ vs) × IsNode t × AreStacked names actions ts us ×
     IsTerm names actions t vs
 
--- the last term of these pieces, and what stands in front of it
+-- the last term of these pieces, and the pieces in front of it
 pub record IsLastTerm (names : List (List ℕ)) (actions : List ActionFormula) (ts : List Tree)
     (ps front last : List Piece) : Type 0 where
   pub whole : ps ≡ front ++ last
   pub below : AreStacked names actions (below_top ts) front
   pub top : IsTerm names actions (top_of ts) last
 
--- what stands in front of a mark with so many operands
+-- the pieces in front of a mark with this many operands
 pub record AreOperands (names : List (List ℕ)) (actions : List ActionFormula) (n : ℕ) (ts : List Tree)
     (ps first last : List Piece) : Type 0 where
   pub front : List Piece
@@ -96,7 +96,7 @@ pub record AreOperands (names : List (List ℕ)) (actions : List ActionFormula) 
   pub first_is : IsTerm names actions (first_of n ts) first
   pub last_is : IsTerm names actions (last_of n ts) last
 
--- One more piece behind the others, with more sets than before.
+-- One more piece after the others, with more sets than before.
 pub record IsMade (names : List (List ℕ)) (actions : List ActionFormula) (ts : List Tree) (sets : List (List Bool))
     (ps : List Piece) : Type 0 where
   pub more : List ActionFormula

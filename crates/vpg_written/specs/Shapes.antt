@@ -1,4 +1,4 @@
--- Normal forms by whether they speak of each step or of some: the two are one another's negation. This project's own.
+-- Normal forms for each step or for some step: the two are one another's negation. This project's own.
 use Rattle.std.specs.Prelude.{ℕ, suc, Bool, true, false, not}
 use Rattle.vpg_requirement.specs.Actions.{ActionFormula, every_action}
 use Rattle.vpg_requirement.specs.Fixpoints.{Kind, least, greatest}
@@ -15,7 +15,7 @@ abbrev pub joined_form : Bool → NormalForm → NormalForm → NormalForm
 joined_form true f g = both f g
 joined_form false f g = either f g
 
--- each step by such an action leads there, or some step does
+-- each step by such an action leads to such a state, or some step does
 abbrev pub step_form : Bool → ActionFormula → NormalForm → NormalForm
 step_form true x f = every_step x f
 step_form false x f = some_step x f
@@ -24,7 +24,7 @@ abbrev pub kind_for : Bool → Kind
 kind_for true = greatest
 kind_for false = least
 
--- the normal form where one more fixpoint comes to stand outside so many others (de Bruijn 1972)
+-- the normal form with one more fixpoint outside this many others (de Bruijn 1972)
 abbrev pub shift_form : ℕ → NormalForm → NormalForm
 shift_form k met = met
 shift_form k unmet = unmet

@@ -1,5 +1,4 @@
--- What the translation still has to write, as the code keeps it, and the normal forms that it stands for. This
--- project's own.
+-- The tasks that the translation still has to write, as the code has them, and their normal forms. This project's own.
 use Rattle.std.specs.Prelude.{◌≡◌, ℕ, ◌<◌, ◌≤◌, List, [], ◌∷◌, ◌++◌, length, reverse, Bool, true, false, slice_index_or}
 use Rattle.vpg_requirement.specs.Actions.{ActionFormula}
 use Rattle.vpg_requirement.specs.NormalForms.{NormalForm, met, unmet, both, either, some_step, every_step, fixpoint, variable}
@@ -29,7 +28,7 @@ use Rattle.vpg_written.specs.declared.task.Term.{Term}
 -- ---- which forms are meant, where actions have these names, sets stand for these action formulas, and entries have
 -- ---- these trees
 
--- what all of it rests on
+-- the base of all of it
 pub record Basis : Type 0 where
   pub names : List (List ℕ)
   pub actions : List ActionFormula
@@ -46,14 +45,14 @@ form_at g n sign around t = tree_form g.names (before g.names g.entries n) sign 
 abbrev pub form_in : Basis → Place → Bool → Tree → NormalForm
 form_in g p sign t = form_at g p.earlier sign (around_of p.scope.items) t
 
--- The form of these pieces behind so many entries, inside these fixpoints.
+-- The form of these pieces after this many entries, inside these fixpoints.
 pub record IsAt (g : Basis) (ps : List Piece) (sign : Bool) (n : ℕ) (bs : List Binder) (f : NormalForm) : Type 0 where
   pub known : n ≤ length g.entries
   pub tree : Tree
   pub term : IsTree g tree ps
   pub form : f ≡ form_at g n sign (around_of bs) tree
 
--- a formula inside these fixpoints, behind so many entries
+-- a formula inside these fixpoints, after this many entries
 abbrev pub IsPlace : Basis → Place → NormalForm → Type 0
 IsPlace g p f = IsAt g p.term.now p.is_negated p.earlier p.scope.items f
 
@@ -68,7 +67,7 @@ abbrev pub IsWay : Basis → Way → Bool → NormalForm → NormalForm → Type
 IsWay g (ways.Action n) every f h = h ≡ step_form every (actions_at g.actions n) f
 IsWay g (ways.Regular ps) every f h = (t : Tree) × IsTree g t ps.now × (h ≡ along g.names every t f)
 
--- the same, once or any number of times
+-- a regular formula in front of a form, once or any number of times
 abbrev pub IsStepBy : Basis → Bool → Way → Bool → NormalForm → NormalForm → Type 0
 IsStepBy g false way every f h = IsWay g way every f h
 IsStepBy g true way every f h = (again : NormalForm) × IsWay g way every (variable 0) again × (h ≡ star every again f)
@@ -114,7 +113,7 @@ Opens actions (symbols.EveryStep n) f hs =
 Opens actions (symbols.Fixpoint kind) f hs = (e : NormalForm) × (f ≡ fixpoint (kind_of kind) 0 e) × (hs ≡ e ∷ [])
 Opens actions (symbols.Variable i) f hs = (f ≡ variable i) × (hs ≡ [])
 
--- Forms one behind the other are written by symbols and tasks.
+-- Symbols and tasks write forms one after the other.
 abbrev pub Fill : Basis → List NormalForm → List Item → Type 0
 Fill g fs [] = fs ≡ []
 Fill g fs (items.Symbol s ∷ is) =
@@ -123,17 +122,17 @@ Fill g fs (items.Symbol s ∷ is) =
 Fill g fs (items.Task t ∷ is) =
     (f : NormalForm) × (rest : List NormalForm) × (fs ≡ f ∷ rest) × IsTask g t f × Fill g rest is
 
--- forms that are still to be written: the code keeps what is next last
+-- forms that are still to be written: the code keeps the next one last
 abbrev pub IsToCome : Basis → List NormalForm → List Item → Type 0
 IsToCome g fs is = Fill g fs (reverse is)
 
--- Where the form is written by a symbol and what is now still to be written, in front of what was before.
+-- The form is written by a symbol and the items that are now still to be written, in front of the earlier ones.
 abbrev pub Writes : Basis → NormalForm → Symbol → List Item → List Item → Type 0
 Writes g f s old new = (fs : List NormalForm) → IsToCome g fs old → Fill g (f ∷ fs) (items.Symbol s ∷ reverse new)
 
 -- ---- entries
 
--- the code keeps the names of the entries, and the pieces of their trees
+-- the names of the entries, and the pieces of their trees, as the code keeps them
 pub record AreTerms (g : Basis) (terms : List Term) : Type 0 where
   pub count : length g.entries ≡ length terms
   pub names : (n : ℕ) (d : Term) → n < length terms → name_at g.entries n ≡ (slice_index_or terms n d).name.now

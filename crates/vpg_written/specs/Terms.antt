@@ -1,4 +1,4 @@
--- Terms as the code keeps them: pieces, each a mark with what is known of the term that it ends. This project's own.
+-- The code's terms: pieces, each a mark with facts on the term that it ends. This project's own.
 use Rattle.std.specs.Prelude.{◌≡◌, ℕ, ◌+◌, ◌<◌, ◌≤◌, List, [], ◌∷◌, ◌++◌, length, Bool, true, false, slice_index_or}
 use Rattle.vpg_requirement.specs.Actions as numbered
 use Rattle.vpg_requirement.specs.Actions.{ActionFormula, permits}
@@ -9,7 +9,7 @@ use Rattle.vpg_written.specs.Trees.{Tree, nothing, node, actions_in}
 use Rattle.vpg_written.specs.declared.piece.Piece.{Piece}
 use Rattle.vpg_written.specs.declared.piece.Parts.{Parts}
 
--- the piece of a term, which has these operands in front of it
+-- the piece of a term, with these operands in front of it
 pub record IsPiece (names : List (List ℕ)) (actions : List ActionFormula) (m : Mark) (s t : Tree) (us vs : List Piece)
     (p : Piece) : Type 0 where
   pub mark : p.mark.now ≡ m
@@ -18,7 +18,7 @@ pub record IsPiece (names : List (List ℕ)) (actions : List ActionFormula) (m :
   pub known : p.set < length actions
   pub set : actions_at actions p.set ≡ actions_in names (node m s t)
 
--- The pieces are those of the tree, where actions have these names and sets of actions stand for these action formulas.
+-- The pieces are those of the tree, if actions have these names and sets of actions stand for these action formulas.
 abbrev pub IsTerm : List (List ℕ) → List ActionFormula → Tree → List Piece → Type 0
 IsTerm names actions nothing ps = ps ≡ []
 IsTerm names actions (node m s t) ps =
@@ -48,14 +48,14 @@ pub record HasConstants (actions : List ActionFormula) : Type 0 where
   pub every : actions_at actions 0 ≡ numbered.every_action
   pub none : actions_at actions 1 ≡ none_of_them
 
--- The sets are those of the action formulas, where actions have these names.
+-- The sets are those of the action formulas, if actions have these names.
 pub record AreSets (names : List (List ℕ)) (sets : List (List Bool)) (actions : List ActionFormula) : Type 0 where
   pub same : length sets ≡ length actions
   pub enough : 2 ≤ length actions
   pub constants : HasConstants actions
   pub permitted : (x : ℕ) → ArePermitted (length names) sets x (actions_at actions x)
 
--- the set has those of so many actions that the action formula permits
+-- the set has those of this many actions that the action formula permits
 abbrev pub IsSetOf : ℕ → List Bool → ActionFormula → Type 0
 IsSetOf count set x = (a : ℕ) → a < count → permits x a ≡ slice_index_or set a false
 
@@ -64,7 +64,7 @@ abbrev pub joined_actions : Bool → ActionFormula → ActionFormula → ActionF
 joined_actions true x y = numbered.both_of x y
 joined_actions false x y = numbered.either_of x y
 
--- A mark's set of actions, from those of its operands: the sets may be more than before.
+-- A mark's set of actions, from those of its operands. There may be more sets than before.
 pub record IsSetBy (names : List (List ℕ)) (m : Mark) (actions : List ActionFormula) (first second : ℕ)
     (sets : List (List Bool)) (n : ℕ) : Type 0 where
   pub more : List ActionFormula
@@ -73,7 +73,7 @@ pub record IsSetBy (names : List (List ℕ)) (m : Mark) (actions : List ActionFo
   pub set : (s t : Tree) → actions_at actions first ≡ actions_in names s →
       actions_at actions second ≡ actions_in names t → actions_at (actions ++ more) n ≡ actions_in names (node m s t)
 
--- how many marks the last term has
+-- the number of marks of the last term
 abbrev pub length_at_end : List Piece → ℕ
 length_at_end [] = 0
 length_at_end (p ∷ []) = p.length

@@ -63,10 +63,10 @@ tree_of (disjunction f g) = node marks.Or (tree_of f) (tree_of g)
 tree_of (implication f g) = node marks.Implies (tree_of f) (tree_of g)
 tree_of (binding kind x f) = node (binder_mark kind x) nothing (tree_of f)
 
--- ---- what trees stand for
+-- ---- the meaning of trees
 
--- The actions of a tree, where actions have these names: those of an action formula, and for `will A` those of `!A`. No
--- other tree has one.
+-- The actions of a tree, if actions have these names: those of an action formula, and for `will A` those of `!A`. No
+-- other tree has any.
 abbrev pub actions_in : List (List ℕ) → Tree → ActionFormula
 actions_in names nothing = none_of_them
 actions_in names (node marks.EveryAction s t) = numbered.every_action
@@ -87,7 +87,7 @@ along names every (node marks.RepeatedOnce s t) f =
     along names every t (star every (along names every t (variable 0)) f)
 along names every (node m s t) f = step_form every (actions_in names (node m s t)) f
 
--- the names of the fixpoints around, innermost first; one that a word or a star stands for has none
+-- the names of the fixpoints around, innermost first; a fixpoint made from a word or a star has none
 abbrev pub Around : Type 0
 Around = List (Option (List ℕ))
 
@@ -97,7 +97,7 @@ place_of [] i x = None
 place_of (None ∷ around) i x = place_of around (suc i) x
 place_of (Some y ∷ around) i x = if bytes_eq x y then Some i else place_of around (suc i) x
 
--- what names stand for that no fixpoint binds, by the sign
+-- the forms of names that no fixpoint binds, by the sign
 abbrev pub Earlier : Type 0
 Earlier = List ℕ → Bool → NormalForm
 
@@ -105,7 +105,7 @@ abbrev pub form_named : Option ℕ → NormalForm → NormalForm
 form_named None f = f
 form_named (Some i) f = variable i
 
--- The normal form of a tree, or where the sign is true of its negation.
+-- The normal form of a tree, or of its negation if the sign is true.
 abbrev pub tree_form : List (List ℕ) → Earlier → Bool → Around → Tree → NormalForm
 tree_form names earlier sign around nothing = constant_form sign
 tree_form names earlier sign around (node marks.True s t) = constant_form (not sign)
@@ -159,7 +159,7 @@ tree_at entries n = (slice_index_or entries n ([], nothing)).1
 abbrev pub name_at : List TreeEntry → ℕ → List ℕ
 name_at entries n = (slice_index_or entries n ([], nothing)).0
 
--- what names stand for in front of the entry of this number: the latest entry of that name
+-- the forms of names in front of the entry of this number: that of the latest entry of the name
 abbrev pub before : List (List ℕ) → List TreeEntry → ℕ → Earlier
 before names entries zero x sign = constant_form sign
 before names entries (suc n) x sign =

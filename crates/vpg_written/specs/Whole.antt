@@ -7,7 +7,7 @@ use Rattle.vpg_written.specs.Tasks.{Basis, entry_form}
 use Rattle.vpg_written.specs.declared.translation.TranslationFault.{TranslationFault}
 use Rattle.vpg_written.specs.declared.translation.TranslationFault.TheVariants as faults
 
--- the forms are those of so many entries
+-- the forms are those of this many entries
 pub record AreSpelledForms (g : Basis) (count : ℕ) (forms : List (List Symbol)) : Type 0 where
   pub count_is : length forms ≡ count
   pub each : (n : ℕ) → n < count → IsSpelled g.actions (entry_form g n) (slice_index_or forms n [])

@@ -23,7 +23,7 @@ fn is_named(binder: Binder, name: &[u8]) -> bool
     }
 }
 
-/// The number of the variable of this name.
+/// Returns the number of the variable of this name.
 pub(crate) fn variable(scope: &[Binder], name: &[u8]) -> Option<usize>
     ensures { result ≡ place_of (around_of scope.now) 0 name.now }
 {
@@ -51,7 +51,7 @@ fn has_name(terms: &[Term], number: usize, name: &[u8]) -> bool
     }
 }
 
-/// The number of the latest entry of this name in front of one.
+/// Returns the number of the latest entry of this name before one.
 pub(crate) fn latest(terms: &[Term], entry: usize, name: &[u8]) -> Option<usize>
     ensures earlier { IfSome result (λ n. n < entry) }
     ensures below { IfSome result (λ n. n < length terms.now) }
@@ -67,7 +67,7 @@ pub(crate) fn latest(terms: &[Term], entry: usize, name: &[u8]) -> Option<usize>
     None
 }
 
-/// The same fixpoints.
+/// Returns a copy of the fixpoints.
 pub(crate) fn copied<'m>(alloc: Global, scope: &[Binder<'m>]) -> Result<Vec<Binder<'m>>, AllocError>
     ensures { IfOk result (λ s. s.items ≡ scope.now) }
 {

@@ -1,4 +1,4 @@
-//! How a normal form begins.
+//! The beginnings of normal forms.
 ghost use Rattle.std.specs.Prelude.{◌≡◌, ◌<◌, ◌≤◌, ◌-◌, ◌∷◌, true, false, List, length, take, drop, Some, IfOk, IfSome, IfNone};
 ghost use Rattle.vpg_requirement.specs.NormalForms.{NormalForm, variable};
 ghost use Rattle.vpg_parts.specs.Sets.{actions_at};
@@ -17,7 +17,7 @@ use crate::task::{Binder, Found, Goal, Opening, Place, Step, Task, Term, Way};
 use std::alloc::{AllocError, Global};
 use vpg_formula::Mark;
 
-/// A formula in place of another.
+/// Returns a formula in place of another.
 fn at<'p, 'm>(place: Place<'p, 'm>, term: &'p [Piece<'m>], is_negated: bool) -> Place<'p, 'm>
     ensures sign { result.is_negated ≡ is_negated }
     ensures place { (g : Basis) (t : Tree) → IsTree g t term.now → place.entry.earlier ≤ length g.entries →
@@ -37,7 +37,7 @@ fn at<'p, 'm>(place: Place<'p, 'm>, term: &'p [Piece<'m>], is_negated: bool) -> 
     }
 }
 
-/// A formula in place of another, inside one more fixpoint.
+/// Returns a formula in place of another, inside one more fixpoint.
 fn at_inside<'p, 'm>(
     place: Place<'p, 'm>,
     term: &'p [Piece<'m>],
@@ -62,7 +62,7 @@ fn at_inside<'p, 'm>(
     })
 }
 
-/// The same formula inside one more fixpoint without a name.
+/// Returns the formula inside one more fixpoint without a name.
 pub(crate) fn hidden<'p, 'm>(place: Place<'p, 'm>) -> Result<Place<'p, 'm>, AllocError>
     ensures sign { IfOk result (λ p. p.is_negated ≡ place.entry.is_negated) }
     ensures place { IfOk result (λ p. (g : Basis) (f : NormalForm) → IsPlace g place.entry f →
@@ -83,7 +83,7 @@ pub(crate) fn hidden<'p, 'm>(place: Place<'p, 'm>) -> Result<Place<'p, 'm>, Allo
     })
 }
 
-/// The same place.
+/// Returns a copy of the place.
 fn copy_place<'p, 'm>(alloc: Global, place: &Place<'p, 'm>) -> Result<Place<'p, 'm>, AllocError>
     ensures term { IfOk result (λ p. p.term.now ≡ place.now.term.now) }
     ensures sign { IfOk result (λ p. p.is_negated ≡ place.now.is_negated) }
@@ -98,7 +98,7 @@ fn copy_place<'p, 'm>(alloc: Global, place: &Place<'p, 'm>) -> Result<Place<'p, 
     })
 }
 
-/// A goal without a modality in front.
+/// Returns a goal without a modality in front.
 pub(crate) fn plain<'p, 'm>(alloc: Global, goal: Goal<'p, 'm>) -> Task<'p, 'm>
     ensures { (g : Basis) (f : NormalForm) → IsGoal g goal.entry f → IsTask g result f }
 {
@@ -108,7 +108,7 @@ pub(crate) fn plain<'p, 'm>(alloc: Global, goal: Goal<'p, 'm>) -> Task<'p, 'm>
     }
 }
 
-/// A formula in place of another, with no modality in front.
+/// Returns a formula in place of another, with no modality in front.
 fn formula<'p, 'm>(
     alloc: Global,
     place: Place<'p, 'm>,
@@ -121,7 +121,7 @@ fn formula<'p, 'm>(
     plain(alloc, Goal::Formula(at(place, term, is_negated)))
 }
 
-/// One step by an action of a set.
+/// Returns one step by an action of a set.
 pub(crate) fn by_action<'p, 'm>(is_every: bool, set: u32) -> Step<'p, 'm>
     ensures { (g : Basis) (f : NormalForm) → IsStep g result f (step_form is_every (actions_at g.actions set) f) }
 {
@@ -132,7 +132,7 @@ pub(crate) fn by_action<'p, 'm>(is_every: bool, set: u32) -> Step<'p, 'm>
     }
 }
 
-/// The same task behind one more modality.
+/// Returns the task after one more modality.
 pub(crate) fn behind_step<'p, 'm>(
     task: Task<'p, 'm>,
     step: Step<'p, 'm>,
@@ -145,7 +145,7 @@ pub(crate) fn behind_step<'p, 'm>(
     Ok(Task { steps, goal })
 }
 
-/// The same goal.
+/// Returns a copy of the goal.
 fn copy_goal<'p, 'm>(alloc: Global, goal: &Goal<'p, 'm>) -> Result<Goal<'p, 'm>, AllocError>
     ensures { IfOk result (λ c. (g : Basis) (f : NormalForm) → IsGoal g goal.now f → IsGoal g c f) }
 {
@@ -157,7 +157,7 @@ fn copy_goal<'p, 'm>(alloc: Global, goal: &Goal<'p, 'm>) -> Result<Goal<'p, 'm>,
     }
 }
 
-/// The same task.
+/// Returns a copy of the task.
 fn copy_task<'p, 'm>(alloc: Global, task: &Task<'p, 'm>) -> Result<Task<'p, 'm>, AllocError>
     ensures { IfOk result (λ c. (g : Basis) (f : NormalForm) → IsTask g task.now f → IsTask g c f) }
 {
@@ -169,7 +169,7 @@ fn copy_task<'p, 'm>(alloc: Global, task: &Task<'p, 'm>) -> Result<Task<'p, 'm>,
     })
 }
 
-/// A modality over a regular formula.
+/// Returns a modality over a regular formula.
 fn once<'p, 'm>(is_every: bool, term: &'p [Piece<'m>]) -> Step<'p, 'm>
     ensures { (g : Basis) (t : Tree) (f : NormalForm) → IsTree g t term.now →
         IsStep g result f (spec.along g.names is_every t f) }
@@ -181,7 +181,7 @@ fn once<'p, 'm>(is_every: bool, term: &'p [Piece<'m>]) -> Step<'p, 'm>
     }
 }
 
-/// A modality over a regular formula, any number of times.
+/// Returns a modality over a regular formula, any number of times.
 fn many<'p, 'm>(is_every: bool, term: &'p [Piece<'m>]) -> Step<'p, 'm>
     ensures { (g : Basis) (t : Tree) (f : NormalForm) → IsTree g t term.now →
         IsStep g result f (star is_every (spec.along g.names is_every t (variable 0)) f) }
@@ -193,8 +193,8 @@ fn many<'p, 'm>(is_every: bool, term: &'p [Piece<'m>]) -> Step<'p, 'm>
     }
 }
 
-/// The first part of a regular formula that is a sequence, by where it begins and ends, and the modality over what is
-/// behind it.
+/// Returns where the first part of a regular formula begins and ends, if the formula is a sequence, and the modality
+/// over the rest after it.
 fn first_part<'p, 'm>(is_every: bool, term: &'p [Piece<'m>]) -> Option<(Step<'p, 'm>, usize, usize)>
     ensures none { IfNone result ((g : Basis) (t : Tree) → IsTree g t term.now → is_series t ≡ false) }
     ensures some { IfSome result (λ p. (g : Basis) (t : Tree) (f : NormalForm) → IsTree g t term.now →
@@ -216,7 +216,7 @@ fn first_part<'p, 'm>(is_every: bool, term: &'p [Piece<'m>]) -> Option<(Step<'p,
     }
 }
 
-/// What a task behind one of two regular formulas begins with.
+/// Returns the opening of a task after one of two regular formulas.
 fn choice<'p, 'm>(
     alloc: Global,
     is_every: bool,
@@ -235,7 +235,7 @@ fn choice<'p, 'm>(
     Ok(Opening::Joined(is_every, first, second))
 }
 
-/// What a task behind a regular formula begins with that is no sequence.
+/// Returns the opening of a task after a regular formula that is no sequence.
 fn along_one<'p, 'm>(
     alloc: Global,
     is_every: bool,
@@ -255,7 +255,7 @@ fn along_one<'p, 'm>(
     }
 }
 
-/// What a task behind a regular formula begins with.
+/// Returns the opening of a task after a regular formula.
 fn along<'p, 'm>(
     alloc: Global,
     is_every: bool,
@@ -276,7 +276,7 @@ fn along<'p, 'm>(
     Ok(along_one(alloc, is_every, part(regular, from, to), rest)?)
 }
 
-/// Two formulas in place of another, of which both hold, or one.
+/// Returns the opening of two formulas in place of another: both hold, or one.
 fn joined<'p, 'm>(
     alloc: Global,
     is_both: bool,
@@ -299,7 +299,7 @@ fn joined<'p, 'm>(
     Ok(Opening::Joined(is_both, first, second))
 }
 
-/// What a formula begins with, by its mark.
+/// Returns the opening of a formula, by its mark.
 fn by_mark<'p, 'm>(
     alloc: Global,
     place: Place<'p, 'm>,
@@ -359,7 +359,7 @@ fn by_mark<'p, 'm>(
     }
 }
 
-/// Where what is negated begins and ends, if the term is a negation.
+/// Returns where the negated term begins and ends, if the term is a negation.
 fn negation(term: &[Piece]) -> Option<(usize, usize)>
     ensures none { IfNone result ((g : Basis) (t : Tree) → IsTree g t term.now → is_negation t ≡ false) }
     ensures some { IfSome result (λ p. (g : Basis) (t : Tree) → IsTree g t term.now →
@@ -376,7 +376,7 @@ fn negation(term: &[Piece]) -> Option<(usize, usize)>
     }
 }
 
-/// A term but for negations in front, and whether their number is odd, where it was so.
+/// Returns a term without the negations in front, and its sign: `is_negated`, changed if their number is odd.
 fn without_negations<'p, 'm>(formula: &'p [Piece<'m>], is_negated: bool) -> (&'p [Piece<'m>], bool)
     ensures { (g : Basis) (t : Tree) → IsTree g t formula.now → IsBare g t is_negated result.0.now result.1 }
 {
@@ -391,7 +391,7 @@ fn without_negations<'p, 'm>(formula: &'p [Piece<'m>], is_negated: bool) -> (&'p
     (part(formula, from, to), sign)
 }
 
-/// A variable.
+/// Returns a variable.
 fn numbered<'p, 'm>(number: usize) -> Result<Opening<'p, 'm>, AllocError>
     ensures { IfOk result (λ o. o ≡ Opening.Variable number) }
 {
@@ -401,7 +401,7 @@ fn numbered<'p, 'm>(number: usize) -> Result<Opening<'p, 'm>, AllocError>
     }
 }
 
-/// What is found of a name that no fixpoint binds.
+/// Returns what is found of a name that no fixpoint binds.
 fn by_entry<'p, 'm>(terms: &[Term], earlier: usize, is_negated: bool, name: &[u8]) -> Found<'p, 'm>
     ensures found { (g : Basis) (bs : List Binder) → AreTerms g terms.now → earlier ≤ length g.entries →
         IsFound g is_negated earlier bs result (spec.before g.names g.entries earlier name.now is_negated) }
@@ -414,7 +414,7 @@ fn by_entry<'p, 'm>(terms: &[Term], earlier: usize, is_negated: bool, name: &[u8
     }
 }
 
-/// What is found of a name.
+/// Returns what is found of a name.
 fn by_name<'p, 'm>(
     terms: &[Term],
     scope: &[Binder],
@@ -437,7 +437,7 @@ fn by_name<'p, 'm>(
     }
 }
 
-/// What is found of a term that is no negation.
+/// Returns what is found of a term that is no negation.
 fn find<'p, 'm>(
     terms: &[Term],
     scope: &[Binder],
@@ -460,7 +460,7 @@ fn find<'p, 'm>(
     }
 }
 
-/// What a formula begins with.
+/// Returns the opening of a formula.
 fn open_formula<'p, 'm>(
     alloc: Global,
     terms: &'p [Term<'m>],
@@ -498,7 +498,7 @@ fn open_formula<'p, 'm>(
     }
 }
 
-/// What a task behind a modality begins with.
+/// Returns the opening of a task after a modality.
 fn open_step<'p, 'm>(
     alloc: Global,
     step: Step<'p, 'm>,
@@ -516,7 +516,7 @@ fn open_step<'p, 'm>(
     }
 }
 
-/// What a task begins with.
+/// Returns the opening of a task.
 pub(crate) fn opening_of<'p, 'm>(
     alloc: Global,
     terms: &'p [Term<'m>],

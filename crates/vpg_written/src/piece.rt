@@ -1,4 +1,4 @@
-//! Marks with what is known of the terms that they end.
+//! Marks with facts on the terms that they end.
 ghost use Rattle.std.specs.Prelude.{◌≡◌, ◌<◌, ◌≤◌, ◌-◌, ◌+◌, [], length, take, drop, IfSome, IfNone};
 ghost use Rattle.vpg_written.specs.Terms.{IsSplit, set_at_end};
 
@@ -10,19 +10,19 @@ pub(crate) const EVERY_ACTION: u32 = 0;
 /// The set of no action.
 pub(crate) const NO_ACTION: u32 = 1;
 
-/// A mark of a formula, with what is known of the term that it ends.
+/// A mark of a formula, with facts on the term that it ends.
 #[derive(Clone, Copy)]
 pub(crate) struct Piece<'m> {
     pub(crate) mark: &'m Mark,
-    /// How many marks the term has.
+    /// The number of marks of the term.
     pub(crate) length: usize,
-    /// How many marks the last operand has.
+    /// The number of marks of the last operand.
     pub(crate) last: usize,
     /// The number of the set of actions.
     pub(crate) set: u32,
 }
 
-/// A term: the piece at its end, and its operands. The first of two stands in front of the second, which may be alone.
+/// A term: the piece at its end, and its operands. The first of two is in front of the second, which may be alone.
 #[derive(Clone, Copy)]
 pub(crate) struct Parts<'p, 'm> {
     pub(crate) piece: Piece<'m>,
@@ -30,7 +30,7 @@ pub(crate) struct Parts<'p, 'm> {
     pub(crate) second: &'p [Piece<'m>],
 }
 
-/// The parts of a term, if it has a mark.
+/// Returns the parts of a term, if it has a mark.
 pub(crate) fn split<'p, 'm>(term: &'p [Piece<'m>]) -> Option<Parts<'p, 'm>>
     ensures none { IfNone result (term.now ≡ []) }
     ensures some { IfSome result (IsSplit term.now) }
@@ -50,7 +50,7 @@ pub(crate) fn split<'p, 'm>(term: &'p [Piece<'m>]) -> Option<Parts<'p, 'm>>
     }
 }
 
-/// The number of a term's set of actions.
+/// Returns the number of a term's set of actions.
 pub(crate) fn set_of(term: &[Piece]) -> u32
     ensures { result ≡ set_at_end term.now }
 {
@@ -60,7 +60,7 @@ pub(crate) fn set_of(term: &[Piece]) -> u32
     }
 }
 
-/// A part of a term.
+/// Returns a part of a term.
 pub(crate) fn part<'p, 'm>(term: &'p [Piece<'m>], from: usize, to: usize) -> &'p [Piece<'m>]
     requires start { from ≤ to }
     requires end { to ≤ length term.now }

@@ -15,7 +15,7 @@ use vpg_formula::{Label, Mark};
 use vpg_parts::Permitted;
 use vpg_system::System;
 
-/// A text but for its blanks.
+/// Returns a text without its blanks.
 fn without_blanks(alloc: Global, text: &[u8]) -> Result<Vec<u8>, AllocError>
     ensures { IfOk result (λ v. v.items ≡ labels.without_blanks text.now) }
 {
@@ -25,7 +25,7 @@ fn without_blanks(alloc: Global, text: &[u8]) -> Result<Vec<u8>, AllocError>
         .collect(alloc)
 }
 
-/// A space, a tab, a carriage return or a line feed.
+/// Whether the byte is a space, a tab, a carriage return or a line feed.
 fn is_blank(byte: u8) -> bool
     ensures { result ≡ words.is_blank byte }
 {
@@ -44,7 +44,7 @@ fn is_named(alloc: Global, label: &Label, name: &[u8]) -> Result<bool, AllocErro
     Ok(is_same(bare.as_slice(), other.as_slice()))
 }
 
-/// The actions that a label names.
+/// Returns the actions that a label names.
 fn named(alloc: Global, system: &System, label: &Label) -> Result<Permitted, AllocError>
     ensures { IfOk result (λ set. IsSetOf (length system.now.actions) set
         (labels.actions_named label.now 0 system.now.actions)) }
@@ -69,7 +69,7 @@ fn has(sets: &[Permitted], set: u32, action: usize) -> bool
     }
 }
 
-/// All other actions than those of a set.
+/// Returns the actions that a set does not have.
 fn complement(
     alloc: Global,
     count: usize,
@@ -86,7 +86,7 @@ fn complement(
     Ok(Permitted { actions })
 }
 
-/// The actions of both sets, or of one of them.
+/// Returns the actions of both sets, or of one of them.
 fn joined(
     alloc: Global,
     count: usize,
@@ -119,7 +119,7 @@ fn added(sets: &mut Vec<Permitted>, set: Permitted) -> Result<u32, AllocError>
     }
 }
 
-/// The set of all actions.
+/// Returns the set of all actions.
 fn full(alloc: Global, system: &System) -> Result<Permitted, AllocError>
     ensures { IfOk result (λ set. IsSetOf (length system.now.actions) set numbered.every_action) }
 {
@@ -130,7 +130,7 @@ fn full(alloc: Global, system: &System) -> Result<Permitted, AllocError>
     Ok(Permitted { actions })
 }
 
-/// The set of no action.
+/// Returns the set of no action.
 fn empty(alloc: Global) -> Permitted
     ensures { result ≡ [] }
 {
@@ -139,7 +139,7 @@ fn empty(alloc: Global) -> Permitted
     }
 }
 
-/// The sets of every action and of none.
+/// Returns the sets of every action and of none.
 pub(crate) fn constants(alloc: Global, system: &System) -> Result<Vec<Permitted>, AllocError>
     ensures { IfOk result (λ sets. AreSets system.now.actions sets.items
         (numbered.every_action ∷ labels.none_of_them ∷ [])) }
@@ -152,14 +152,14 @@ pub(crate) fn constants(alloc: Global, system: &System) -> Result<Vec<Permitted>
     Ok(sets)
 }
 
-/// A set of actions: one that is there, by its number, or another.
+/// A set of actions: an existing one, by its number, or another.
 #[derive(Drop)]
 enum Actions {
     Known(u32),
     New(Permitted),
 }
 
-/// The set of a mark, from those of its operands.
+/// Returns the set of a mark, from those of its operands.
 fn actions_by_mark(
     alloc: Global,
     system: &System,
@@ -183,7 +183,7 @@ fn actions_by_mark(
     }
 }
 
-/// The number of a mark's set of actions, from those of its operands.
+/// Returns the number of a mark's set of actions, from those of its operands.
 pub(crate) fn set_by_mark(
     alloc: Global,
     system: &System,

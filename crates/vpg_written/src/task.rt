@@ -1,8 +1,8 @@
-//! What is still to be written of a normal form.
+//! Tasks: the rest of a normal form that is still to be written.
 use crate::piece::{Parts, Piece};
 use vpg_parts::Symbol;
 
-/// A fixpoint around: one that a word or a star stands for has no name.
+/// A fixpoint around: one made from a word or a star has no name.
 #[derive(Clone, Copy)]
 pub(crate) enum Binder<'m> {
     Hidden,
@@ -16,7 +16,7 @@ pub(crate) struct Term<'m> {
     pub(crate) pieces: Vec<Piece<'m>>,
 }
 
-/// A formula, or its negation, behind so many entries, inside these fixpoints, innermost last.
+/// A formula, or its negation, after this many entries, inside these fixpoints, innermost last.
 #[derive(Drop)]
 pub(crate) struct Place<'p, 'm> {
     pub(crate) term: &'p [Piece<'m>],
@@ -40,7 +40,7 @@ pub(crate) struct Step<'p, 'm> {
     pub(crate) way: Way<'p, 'm>,
 }
 
-/// What stands behind modalities.
+/// The goal after modalities.
 #[derive(Drop)]
 pub(crate) enum Goal<'p, 'm> {
     Variable(u32),
@@ -57,7 +57,7 @@ pub(crate) struct Task<'p, 'm> {
     pub(crate) goal: Goal<'p, 'm>,
 }
 
-/// How a normal form begins, with what is behind.
+/// The opening of a normal form, with the rest after it.
 #[derive(Drop)]
 pub(crate) enum Opening<'p, 'm> {
     Constant(bool),
@@ -76,7 +76,7 @@ pub(crate) enum Opening<'p, 'm> {
     Will(bool, u32),
 }
 
-/// What is known of a formula, once its mark is seen: how it begins, or else the entry that it names, or its parts.
+/// The result of a look at a formula's mark: its opening, or otherwise the entry that it names, or its parts.
 #[derive(Drop)]
 pub(crate) enum Found<'p, 'm> {
     Opening(Opening<'p, 'm>),
@@ -84,7 +84,7 @@ pub(crate) enum Found<'p, 'm> {
     Parts(Parts<'p, 'm>),
 }
 
-/// What is still to be written.
+/// An item that is still to be written.
 #[derive(Drop)]
 pub(crate) enum Item<'p, 'm> {
     Symbol(Symbol),

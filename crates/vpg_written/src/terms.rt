@@ -14,7 +14,7 @@ use vpg_formula::{Entry, Mark};
 use vpg_parts::Permitted;
 use vpg_system::System;
 
-/// How many operands stand in front of a mark.
+/// Returns the number of operands in front of a mark.
 fn operand_count(mark: &Mark) -> usize
     ensures { result ≡ arity mark.now }
 {
@@ -46,7 +46,7 @@ fn operand_count(mark: &Mark) -> usize
     }
 }
 
-/// How many pieces the last term has.
+/// Returns the number of pieces of the last term.
 fn last_length(pieces: &[Piece]) -> usize
     ensures { result ≡ length_at_end pieces.now }
 {
@@ -56,7 +56,7 @@ fn last_length(pieces: &[Piece]) -> usize
     }
 }
 
-/// What stands in front of the last term, and the last term.
+/// Splits the pieces before the last term.
 fn last_term<'p, 'm>(pieces: &'p [Piece<'m>]) -> (&'p [Piece<'m>], &'p [Piece<'m>])
     ensures count { length result.0.now + length result.1.now ≡ length pieces.now }
     ensures last { (names : List (List ℕ)) (actions : List ActionFormula) (ts : List Tree) →
@@ -67,7 +67,7 @@ fn last_term<'p, 'm>(pieces: &'p [Piece<'m>]) -> (&'p [Piece<'m>], &'p [Piece<'m
     pieces.split_at(pieces.len().saturating_sub(length))
 }
 
-/// The operands of a mark behind these pieces.
+/// Returns the operands of a mark after these pieces.
 fn operands<'p, 'm>(pieces: &'p [Piece<'m>], mark: &Mark) -> (&'p [Piece<'m>], &'p [Piece<'m>])
     ensures count { length result.0.now + length result.1.now ≤ length pieces.now }
     ensures operands { (names : List (List ℕ)) (actions : List ActionFormula) (ts : List Tree) →
@@ -87,7 +87,7 @@ fn operands<'p, 'm>(pieces: &'p [Piece<'m>], mark: &Mark) -> (&'p [Piece<'m>], &
     (first, last)
 }
 
-/// The piece of a mark behind these pieces.
+/// Returns the piece of a mark after these pieces.
 fn made<'m>(
     alloc: Global,
     system: &System,
@@ -110,7 +110,7 @@ fn made<'m>(
     })
 }
 
-/// The pieces of a formula.
+/// Returns the pieces of a formula.
 fn pieces<'m>(
     alloc: Global,
     system: &System,
@@ -128,7 +128,7 @@ fn pieces<'m>(
     Ok(pieces)
 }
 
-/// The terms of the entries.
+/// Returns the terms of the entries.
 pub(crate) fn terms<'m>(
     alloc: Global,
     system: &System,

@@ -14,7 +14,7 @@ use crate::task::{Goal, Item, Opening, Place, Step, Task, Term, Way};
 use std::alloc::{AllocError, Global};
 use vpg_parts::{Kind, Spelling, Symbol};
 
-/// The most parts of a normal form.
+/// The greatest number of parts of a normal form.
 const MOST_PARTS: usize = 65536;
 
 /// Why a normal form is not written.
@@ -34,21 +34,21 @@ impl From<AllocError> for WritingFault {
     }
 }
 
-/// `true` or `false`.
+/// Returns `true` or `false`.
 fn constant(value: bool) -> Symbol
     ensures { (g : Basis) → Opens g.actions result (constant_form value) [] }
 {
     if value { Symbol::True } else { Symbol::False }
 }
 
-/// `&&` or `||`.
+/// Returns `&&` or `||`.
 fn joint(is_both: bool) -> Symbol
     ensures { (g : Basis) (e f : NormalForm) → Opens g.actions result (joined_form is_both e f) (e ∷ f ∷ []) }
 {
     if is_both { Symbol::And } else { Symbol::Or }
 }
 
-/// Each step by an action of a set, or some step.
+/// Returns the symbol for each step by an action of a set, or for some step.
 fn step(is_every: bool, set: u32) -> Symbol
     ensures { (g : Basis) (f : NormalForm) →
         Opens g.actions result (step_form is_every (actions_at g.actions set) f) (f ∷ []) }
@@ -60,7 +60,7 @@ fn step(is_every: bool, set: u32) -> Symbol
     }
 }
 
-/// A greatest fixpoint, or a least one.
+/// Returns the symbol of a greatest fixpoint, or of a least one.
 fn fixpoint(is_greatest: bool) -> Symbol
     ensures { (g : Basis) (f : NormalForm) →
         Opens g.actions result (spec.fixpoint (kind_for is_greatest) 0 f) (f ∷ []) }
@@ -72,7 +72,7 @@ fn fixpoint(is_greatest: bool) -> Symbol
     }
 }
 
-/// The same goal inside one more fixpoint without a name.
+/// Returns the goal inside one more fixpoint without a name.
 fn hidden_goal<'p, 'm>(goal: Goal<'p, 'm>) -> Result<Goal<'p, 'm>, AllocError>
     ensures { IfOk result (λ h. (g : Basis) (f : NormalForm) → IsGoal g goal.entry f → IsGoal g h (shift_form 0 f)) }
 {
@@ -87,7 +87,7 @@ fn hidden_goal<'p, 'm>(goal: Goal<'p, 'm>) -> Result<Goal<'p, 'm>, AllocError>
     }
 }
 
-/// The same task inside one more fixpoint without a name.
+/// Returns the task inside one more fixpoint without a name.
 fn hidden_task<'p, 'm>(task: Task<'p, 'm>) -> Result<Task<'p, 'm>, AllocError>
     ensures { IfOk result (λ h. (g : Basis) (f : NormalForm) → IsTask g task.entry f → IsTask g h (shift_form 0 f)) }
 {
@@ -96,7 +96,7 @@ fn hidden_task<'p, 'm>(task: Task<'p, 'm>) -> Result<Task<'p, 'm>, AllocError>
     Ok(Task { steps, goal })
 }
 
-/// Puts a symbol in front of what is still to be written.
+/// Puts a symbol in front of the rest.
 fn put_symbol<'p, 'm>(items: &mut Vec<Item<'p, 'm>>, symbol: Symbol) -> Result<(), AllocError>
     ensures { OnOk result ((g : Basis) (fs hs : List NormalForm) (f : NormalForm) → Opens g.actions symbol f hs →
         IsToCome g (hs ++ fs) items.old.items → IsToCome g (f ∷ fs) items.new.items) }
@@ -105,7 +105,7 @@ fn put_symbol<'p, 'm>(items: &mut Vec<Item<'p, 'm>>, symbol: Symbol) -> Result<(
     Ok(())
 }
 
-/// Puts a task in front of what is still to be written.
+/// Puts a task in front of the rest.
 fn put_task<'p, 'm>(items: &mut Vec<Item<'p, 'm>>, task: Task<'p, 'm>) -> Result<(), AllocError>
     ensures { OnOk result ((g : Basis) (fs : List NormalForm) (f : NormalForm) → IsTask g task.entry f →
         IsToCome g fs items.old.items → IsToCome g (f ∷ fs) items.new.items) }
@@ -127,7 +127,7 @@ fn put_coming<'p, 'm>(items: &mut Vec<Item<'p, 'm>>, sign: bool, set: u32) -> Re
     Ok(())
 }
 
-/// Puts two tasks in front, of which both are to hold, or one, and returns their symbol.
+/// Puts two tasks in front, both to hold or one of them, and returns their symbol.
 fn put_joined<'p, 'm>(
     items: &mut Vec<Item<'p, 'm>>,
     is_both: bool,
@@ -156,7 +156,7 @@ fn put_step<'p, 'm>(
     Ok(step(is_every, set))
 }
 
-/// Puts what a star stands for in front, and returns its symbol.
+/// Puts the form of a star in front, and returns its symbol.
 fn put_star<'p, 'm>(
     alloc: Global,
     items: &mut Vec<Item<'p, 'm>>,
@@ -196,7 +196,7 @@ fn put_binding<'p, 'm>(
     Ok(fixpoint(is_greatest))
 }
 
-/// Puts what `inevitably` stands for in front, and returns its symbol.
+/// Puts the form of `inevitably` in front, and returns its symbol.
 fn put_inevitable<'p, 'm>(
     alloc: Global,
     items: &mut Vec<Item<'p, 'm>>,
@@ -214,7 +214,7 @@ fn put_inevitable<'p, 'm>(
     Ok(fixpoint(sign))
 }
 
-/// Puts what `will A` stands for in front, by the set of all other actions, and returns its symbol.
+/// Puts the form of `will A` in front, by the set of all other actions, and returns its symbol.
 fn put_will<'p, 'm>(
     items: &mut Vec<Item<'p, 'm>>,
     sign: bool,
@@ -227,7 +227,7 @@ fn put_will<'p, 'm>(
     Ok(fixpoint(sign))
 }
 
-/// Returns the first symbol, and puts what is behind it in front of what is still to be written.
+/// Returns the first symbol, and puts the items after it in front of the rest.
 fn put<'p, 'm>(
     alloc: Global,
     opening: Opening<'p, 'm>,
@@ -248,7 +248,7 @@ fn put<'p, 'm>(
     }
 }
 
-/// Returns the first symbol of what is next, and puts what is behind it in front of what is still to be written.
+/// Returns the first symbol of the next item, and puts the items after it in front of the rest.
 fn next<'p, 'm>(
     alloc: Global,
     terms: &'p [Term<'m>],

@@ -1,4 +1,4 @@
-//! Bounds and what certifies them: each law is the contract of a function that does nothing.
+//! Laws of bounds and certificates. Each function does nothing: its contract is the law.
 ghost use Rattle.vpg_measure.specs.BoundLaws.{DualProgressMeansTop, SupportedBoundsHold, RaisedFromOrder};
 
 /// Where a progress table of the dual game is below the top, every progress table of the game is at the top.

@@ -1,4 +1,4 @@
-//! What holds of parity games, strategies and measures: each law is the contract of a function that does nothing.
+//! Laws of parity games, strategies and measures. Each function does nothing: its contract is the law.
 ghost use Rattle.vpg_measure.specs.MeasureLaws.{EveryPlayIsWon, AtMostIsTotalOrder, ShapeExists, ShapeIsUnique, ProgExists, ProgIsUnique, LiftExists, LiftIsUnique, EvenLiftsToLeast, OddLiftsToGreatest, FitsFromLift, ProgressIsUnraised, LiftIsMonotone, LiftStaysBelow, RaiseStaysBelow, ZeroIsBelow, LeastExists, LeastIsUnique, LeastProgWins, ProgressWins, TopRefutes, WinGivesProgress, LeastDecides, SimpleCyclesDecide, HarderProgressIsEasier, BelowStaysInHarder, ValueStaysInHarder, WinStaysInEasier, ValueStaysWhenMoreIsKnown, HopelessLoses, SureWins, PossibleWins, UnsureLoses, NotPossibleAndUnsure};
 
 /// Measures of one shape are totally ordered.
@@ -11,7 +11,7 @@ pub fn shape_exists()
     ensures { ShapeExists }
 {}
 
-/// It has only one.
+/// A list of priorities has only one shape.
 pub fn shape_is_unique()
     ensures { ShapeIsUnique }
 {}
@@ -21,7 +21,7 @@ pub fn prog_exists()
     ensures { ProgExists }
 {}
 
-/// They have only one.
+/// A priority and a value have only one least measure that fits.
 pub fn prog_is_unique()
     ensures { ProgIsUnique }
 {}
@@ -31,7 +31,7 @@ pub fn lift_exists()
     ensures { LiftExists }
 {}
 
-/// It has only one.
+/// A vertex has only one least measure that fits.
 pub fn lift_is_unique()
     ensures { LiftIsUnique }
 {}
@@ -46,7 +46,7 @@ pub fn odd_lifts_to_greatest()
     ensures { OddLiftsToGreatest }
 {}
 
-/// A measure fits exactly where it is at least the lift.
+/// A measure fits exactly if it is at least the lift.
 pub fn fits_from_lift()
     ensures { FitsFromLift }
 {}
@@ -66,7 +66,7 @@ pub fn lift_stays_below()
     ensures { LiftStaysBelow }
 {}
 
-/// So is each raise, also by the lift of an older table.
+/// Each raise of a table below a progress table is below it, also a raise by the lift of an older table.
 pub fn raise_stays_below()
     ensures { RaiseStaysBelow }
 {}
@@ -81,7 +81,7 @@ pub fn least_exists()
     ensures { LeastExists }
 {}
 
-/// There is only one.
+/// There is only one least progress table.
 pub fn least_is_unique()
     ensures { LeastIsUnique }
 {}
@@ -106,7 +106,7 @@ pub fn win_gives_progress()
     ensures { WinGivesProgress }
 {}
 
-/// The least progress table is top exactly where Even has no winning strategy.
+/// The least progress table is at the top exactly where Even has no winning strategy.
 pub fn least_decides()
     ensures { LeastDecides }
 {}
@@ -116,7 +116,7 @@ pub fn every_play_is_won()
     ensures { EveryPlayIsWon }
 {}
 
-/// Closed walks and simple cycles ask the same.
+/// Closed walks and simple cycles decide alike.
 pub fn simple_cycles_decide()
     ensures { SimpleCyclesDecide }
 {}
@@ -126,12 +126,12 @@ pub fn harder_progress_is_easier()
     ensures { HarderProgressIsEasier }
 {}
 
-/// A table below every progress table of the easier game is so in the harder.
+/// A table below every progress table of the easier game is below every one of the harder.
 pub fn below_stays_in_harder()
     ensures { BelowStaysInHarder }
 {}
 
-/// So is a single value.
+/// A value below every progress table of the easier game is below every one of the harder.
 pub fn value_stays_in_harder()
     ensures { ValueStaysInHarder }
 {}
@@ -141,7 +141,7 @@ pub fn win_stays_in_easier()
     ensures { WinStaysInEasier }
 {}
 
-/// A value below every progress table stays so where more is known.
+/// A value below every progress table stays so when more is known.
 pub fn value_stays_when_more_is_known<G>()
     ensures { ValueStaysWhenMoreIsKnown G }
 {}
@@ -151,22 +151,22 @@ pub fn hopeless_loses<G>()
     ensures { HopelessLoses G }
 {}
 
-/// A sure vertex has none for Odd.
+/// A sure vertex has no winning strategy for Odd in any product that agrees.
 pub fn sure_wins<G>()
     ensures { SureWins G }
 {}
 
-/// Where everything is known, Even wins from each possible vertex.
+/// If everything is known, Even wins from each possible vertex.
 pub fn possible_wins<G>()
     ensures { PossibleWins G }
 {}
 
-/// Where everything is known, Odd wins from each unsure vertex.
+/// If everything is known, Odd wins from each unsure vertex.
 pub fn unsure_loses<G>()
     ensures { UnsureLoses G }
 {}
 
-/// Where everything is known, no vertex is both.
+/// If everything is known, no vertex is both possible and unsure.
 pub fn not_possible_and_unsure<G>()
     ensures { NotPossibleAndUnsure G }
 {}

@@ -1,4 +1,4 @@
-//! What holds of measures and their numbers: each law is the contract of a function that does nothing.
+//! Laws of measures and their numbers. Each function does nothing: its contract is the law.
 ghost use Rattle.vpg_measure.specs.NumberLaws.{NumbersAreMeasures, MeasuresHaveNumbers, OrderIsNumeric, TruncatedOrderIsQuotient, ProgIsLeastFit, WeightsAreProducts, LiftIsLeast, LiftGrows, RoundsRise, RoundsGrow, RoundsStayBelow, RoundsStop, ProgIsLeastMeasure, LiftStaysBelow, ChoiceFits};
 
 /// Numbers up to the top and measures correspond one to one.
@@ -13,7 +13,7 @@ pub fn order()
     ensures truncated { TruncatedOrderIsQuotient }
 {}
 
-/// `prog` is the least number whose measure fits the edge.
+/// `prog` is the least number with a measure that fits the edge.
 pub fn least_fit()
     ensures numbers { ProgIsLeastFit }
     ensures measures { ProgIsLeastMeasure }

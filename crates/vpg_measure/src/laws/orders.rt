@@ -1,4 +1,4 @@
-//! Each law is the contract of a function that does nothing.
+//! Laws of orders. Each function does nothing: its contract is the law.
 ghost use Rattle.vpg_measure.specs.OrderLaws.{ZerosAreOpening};
 
 /// Tables of zeros may stand in every order.

@@ -1,4 +1,4 @@
-//! Each law is the contract of a function that does nothing.
+//! Laws of tables of numbers. Each function does nothing: its contract is the law.
 ghost use Rattle.vpg_measure.specs.TableLaws.{NotBothNumbers, UnsureNumber, PossibleNumber, SettledIsUnique, LevelsAreShape, ProgressOfNumbers, ChoicesWin, TopNumberRefutes, SettledInEarlier, HopelessNumber, SureNumber};
 
 /// The levels of the priorities are their shape.
@@ -6,7 +6,7 @@ pub fn levels_are_shape()
     ensures { LevelsAreShape }
 {}
 
-/// A table of numbers is a progress table where its measures are.
+/// A table of numbers is a progress table exactly if its measures are.
 pub fn progress_of_numbers()
     ensures { ProgressOfNumbers }
 {}
@@ -21,7 +21,7 @@ pub fn top_number_refutes()
     ensures { TopNumberRefutes }
 {}
 
-/// A progress table where more is known is one where less is known.
+/// A progress table when more is known is one when less is known.
 pub fn settled_in_earlier<G>()
     ensures { SettledInEarlier G }
 {}
@@ -31,7 +31,7 @@ pub fn hopeless_number<G>()
     ensures { HopelessNumber G }
 {}
 
-/// A sure vertex has none for Odd.
+/// A sure vertex has no winning strategy for Odd in any such product.
 pub fn sure_number<G>()
     ensures { SureNumber G }
 {}
@@ -41,17 +41,17 @@ pub fn settled_is_unique()
     ensures { SettledIsUnique }
 {}
 
-/// Where everything is known the choices win in the product from every possible vertex.
+/// If everything is known, the choices win in the product from every possible vertex.
 pub fn possible_number<G>()
     ensures { PossibleNumber G }
 {}
 
-/// Those of the dual win there for Odd from every unsure vertex.
+/// If everything is known, the choices of the dual win in the product for Odd from every unsure vertex.
 pub fn unsure_number<G>()
     ensures { UnsureNumber G }
 {}
 
-/// So no vertex is both.
+/// If everything is known, no vertex is both possible and unsure.
 pub fn not_both_numbers<G>()
     ensures { NotBothNumbers G }
 {}
@@ -66,7 +66,7 @@ pub fn below()
     ensures raise { RaiseIsBelow }
 {}
 
-/// The least table, and what it says of strategies.
+/// The least table, and the strategies that it shows or refutes.
 pub fn least()
     ensures numbers { LeastOfNumbers }
     ensures exists { LeastTableExists }
