@@ -27,7 +27,7 @@ DIALECT = re.compile(
 GENERATED = ("docs/DEFINITIONS.md", "docs/API.md")
 BARS = (
     (("README.md",), 800),
-    (("docs/FORMATS.md", "docs/DRIVING.md"), 6500),
+    (("docs/FORMATS.md",), 6500),
     (("docs/PROOFS.md",), 2500),
     (("docs/DECISIONS.md",), 4500),
     (("docs/ARCHITECTURE.md",), 3300),
