@@ -1,21 +1,25 @@
 -- The verdicts of all vertices, one after the other.
-use Rattle.std.proofs.Common.{◌≡◌, ℕ, zero, suc, List, [], ◌∷◌, ◌++◌, length, refl, sym, ap, ⊎_elim, ◌∙◌, inl, inr, ◌⊎◌, ◌<◌, arith}
+use Rattle.std.proofs.Common.{◌≡◌, ◌==◌, ◌<◌, ℕ, zero, suc, List, [], ◌∷◌, length, map, zip, slice_index, refl, sym, arith}
 use lib.ListN.{get_elem?}
 use mathlib.Core.Option.{some, some-ne-none, some-injective}
+use Rattle.vpg_verdict.specs.declared.verdict.Verdict.{Verdict}
 
--- what stands in a list with one more at the end stood there before, or is that one
-pub at_end : {A : Type 0} (xs : List A) (a : A) (i : ℕ) (b : A) → get_elem? (xs ++ a ∷ []) i ≡ some b → (get_elem? xs i ≡ some b) ⊎ ((i ≡ length xs) × (a ≡ b))
-at_end [] a zero b e = inr (refl, some-injective a b e)
-at_end [] a (suc i) b e = absurd (some-ne-none b (sym e))
-at_end (x ∷ xs) a zero b e = inl e
-at_end (x ∷ xs) a (suc i) b e = ⊎_elim (λ h. inl h) (λ h. inr (ap suc h.0, h.1)) (at_end xs a i b e)
+-- the verdict of a pair of values, by the numbers that stand for the tops
+abbrev pub verdict_by : ℕ → ℕ → ℕ × ℕ → Verdict
+verdict_by top dual_top values = record { hopeless = values.0 == top; sure = values.1 == dual_top }
 
--- each of a list is as it should be, and so is one more
-pub each_more : {A : Type 0} (As : ℕ → A → Type 0) (xs : List A) (a : A) (v : ℕ) → length xs ≡ v → ((i : ℕ) (b : A) → get_elem? xs i ≡ some b → As i b) → As v a → (i : ℕ) (b : A) → get_elem? (xs ++ a ∷ []) i ≡ some b → As i b
-each_more As xs a v here all is i b at = ⊎_elim
-    (λ (was : get_elem? xs i ≡ some b). all i b was)
-    (λ (last : (i ≡ length xs) × (a ≡ b)). coe 0 1 (k. As ((sym (last.0 ∙ here)) k) (last.1 k)) is)
-    (at_end xs a i b at)
+-- there are as many verdicts as values in one of two tables of one length
+pub count_by : (top dual_top : ℕ) (xs ys : List ℕ) → length xs ≡ length ys → length (map (verdict_by top dual_top) (zip xs ys)) ≡ length xs
+count_by top dual_top [] ys e = refl
+count_by top dual_top (x ∷ xs) [] e = sym e
+count_by top dual_top (x ∷ xs) (y ∷ ys) e = let h = count_by top dual_top xs ys (omega (arith, e)) in omega (arith, h)
+
+-- each verdict is that of the values at its place
+pub each_by : (top dual_top : ℕ) (xs ys : List ℕ) (v : ℕ) (one : Verdict) → get_elem? (map (verdict_by top dual_top) (zip xs ys)) v ≡ some one → one ≡ verdict_by top dual_top (slice_index xs v, slice_index ys v)
+each_by top dual_top [] ys v one at = absurd (some-ne-none one (sym at))
+each_by top dual_top (x ∷ xs) [] v one at = absurd (some-ne-none one (sym at))
+each_by top dual_top (x ∷ xs) (y ∷ ys) zero one at = some-injective one (verdict_by top dual_top (x, y)) (sym at)
+each_by top dual_top (x ∷ xs) (y ∷ ys) (suc v) one at = each_by top dual_top xs ys v one at
 
 -- what stands in a list stands below its length
 pub at_below : {A : Type 0} (xs : List A) (i : ℕ) (v : A) → get_elem? xs i ≡ some v → i < length xs

@@ -1,5 +1,5 @@
 //! The verdicts of all vertices at once.
-ghost use Rattle.std.specs.Prelude.{◌≡◌, ◌==◌, ℕ, length, slice_index, IfOk};
+ghost use Rattle.std.specs.Prelude.{◌≡◌, ◌==◌, ℕ, length, map, zip, IfOk};
 ghost use Rattle.vpg_verdict.specs.declared.verdict.Verdict.{Verdict as Said};
 ghost use Rattle.vpg_desk.specs.Book.{Verdict as AsksVerdict, VerdictIs};
 ghost use Rattle.vpg_desk.specs.State.{Replies};
@@ -18,19 +18,17 @@ fn verdicts_by(
     top: u64,
     dual_top: u64,
 ) -> Result<Vec<Verdict>, AllocError>
-    requires { length hopeful.now ≡ length dual.now }
-    ensures count { IfOk result (λ said. length said.items ≡ length hopeful.now) }
-    ensures each { IfOk result (λ said. (v : ℕ) (one : Said) → get_elem? said.items v ≡ some one →
-        one ≡ record { hopeless = slice_index hopeful.now v == top; sure = slice_index dual.now v == dual_top }) }
+    ensures { IfOk result (λ said. said.items ≡
+        map (λ p. record { hopeless = p.0 == top; sure = p.1 == dual_top }) (zip hopeful.now dual.now)) }
 {
-    let mut said = Vec::with_capacity(alloc, hopeful.len())?;
-    for v in 0..hopeful.len() {
-        said.push(Verdict {
-            hopeless: hopeful[v] == top,
-            sure: dual[v] == dual_top,
-        })?;
-    }
-    Ok(said)
+    hopeful
+        .iter()
+        .zip(dual)
+        .map(|(value, dual_value)| Verdict {
+            hopeless: *value == top,
+            sure: *dual_value == dual_top,
+        })
+        .collect(alloc)
 }
 
 impl Desk {
