@@ -1,4 +1,5 @@
--- What requests ask of a desk, and how its replies are written: as an engine does it, and what is asked of the page.
+-- The calls that requests make at a desk and the texts of its replies: those of an engine, and those of questions about
+-- the page.
 use Rattle.std.specs.Prelude.{◌≡◌, ℕ, ◌+◌, [], Option, Some, None, Result, Ok, Err}
 use Rattle.vpg_features.specs.Names.{index_of}
 use Rattle.vpg_desk.specs.Book.{Call, Order, Reply, Ordered}
@@ -17,7 +18,7 @@ abbrev pub query_or : Own → (ℕ → Query) → Option ℕ → Result Query Ow
 query_or own query None = Err own
 query_or own query (Some place) = Ok (query place)
 
--- what is asked of the page, by places in the game and the diagram; or what is named there that they lack
+-- the inquiry as a query, by places in the game and the diagram; or the reason for a name that they lack
 abbrev pub query_of : Scene → script.Inquiry → Result Query Own
 query_of scene (script.OfVertex question vertex) =
     query_or NoVertex (queries.OfVertex question) (vertex_of scene vertex)
@@ -26,11 +27,11 @@ query_of scene (script.OfChoice value name) =
     query_or NoFeature (λ f. queries.OfChoice f value) (index_of scene.names name)
 query_of scene (script.OfPage question) = Ok (queries.OfPage question)
 
--- how far it is followed
+-- the limits of an answer
 abbrev pub answer_limits : Limits
 answer_limits = record { budget = 134217728; rounds = 1000; trials = 10000 }
 
--- what is asked of the page is answered of an order
+-- a query takes an order
 abbrev pub order_or : Result Query Own → Result Call Own
 order_or (Err own) = Err own
 order_or (Ok query) = Ok Order
@@ -40,7 +41,7 @@ abbrev pub first_call : Scene → Held → script.Command → Result Call Own
 first_call scene held (script.Ask inquiry) = order_or (query_of scene inquiry)
 first_call scene held command = engine.first_call scene held command
 
--- what is asked is answered of an order
+-- the query is answered from an order
 abbrev pub TellsAnswer : Scene → Held → script.Inquiry → Reply → Rest
 TellsAnswer scene held inquiry (Ordered decisions hopeful dual) calls text new =
     ((query : Query) ×
@@ -48,7 +49,7 @@ TellsAnswer scene held inquiry (Ordered decisions hopeful dual) calls text new =
     (calls ≡ []) × (new ≡ held)
 TellsAnswer scene held inquiry _ calls text new = ⊥
 
--- after the reply to a command's first call; so many calls were made then
+-- the rest after the reply to a command's first call, with `made` calls made by then
 abbrev pub Continues : Scene → Held → (made : ℕ) → ℕ → script.Command → Reply → Rest
 Continues scene held made label (script.Ask inquiry) reply calls text new =
     TellsAnswer scene held inquiry reply calls text new
@@ -59,8 +60,8 @@ abbrev pub Begins : Scene → Held → (made : ℕ) → ℕ → script.Command �
 Begins scene held made label command first calls text new =
     engine.Begins scene held made label (Continues scene held (made + 1) label command) first calls text new
 
--- While this is held, and so many calls were made before, a request makes these calls with these replies, gives this
--- answer, and leaves so much held.
+-- With this held and `made` calls made before, the request makes these calls with these replies, has this answer, and
+-- leaves this held.
 abbrev pub Serves : Scene → Held → (made : ℕ) → Request → Rest
 Serves scene held made request calls text new =
     Begins scene held made request.label request.command (first_call scene held request.command) calls text new

@@ -1,4 +1,4 @@
--- What a run of a script does to the book of an office's desk, what the engine holds, and what it writes.
+-- How a run of a script changes the book of an office's desk and what the engine holds, and what it writes.
 use Rattle.std.specs.Prelude.{◌≡◌, ℕ, ◌+◌, List, [], ◌++◌, length}
 use Rattle.vpg_desk.specs.History.{Event, IsLegalFrom, book_after}
 use Rattle.vpg_desk.specs.Desk.{family_of}
@@ -15,8 +15,8 @@ use Rattle.vpg_script.specs.Script.{Request}
 use Rattle.vpg_texts.specs.Scene.{Scene, scene_of}
 use Rattle.vpg_report.specs.Requests.{Serves}
 
--- A request makes calls, each with the reply that the book gives at that point, is answered with this text, and leaves
--- the book after them.
+-- A request makes calls, each with the reply that the book gives at that point. It is answered with this text, and
+-- leaves the book after the calls.
 abbrev pub calling : Scene → Machine Between
 calling scene old request text new =
     (calls : List Event) ×
@@ -24,7 +24,8 @@ calling scene old request text new =
     IsLegalFrom (family_of (setting_in scene)) old.book calls
     × (new.book ≡ book_after (family_of (setting_in scene)) old.book calls) × (new.calls ≡ old.calls + length calls))
 
--- The same, and what is committed or kept was made by at most the line's number of sweeps, each by this many lifters.
+-- As `calling`, and what is committed or kept was made by at most the line's number of sweeps, each by this many
+-- lifters.
 abbrev pub answering : Scene → ℕ → Machine Between
 answering scene lifters old request text new =
     (so : calling scene old request text new) × AreMadeBy (setting_in scene) lifters request.command so.0 new.held
@@ -35,7 +36,7 @@ answering scene lifters old request text new =
 abbrev pub as_meant : {S : Type 0} → (Request → Request) → Machine S → Machine S
 as_meant meaning serves old request text new = serves old (meaning request) text new
 
--- a scene, and the names by which lines call its vertices
+-- a scene, and the names that lines may give its vertices
 pub record Called : Type 0 where
   pub scene : Scene
   pub callings : List Calling
@@ -44,7 +45,7 @@ pub record Called : Type 0 where
 abbrev pub called_in : NamedGame → NamedDiagram → List Calling → Called
 called_in game diagram callings = record { scene = scene_of game diagram; callings = callings }
 
--- A line is answered as the one in which the identifier of each vertex stands in place of its name.
+-- A line is answered as if the identifier of each vertex stood in place of its name.
 abbrev pub answering_called : Called → ℕ → Machine Between
 answering_called called lifters =
     as_meant (meant called.callings called.scene.names) (answering called.scene lifters)
@@ -65,9 +66,8 @@ asking scene old request text new =
     (calls : List Event) ×
     (Serves scene old.held (length old.calls) request calls text new.held × (new.calls ≡ old.calls ++ calls))
 
--- What is written for lines without a fault are the answers to the calls of a legal history, into which lawful harvests
--- alone were handed. These are exactly the calls of these lines in their order, whatever they are taken to mean, and
--- they leave the book.
+-- The texts written for lines without a fault answer the calls of a legal history, with lawful harvests only. These are
+-- exactly the calls of these lines in their order, under any meaning of the lines, and they leave the book.
 abbrev pub AnswersAreHistories : Type 0
 AnswersAreHistories =
     (meaning : Request → Request) (scene : Scene) (lifters : ℕ) (lines : List (List ℕ)) (text : List ℕ)

@@ -1,4 +1,4 @@
-//! What lines ask of the page, by places in the game and the diagram.
+//! Questions about the page, by places in the game and the diagram.
 ghost use Rattle.std.specs.Prelude.{◌≡◌, ◌<◌, length, IfOk, IfSome};
 ghost use Rattle.vpg_answers.specs.Answers.{IsWithin};
 ghost use Rattle.vpg_features.specs.Names.{index_of};
@@ -22,7 +22,7 @@ fn feature_at(names: &Names, name: &[u8]) -> Option<u16>
     names.get(name)
 }
 
-/// What an inquiry asks, or what it names that isn't there.
+/// Returns an inquiry as a query by places, or the kind of name that is missing.
 pub(crate) fn query_of(
     game: &GuardedGame,
     diagram: &Diagram,

@@ -13,7 +13,7 @@ use vpg_guards::Names;
 use vpg_serving::ServeFault;
 use vpg_texts::{blank_name, blank_number};
 
-/// What a line names that the game, or the diagram, lacks.
+/// A kind of name in a line that the game, or the diagram, lacks.
 #[derive(Clone, Copy, Debug, Error)]
 pub enum Missing {
     #[error("NoVertex")]
@@ -22,7 +22,7 @@ pub enum Missing {
     Feature,
 }
 
-/// A word and a number.
+/// Writes a word and a number.
 pub(crate) fn numbered(word: &[u8], n: u64, out: &mut Vec<u8>) -> Result<(), ServeFault>
     ensures { OnOk result (out.new.items ≡ out.old.items ++ numbered word.now n) }
 {
@@ -32,7 +32,7 @@ pub(crate) fn numbered(word: &[u8], n: u64, out: &mut Vec<u8>) -> Result<(), Ser
     Ok(())
 }
 
-/// Whether the page is settled, and how many entries were added.
+/// Writes whether the page is settled, and how many entries were added.
 pub(crate) fn settled(settled: bool, added: u32, out: &mut Vec<u8>) -> Result<(), ServeFault>
     ensures { OnOk result (out.new.items ≡ out.old.items ++ settled_text settled added) }
 {
@@ -43,7 +43,7 @@ pub(crate) fn settled(settled: bool, added: u32, out: &mut Vec<u8>) -> Result<()
     }
 }
 
-/// A refusal that is one word.
+/// Writes a refusal of one word.
 pub(crate) fn refused(why: &[u8], out: &mut Vec<u8>) -> Result<(), ServeFault>
     ensures { OnOk result (out.new.items ≡ out.old.items ++ refused_line why.now) }
 {
@@ -53,7 +53,7 @@ pub(crate) fn refused(why: &[u8], out: &mut Vec<u8>) -> Result<(), ServeFault>
     Ok(())
 }
 
-/// Writes the refusal of what is named that isn't there.
+/// Writes the refusal of a name that is missing.
 pub fn put_missing(what: Missing, out: &mut Vec<u8>) -> Result<(), ServeFault>
     ensures { OnOk result (out.new.items ≡ out.old.items ++ refused_line (own_text (own_of what))) }
 {
@@ -63,7 +63,7 @@ pub fn put_missing(what: Missing, out: &mut Vec<u8>) -> Result<(), ServeFault>
     }
 }
 
-/// A refusal that names a serial.
+/// Writes a refusal that names a serial.
 fn refused_at(why: &[u8], serial: u64, out: &mut Vec<u8>) -> Result<(), ServeFault>
     ensures { OnOk result (out.new.items ≡ out.old.items ++ refused_line (why.now ++ blank_number serial)) }
 {
@@ -74,7 +74,7 @@ fn refused_at(why: &[u8], serial: u64, out: &mut Vec<u8>) -> Result<(), ServeFau
     Ok(())
 }
 
-/// A refusal that names a feature.
+/// Writes a refusal that names a feature.
 fn refused_feature(
     why: &[u8],
     names: &Names,
@@ -91,7 +91,7 @@ fn refused_feature(
     Ok(())
 }
 
-/// Why a feature isn't decided.
+/// Writes why a feature isn't decided.
 fn decide_refusal_told(
     names: &Names,
     fault: DecideFault,
@@ -109,7 +109,7 @@ fn decide_refusal_told(
     }
 }
 
-/// Why a feature isn't retracted.
+/// Writes why a feature isn't retracted.
 fn retract_refusal_told(
     names: &Names,
     fault: RetractFault,
@@ -125,7 +125,7 @@ fn retract_refusal_told(
     }
 }
 
-/// Why a change isn't undone.
+/// Writes why a change isn't undone.
 fn undo_refusal_told(names: &Names, fault: UndoFault, out: &mut Vec<u8>) -> Result<(), ServeFault>
     ensures { OnOk result (TellsRefusal names.now (undo_refusal fault) out.old.items out.new.items) }
 {
@@ -136,7 +136,7 @@ fn undo_refusal_told(names: &Names, fault: UndoFault, out: &mut Vec<u8>) -> Resu
     }
 }
 
-/// Why a change isn't redone.
+/// Writes why a change isn't redone.
 fn redo_refusal_told(names: &Names, fault: RedoFault, out: &mut Vec<u8>) -> Result<(), ServeFault>
     ensures { OnOk result (TellsRefusal names.now (redo_refusal fault) out.old.items out.new.items) }
 {
@@ -147,7 +147,7 @@ fn redo_refusal_told(names: &Names, fault: RedoFault, out: &mut Vec<u8>) -> Resu
     }
 }
 
-/// Why a harvest isn't committed.
+/// Writes why a harvest isn't committed.
 fn commit_refusal_told(
     names: &Names,
     fault: CommitFault,
@@ -163,15 +163,15 @@ fn commit_refusal_told(
     }
 }
 
-/// The answer to a line with a call that finds the log full.
+/// Writes the answer to a line with a call that finds the log full.
 fn full(out: &mut Vec<u8>) -> Result<(), ServeFault>
     ensures { OnOk result (out.new.items ≡ out.old.items ++ full_line) }
 {
     refused(b"LogFull", out)
 }
 
-/// Writes the answer to a line with a call that the desk never refuses: that the log is full. Another fault is none of
-/// the line's: `Memory`, or `Stray`.
+/// Writes the answer to a line with a call that the desk never refuses: that the log is full. Other faults, `Memory`
+/// and `Stray`, are returned.
 pub fn put_unanswered<F: Drop>(fault: ClientFault<F>, out: &mut Vec<u8>) -> Result<(), ServeFault>
     ensures full { OnOk result (fault ≡ ClientFault.LogFull) }
     ensures told { OnOk result (out.new.items ≡ out.old.items ++ full_line) }
@@ -183,7 +183,7 @@ pub fn put_unanswered<F: Drop>(fault: ClientFault<F>, out: &mut Vec<u8>) -> Resu
     }
 }
 
-/// The answer where a feature isn't decided: the desk's refusal, or that the log is full.
+/// Writes the answer if a feature isn't decided: the desk's refusal, or that the log is full.
 pub(crate) fn decide_refused(
     names: &Names,
     fault: ClientFault<DecideFault>,
@@ -200,7 +200,7 @@ pub(crate) fn decide_refused(
     }
 }
 
-/// The answer where a feature isn't retracted: the desk's refusal, or that the log is full.
+/// Writes the answer if a feature isn't retracted: the desk's refusal, or that the log is full.
 pub(crate) fn retract_refused(
     names: &Names,
     fault: ClientFault<RetractFault>,
@@ -216,7 +216,7 @@ pub(crate) fn retract_refused(
     }
 }
 
-/// The answer where a change isn't undone: the desk's refusal, or that the log is full.
+/// Writes the answer if a change isn't undone: the desk's refusal, or that the log is full.
 pub(crate) fn undo_refused(
     names: &Names,
     fault: ClientFault<UndoFault>,
@@ -232,7 +232,7 @@ pub(crate) fn undo_refused(
     }
 }
 
-/// The answer where a change isn't redone: the desk's refusal, or that the log is full.
+/// Writes the answer if a change isn't redone: the desk's refusal, or that the log is full.
 pub(crate) fn redo_refused(
     names: &Names,
     fault: ClientFault<RedoFault>,
@@ -248,7 +248,7 @@ pub(crate) fn redo_refused(
     }
 }
 
-/// The answer where a harvest isn't committed: the desk's refusal, or that the log is full.
+/// Writes the answer if a harvest isn't committed: the desk's refusal, or that the log is full.
 pub(crate) fn commit_refused(
     names: &Names,
     fault: ClientFault<CommitFault>,

@@ -1,4 +1,4 @@
--- Plans: what Even does at a full and settled page.
+-- Plans: Even's moves at a full and settled page.
 use Rattle.std.specs.Prelude.{◌≡◌, ℕ, ◌<◌, Bool, Option, List, length, map, slice_index, ⊤}
 use Rattle.vpg_guards.specs.declared.tri.Tri.{Tri}
 use Rattle.vpg_guards.specs.Formula.{Formula, truth}
@@ -36,7 +36,7 @@ abbrev pub IsPlanned : Scene → List Decision → (hopeful dual text : List ℕ
 IsPlanned scene decisions hopeful dual text =
     UnderKnown scene decisions (λ known. PlansUnder scene known hopeful dual text)
 
--- why there is none: some feature isn't known, or each is and some table is no progress table; out of memory tells
+-- why there is none: some feature isn't known, or each is and some table is no progress table; out of memory says
 -- nothing
 abbrev pub IsPlanFault : Scene → List Decision → (hopeful dual : List ℕ) → PlanFault → Type 0
 IsPlanFault scene decisions hopeful dual NotFull =
