@@ -1,4 +1,4 @@
-//! What looks wrong in a diagram.
+//! Warnings of a diagram.
 ghost use Rattle.std.specs.Prelude.{◌≡◌, length, IfOk};
 
 use crate::products::{Closed, closure_of, finds_product, is_dead};
@@ -9,7 +9,7 @@ use vpg_game::GuardedGame;
 use vpg_guards::Tri;
 use vpg_places::{Declared, LINES, Part, declared_of, form_of, lines_of, words_of};
 
-/// Where a feature is named first.
+/// Returns the place where a feature is named first.
 fn declared_at(declared: &[Declared<'_>], f: usize) -> usize {
     match declared.get(f) {
         Some(it) => it.at,
@@ -17,7 +17,7 @@ fn declared_at(declared: &[Declared<'_>], f: usize) -> usize {
     }
 }
 
-/// Warns of a diagram of which propagation finds no product.
+/// Warns of a diagram if propagation finds no product of it.
 fn warn_of_none_found(
     alloc: Global,
     diagram: &Diagram,
@@ -32,7 +32,7 @@ fn warn_of_none_found(
     warnings.warn(Sort::NoneFound, root, 0)
 }
 
-/// Warns of features that are in no product, where the known values are these.
+/// Warns of features that are in no product, if the known values are these.
 fn warn_of_dead(
     alloc: Global,
     diagram: &Diagram,
@@ -51,7 +51,7 @@ fn warn_of_dead(
     Ok(())
 }
 
-/// Warns of a diagram that has no product, and else of what propagation shows of its products.
+/// Warns of a diagram that has no product, and else of facts that propagation shows of its products.
 fn warn_of_products(
     alloc: Global,
     diagram: &Diagram,
@@ -70,7 +70,7 @@ fn warn_of_products(
     }
 }
 
-/// The parent that a line names, where it names one.
+/// Returns the parent that a line names, if it names one.
 fn parent_of<'t>(alloc: Global, line: &'t [u8]) -> Result<Option<&'t [u8]>, AllocError> {
     let words = words_of(alloc, line, true)?;
     let (Some(first), Some(parent)) = (words.first(), words.get(1)) else {
@@ -82,7 +82,7 @@ fn parent_of<'t>(alloc: Global, line: &'t [u8]) -> Result<Option<&'t [u8]>, Allo
     }
 }
 
-/// The parents that the lines of a diagram name.
+/// Returns the parents that the lines of a diagram name.
 fn parents_of<'t>(alloc: Global, text: &'t [u8]) -> Result<Vec<&'t [u8]>, AllocError> {
     let lines = lines_of(alloc, text)?;
     let mut parents = Vec::new(alloc);
@@ -135,8 +135,8 @@ fn warn_of_diagram(
     warn_of_unnamed(game, &parents, &declared, warnings)
 }
 
-/// What looks wrong in a diagram that was read from a text, and in how a game uses it: that the diagram has no product,
-/// or that propagation alone finds none; features that are in no product, as far as propagation shows it; and features
+/// Returns the warnings of a diagram that was read from a text, and of its use by a game. Reasons are: the diagram has
+/// no product, or propagation alone finds none; features in no product, as far as propagation shows it; features
 /// without children that no guard names.
 pub fn warnings_of_diagram(
     alloc: Global,

@@ -1,4 +1,4 @@
-//! A family with the names by which lines call its vertices.
+//! A family with the names that lines may give its vertices.
 ghost use Rattle.std.specs.Arc.{arc_value};
 ghost use Rattle.std.specs.Prelude.{◌≡◌, ◌++◌, length, option_map, slice_get, IfErr, IfOk, OnOk};
 ghost use Rattle.vpg_diagram.specs.FeatureDiagram.{feature_count};
@@ -18,7 +18,7 @@ use vpg_game::GuardedGame;
 use vpg_names::VertexNames;
 use vpg_script::Callings;
 
-/// The identifier of the vertex at a place, where there is one.
+/// Returns the identifier of the vertex at a place, if there is one.
 fn identifier_at(game: &GuardedGame, vertex: usize) -> Option<u32>
     ensures { result ≡ slice_get (vertex_ids game.now.vertices) vertex }
 {
@@ -38,7 +38,7 @@ fn is_nonempty(name: &[u8]) -> bool
     }
 }
 
-/// Adds a name of the vertex of an identifier, where there are both.
+/// Adds a name of the vertex of an identifier, if there are both.
 fn add_name(
     alloc: Global,
     name: &[u8],
@@ -77,7 +77,7 @@ fn add_names(
     Ok(())
 }
 
-/// Adds the name of an entry, for the vertex at a place, where there are both.
+/// Adds the name of an entry, for the vertex at a place, if there are both.
 fn add_entry(
     alloc: Global,
     game: &GuardedGame,
@@ -116,7 +116,7 @@ fn add_entries(
     Ok(())
 }
 
-/// The names of the vertices of a game: those that its text gives them, and those of requirements.
+/// Returns the names of the vertices of a game: those that its text gives them, and those of requirements.
 fn callings_of(
     alloc: Global,
     game: &GuardedGame,
@@ -133,14 +133,14 @@ fn callings_of(
     Ok(callings)
 }
 
-/// A family, the names that its game's text gives vertices, and those by which lines call them.
+/// A family, the names that its game's text gives vertices, and those that lines may give them.
 pub struct Known {
     pub family: Family,
     pub names: VertexNames,
     pub callings: Callings,
 }
 
-// Not derived, so that letting one go is one call.
+// Not derived: a derived `drop` would be proved again at each exit that owns such a value.
 impl Drop for Known {
     fn drop(self) {
         let Known {
@@ -152,7 +152,7 @@ impl Drop for Known {
 }
 
 impl Known {
-    /// The family of some texts. Refused as `Family::read`.
+    /// Returns the family of some texts. Refused as `Family::read`.
     pub fn read(alloc: Global, texts: &Texts) -> Result<Known, Fault>
         ensures spelled { IfOk result (λ known. SpellsFamily texts.now.diagram.items texts.now.game.items
             (arc_value known.family.diagram) (arc_value known.family.game)) }
@@ -181,14 +181,14 @@ impl Known {
     }
 }
 
-/// The family of some files, with the names of its vertices. The diagram is read, and refused, before the game, or what
-/// stands in its place.
+/// Returns the family of some files, with the names of its vertices. The diagram is read, and refused, before the game,
+/// or the files in its place.
 pub fn read_known<R: Files + AllocGlobal>(
     rt: &R,
     alloc: Global,
     paths: Paths<'_>,
 ) -> Result<Known, Fault>
-    // Each requirement's name stands for its vertex, where a system and requirements stand in place of the game.
+    // Each requirement's name stands for its vertex, if a system and requirements stand in place of the game.
     ensures called { IfOk result (λ known. IsCalledFamily paths.entry.game (arc_value known.family.diagram)
         (arc_value known.family.game) known.callings) }
     ensures features { IfOk result (λ known.

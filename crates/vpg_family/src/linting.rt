@@ -1,4 +1,4 @@
-//! What looks wrong in a family that is read.
+//! Warnings of a family that is read.
 ghost use Rattle.std.specs.Prelude.{IfErr};
 ghost use Rattle.vpg_family.specs.Families.{IsFamilyFault};
 
@@ -10,7 +10,7 @@ use std::alloc::{AllocError, Global};
 use vpg_diagram::Diagram;
 use vpg_game::GuardedGame;
 
-/// Lines of warnings of a family that was read from these texts.
+/// Returns lines of warnings of a family that was read from these texts.
 fn warned(
     alloc: Global,
     paths: Paths<'_>,
@@ -42,9 +42,9 @@ fn warned(
     }
 }
 
-/// Lines that warn of what looks wrong in the family that the texts of these files spell, and a last one that counts
-/// the warnings. A fault of the diagram is told before any of the game. Of a game that was made from a system and its
-/// requirements nothing is said: vertices without moves are no news in it.
+/// Returns lines that warn of the family that the texts of these files spell, and a last one that counts the warnings.
+/// A fault of the diagram comes before any of the game. A game that was made from a system and its requirements gets no
+/// warnings: vertices without moves are no news in it.
 pub fn linted(
     alloc: Global,
     paths: Paths<'_>,

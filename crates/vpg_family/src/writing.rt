@@ -1,4 +1,4 @@
-//! How warnings are written.
+//! The text of warnings.
 ghost use Rattle.std.specs.Prelude.{◌≡◌, ◌≤◌, length};
 
 use crate::features::warnings_of_diagram;
@@ -12,7 +12,7 @@ use vpg_lint::{put_number, put_place, put_shown, put_text};
 use vpg_names::VertexNames;
 use vpg_places::place_of;
 
-/// Of each sort so many are written with their places.
+/// The number of warnings of each sort that are written with their places.
 const MOST_TOLD: usize = 10;
 
 /// The sorts, in the order in which they are written.
@@ -26,7 +26,7 @@ const SORTS: [Sort; 7] = [
     Sort::Unreached,
 ];
 
-/// What those of a sort are.
+/// Returns the words for the warnings of a sort.
 fn called(sort: Sort) -> &'static [u8] {
     match sort {
         Sort::NoProduct => b"diagrams without a product",
@@ -50,7 +50,7 @@ fn put_feature(names: &Names, f: u32, what: &[u8], out: &mut Vec<u8>) -> Result<
     out.extend_from_slice(what)
 }
 
-/// Appends a name in quotes, where there is one.
+/// Appends a name in quotes, if there is one.
 fn put_name(name: &[u8], out: &mut Vec<u8>) -> Result<(), AllocError> {
     if name.is_empty() {
         return Ok(());
@@ -78,7 +78,7 @@ fn put_vertex(
     out.extend_from_slice(what)
 }
 
-/// Who loses at a vertex without moves.
+/// Returns the player who loses at a vertex without moves.
 fn loss_of(game: &GuardedGame, v: u32) -> &'static [u8] {
     if v as usize >= game.vertices() {
         return b"has no moves";
@@ -89,7 +89,7 @@ fn loss_of(game: &GuardedGame, v: u32) -> &'static [u8] {
     }
 }
 
-/// Appends what a warning says.
+/// Appends the message of a warning.
 fn put_said(
     features: &Names,
     game: &GuardedGame,
@@ -122,7 +122,7 @@ pub struct File<'t> {
     pub text: &'t [u8],
 }
 
-/// What warnings are about: features, the vertices of a game, and their names.
+/// The subjects of warnings: features, the vertices of a game, and their names.
 #[derive(Clone, Copy)]
 struct About<'f> {
     features: &'f Names,
@@ -195,14 +195,14 @@ fn put_warnings(
     Ok(())
 }
 
-/// Appends a line that counts so many warnings.
+/// Appends a line that counts the warnings.
 fn put_count(count: usize, out: &mut Vec<u8>) -> Result<(), AllocError> {
     out.extend_from_slice(b"warnings ")?;
     put_number(count, out)?;
     out.extend_from_slice(b"\n")
 }
 
-/// Appends the warnings of a diagram, in a file of this name. How many they are.
+/// Appends the warnings of a diagram, in a file of this name. Returns how many they are.
 fn put_of_diagram(
     alloc: Global,
     file: File<'_>,
@@ -215,7 +215,7 @@ fn put_of_diagram(
     Ok(warnings.list.len())
 }
 
-/// Appends the warnings of a game, in a file of this name. How many they are.
+/// Appends the warnings of a game, in a file of this name. Returns how many they are.
 fn put_of_game(
     alloc: Global,
     file: File<'_>,
@@ -227,7 +227,7 @@ fn put_of_game(
     Ok(warnings.list.len())
 }
 
-/// Appends a line for each warning of a family that was read from these files, `FILE:LINE:COLUMN: warning: ..`, and
+/// Appends a line for each warning of a family that was read from these files, `FILE:LINE:COLUMN: warning: ..`, and a
 /// last one that counts them. Of each sort at most ten are written with their places, and then how many more there are.
 pub fn put_warned(
     alloc: Global,
@@ -248,7 +248,7 @@ pub fn put_warned(
     put_count(in_diagram.saturating_add(in_game), out)
 }
 
-/// The same of the diagram alone, where the game has no file but this text.
+/// Appends the warnings of the diagram alone, if the game has no file, only this text.
 pub fn put_warned_of_diagram(
     alloc: Global,
     of_diagram: File<'_>,
