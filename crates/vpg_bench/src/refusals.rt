@@ -11,12 +11,11 @@
 //!
 //! A desk is compared by value: its page, the tokens out, whether it is settled. A board is opened and closed until
 //! that is done: each time the order comes back with its tables unchanged, or a harvest of it is made. A sweep is made
-//! with none, and up to more memory than it takes: with little it has no board, with more no hints, and a thread is
-//! refused where the process cannot get its stack. It is done each time.
+//! with no memory, and up to more than it takes. With little it has no board, with more no hints, and a thread is
+//! refused if the process cannot get its stack. It is done each time.
 //!
-//! Each try of a call of an office is made on an office of its own, whose log is full up to what its lists have room
-//! for. So the growths of the log are refused too, and all that a refused call has to leave is looked at behind each
-//! try.
+//! Each try of a call of an office is made on an office of its own, with a log full up to the room of its lists. So the
+//! growths of the log are refused too, and after each try all that a refused call has to leave is checked.
 //!
 //! Or no memory is taken from the program, and each call is marked for `bench/refused.py`.
 
@@ -50,7 +49,7 @@ use vpg_diagram::Diagram;
 use vpg_game::GuardedGame;
 use vpg_scarce::{End, Heap, Report, Told};
 
-/// What came of calls that were made once, with no memory.
+/// Returns the result of calls that were made once, with no memory.
 pub(crate) fn told_of(tells: bool) -> Told {
     if tells {
         Told::TakesNone
@@ -59,12 +58,12 @@ pub(crate) fn told_of(tells: bool) -> Told {
     }
 }
 
-/// How a call ended that wasn't refused: it is done where it gave what it should.
+/// Returns the end of a call that wasn't refused: it is done if its answer was right.
 pub(crate) fn done_if(gives: bool) -> End {
     if gives { End::Done } else { End::Otherwise }
 }
 
-/// How a call ended that gave nothing.
+/// Returns the end of a call without an answer.
 pub(crate) fn memory_if(is_memory: bool) -> End {
     if is_memory {
         End::Memory

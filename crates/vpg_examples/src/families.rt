@@ -42,7 +42,7 @@ fn path_of(alloc: Global, family: &str, file: &str) -> Result<String, AllocError
     format!(in alloc; "{family}/{file}")
 }
 
-/// What a file of a family holds.
+/// Returns the text of a file of a family.
 fn text_of(rt: &HostRuntime, alloc: Global, family: &str, file: &str) -> Result<Vec<u8>> {
     let path = path_of(alloc, family, file)?;
     Ok(fs::read(rt, path.as_str())?)
@@ -90,7 +90,7 @@ fn carry_out<T: Threads + Wait + Sync>(
     answer(rt, threads, alloc, &family, script)
 }
 
-/// Carries a script out on a family, whose vertices are called so.
+/// Carries a script out on a family, with the names of its vertices.
 fn answer_called<T: Threads + Wait + Sync>(
     rt: &HostRuntime,
     threads: &T,
@@ -118,7 +118,7 @@ fn answer_called<T: Threads + Wait + Sync>(
     }
 }
 
-/// Carries out the script of a system, which calls requirements by their names.
+/// Carries out the script of a system, which names requirements.
 fn carry_out_system<T: Threads + Wait + Sync>(
     rt: &HostRuntime,
     threads: &T,

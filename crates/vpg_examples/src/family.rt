@@ -19,7 +19,7 @@ pub(crate) struct Family {
     diagram: Arc<Diagram>,
 }
 
-// Not derived, so that letting one go is one call: a derived way would be proved anew at each exit that owns one.
+// Not derived: a derived `drop` would be proved again at each exit that owns such a value.
 impl Drop for Family {
     fn drop(self) {
         let Family {
@@ -85,7 +85,8 @@ pub(crate) fn run_on<R: Threads + Wait + Sync, S: Source, T: Sink>(
     })
 }
 
-/// How a run over these devices ends. Nothing where there is no run, or where its office is still there afterwards.
+/// Returns the result of a run over these devices. Nothing if there is no run, or if its office is still there
+/// afterwards.
 pub(crate) fn outcome<R: Threads + Wait + Sync, S: Read + Drop, T: Write + Drop>(
     rt: &R,
     alloc: Global,

@@ -61,8 +61,8 @@ enum Call {
     Look,
 }
 
-/// The calls, those of a trail one after another. Those that ask take no memory: what they tell is compared where there
-/// is none.
+/// The calls, those of a trail one after another. Those that ask take no memory: their answers are compared without
+/// any.
 const CALLS: &[(&str, Call)] = &[
     ("Names::add", Call::AddName),
     ("Names::new", Call::NewNames),
@@ -101,7 +101,7 @@ const CALLS: &[(&str, Call)] = &[
     ("Trail::entries, tables, level", Call::Look),
 ];
 
-/// What the calls are made of, beside a game and a diagram.
+/// The parts that the calls are made of, beside a game and a diagram.
 #[derive(Drop)]
 struct Parts {
     /// Ten names, and then one more.
@@ -110,7 +110,7 @@ struct Parts {
     grouped: Diagram,
     /// The game of one product.
     plain: PlainGame,
-    /// What is written, behind what stands there before.
+    /// The written text, after an earlier one.
     out: Vec<u8>,
     known: Partial,
     shape: Shape,
@@ -126,7 +126,7 @@ struct Parts {
     is_back: bool,
 }
 
-/// The parts for a game and a diagram: first those that are let go by one call.
+/// Returns the parts for a game and a diagram: first those that are dropped by one call.
 fn parts_of(alloc: Global, diagram: &Diagram, game: &GuardedGame) -> Option<Parts> {
     let shape = Shape::of(alloc, game).ok()?;
     let dual_shape = Shape::of_dual(alloc, game).ok()?;

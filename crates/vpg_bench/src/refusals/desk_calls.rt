@@ -32,7 +32,7 @@ enum Call {
     Redo,
     /// Spends the token that is held.
     Keep,
-    /// The same; it is the one that is out, and has this serial.
+    /// Spends the token that is held, which is the only one out and has this serial.
     Forget(u64),
     Order,
     Page,
@@ -40,7 +40,7 @@ enum Call {
     Settle,
     /// Hands that in.
     Commit,
-    /// What the desk says of its page and of its tokens.
+    /// The desk's answers about its page and its tokens.
     Tell,
 }
 
@@ -185,8 +185,8 @@ fn commit(alloc: Global, desk: &mut Desk, held: &mut Held) -> End {
     }
 }
 
-/// Whether a desk tells that its page's first vertex is neither hopeless nor sure, that it isn't settled, and that one
-/// token is out.
+/// Whether a desk's answers are that its page's first vertex is neither hopeless nor sure, that it isn't settled, and
+/// that one token is out.
 fn is_told(desk: &Desk) -> bool {
     if desk.game().vertices() != 2 {
         return false;

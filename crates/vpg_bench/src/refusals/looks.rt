@@ -23,7 +23,7 @@ pub(crate) struct Caller<L: Terms> {
     pub(crate) page: Option<Page>,
 }
 
-// Not derived, so that letting one go is one call.
+// Not derived: a derived `drop` would be proved again at each exit that owns such a value.
 impl<L: Terms> Drop for Caller<L> {
     fn drop(self) {
         let Caller {
@@ -35,7 +35,7 @@ impl<L: Terms> Drop for Caller<L> {
     }
 }
 
-/// How a call ended of which nothing is kept.
+/// Returns the end of a call that leaves nothing to keep.
 fn ended<L: Terms, T: Drop, F: Drop>(answer: Result<T, Fault<L, F>>) -> End {
     match answer {
         Ok(_) => End::Done,
@@ -79,7 +79,7 @@ fn order_tells(order: &Order) -> bool {
         && order.arena(Which::Dual).vertices() == 2
 }
 
-/// Whether a harvest is settled, and its order tells what it has.
+/// Whether a harvest is settled, and its order has the right values.
 fn harvest_tells(harvest: &Harvest) -> bool {
     let order = harvest.order();
     order.game().vertices() > 0
@@ -88,7 +88,7 @@ fn harvest_tells(harvest: &Harvest) -> bool {
         && harvest.value(Which::Hopeful, 0) > 0
 }
 
-/// The harvest of an order whose first vertex is lifted and which is settled then.
+/// Returns the harvest of an order with the first vertex lifted, which is settled then.
 fn harvest_again(order: Order) -> Harvest {
     if order.game().vertices() == 0 {
         return Harvest::alone(order, 100);

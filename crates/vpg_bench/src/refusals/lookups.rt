@@ -1,4 +1,4 @@
-//! Calls that take no memory. Each is made where there is none, and has to tell what it tells otherwise.
+//! Calls that take no memory. Each is made without any, and has to have the same answer as otherwise.
 
 use crate::refusals::decided::is_table;
 use crate::refusals::{done_if, told_of};

@@ -13,7 +13,7 @@ use vpg_serving::Ending;
 /// A game of one vertex that Even wins.
 const DOT: &str = "0 0 0 0;";
 
-/// A script on a family, and what it answers.
+/// A script on a family, and its answers.
 struct Row {
     diagram: &'static str,
     game: &'static str,
@@ -21,7 +21,7 @@ struct Row {
     answers: &'static str,
 }
 
-/// What the rows of a table are about.
+/// The subject of a table's rows.
 #[derive(Clone, Copy)]
 pub(super) enum Worked {
     Settling,
@@ -42,7 +42,7 @@ pub(super) enum Worked {
     Moves,
 }
 
-/// Whether a script ends without a fault by so many lifters, and answers just this.
+/// Whether a script ends without a fault by this many lifters, and answers just this.
 fn is_answered_by<T: Threads + Wait + Sync>(
     rt: &T,
     alloc: Global,
@@ -64,7 +64,7 @@ fn is_answered_by<T: Threads + Wait + Sync>(
     )
 }
 
-/// The same by 1, 4 and 64 lifters.
+/// Whether a script ends without a fault by 1, 4 and 64 lifters, and answers just this.
 fn is_answered_on<T: Threads + Wait + Sync>(
     rt: &T,
     alloc: Global,
@@ -79,7 +79,7 @@ fn is_answered_on<T: Threads + Wait + Sync>(
         && is_answered_by(rt, alloc, family, 64, &text, &wanted)
 }
 
-/// The same on the family of these texts.
+/// Whether a script on the family of these texts ends without a fault, and answers just this.
 fn is_answered<T: Threads + Wait + Sync>(
     rt: &T,
     alloc: Global,
@@ -441,7 +441,7 @@ static COUNTS: [Row; 2] = [
 ];
 
 static OTHER_VERDICTS: [Row; 2] = [
-    // Undo and redo change no verdict that was told: the next of these tells what they did.
+    // Undo and redo change no verdict that was reported: the next `changed` reports theirs.
     Row {
         diagram: DIAGRAM,
         game: GAME,

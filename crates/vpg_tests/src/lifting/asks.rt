@@ -1,4 +1,4 @@
-//! What is asked of an order: rounds and lifts of its tables, strategies, certified bounds and guesses.
+//! Questions to an order: rounds and lifts of its tables, strategies, certified bounds and guesses.
 
 ghost use Rattle.std.specs.Prelude.{◌≡◌};
 ghost use Rattle.vpg_measure.specs.Lifts.{IsTableOf};
@@ -19,10 +19,10 @@ use vpg_measure::{
 use vpg_verdict::Which;
 use vpg_verdict::Which::{Dual, Hopeful};
 
-/// What is asked of a copy of one of an order's tables, and the answer.
+/// A question to a copy of one of an order's tables, and the answer.
 #[derive(Clone, Copy)]
 pub(crate) enum Ask {
-    /// How the rounds ended that made it.
+    /// The end of the rounds that made it.
     Ends(Outcome),
     /// Lifts of both vertices, which raise it to these values, and make a progress table of one that is none.
     Lifts([u64; 2]),
@@ -34,10 +34,10 @@ pub(crate) enum Ask {
     Guess(u64, bool),
 }
 
-/// A table after so many rounds, what is asked of it, and its values then, where they are asked for.
+/// A table after this many rounds, a question to it, and its values then, if they are compared.
 pub(crate) type Row = (Which, u64, Ask, Option<&'static [u64]>);
 
-/// A copy of one of an order's tables after so many rounds, and how they ended.
+/// Returns a copy of one of an order's tables after this many rounds, and how they ended.
 pub(crate) fn settled<R: Abort + AllocGlobal>(
     rt: &R,
     order: &Order,
@@ -231,9 +231,9 @@ const AT_EXIT: &[Row] = &[
     (Dual, 0, Guess(BUDGET, true), Some(&[0, 2, 2, 2])),
 ];
 
-/// A loop of priority 1, and behind it 60 vertices of odd priorities of their own: the top is 2^61, and no rounds of
-/// lifts would come there. A budget that is spent leaves what was raised until then; the table of the dual is settled
-/// from the start.
+/// A loop of priority 1, and after it 60 vertices of odd priorities of their own. The top is 2^61, and no rounds of
+/// lifts would come there. A budget that is used up leaves the values raised until then; the table of the dual is
+/// settled from the start.
 const CLIMB: &[Row] = &[
     (
         Hopeful,

@@ -108,8 +108,8 @@ pub(crate) fn small<R: Abort + AllocGlobal>(rt: &R, choices: &[(u16, bool)]) -> 
     order_from(rt, DIAGRAM, GAME, choices)
 }
 
-/// The order without decisions of a game of so many vertices of Even, of the priorities 1, 3, 5 and so on. Each has one
-/// edge, to itself or, where all lead back, to the first.
+/// Returns the order without decisions of a game of this many vertices of Even, of the priorities 1, 3, 5 and so on.
+/// Each has one edge, to itself or, if all lead back, to the first.
 pub(crate) fn row_of<R: Abort + AllocGlobal>(
     rt: &R,
     options: &[u8],

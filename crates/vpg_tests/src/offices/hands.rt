@@ -27,7 +27,7 @@ pub struct Sitting<L: Terms> {
     pub watches: Vec<Watch<Front<L>>>,
 }
 
-// Not derived, so that letting one go is one call: a derived way would be proved anew at each exit that owns one.
+// Not derived: a derived `drop` would be proved again at each exit that owns such a value.
 impl<L: Terms> Drop for Seat<L> {
     fn drop(self) {
         let Seat {
@@ -132,13 +132,13 @@ fn refusal<L: Terms, F>(rt: &impl Abort, fault: Fault<L, F>) -> F {
     }
 }
 
-/// What is held of a token's change, and its serial.
+/// Returns the token of a change to hold, and its serial.
 fn undo_of<L: Terms>(token: Undo<L>) -> (Held<L>, Answer) {
     let serial = token.serial();
     (Held::Undo(token), Answer::Token(serial))
 }
 
-/// What is held of an undone change's token, and its serial.
+/// Returns the token of an undone change to hold, and its serial.
 fn redo_of<L: Terms>(token: Redo<L>) -> (Held<L>, Answer) {
     let serial = token.serial();
     (Held::Redo(token), Answer::Token(serial))
@@ -212,7 +212,7 @@ fn spent<L: Terms, R: Wait + Abort + AllocGlobal>(
     }
 }
 
-/// What is said of whether both tables are settled.
+/// Returns the answer on whether both tables are settled.
 fn settled<L: Terms>(rt: &impl Abort, answer: Result<bool, Fault<L, Never>>) -> Answer {
     match answer {
         Ok(settled) => Answer::Is(settled),
@@ -222,7 +222,7 @@ fn settled<L: Terms>(rt: &impl Abort, answer: Result<bool, Fault<L, Never>>) -> 
     }
 }
 
-/// What a watch reads.
+/// Returns the sheet that a watch reads.
 fn read_by<L: Terms>(watch: &mut Watch<Front<L>>) -> Answer {
     match read(watch) {
         Ok(sheet) => Answer::Sheet(sheet.at, sheet.settled),

@@ -1,4 +1,4 @@
-//! Days of two sessions of an office, as tables of calls, and what each has to give.
+//! Days of two sessions of an office, as tables of calls with the answers that they have to have.
 ghost use Rattle.std.specs.Prelude.{◌≡◌, length};
 
 use crate::calls::{Answer, By, Call, Calls, Step, carry_out};
@@ -12,20 +12,20 @@ use vpg_diagram::Diagram;
 use vpg_game::GuardedGame;
 use vpg_office::{Ended, Front, Office, Terms, TokensOut, Undo, Work, read};
 
-/// What two sessions do on an office.
+/// The work of two sessions on an office.
 #[derive(Clone, Copy)]
 pub struct Day {
     pub name: &'static str,
-    /// How many calls the log takes.
+    /// The number of calls that the log takes.
     pub room: u32,
-    /// How many it has at the end, so that no call that no session made stands there.
+    /// The number of calls that it has at the end, so that no call that no session made stands there.
     pub calls: usize,
-    /// What is done while one token is out, before the office can't be closed.
+    /// The steps while one token is out, before the office can't be closed.
     pub before: &'static [Step],
-    /// What is done then, or from the beginning.
+    /// The steps after that, or from the beginning.
     pub steps: &'static [Step],
-    /// Whether no token is out at the end, and the office is closed. Else it is ended with the first token, where that
-    /// is held.
+    /// Whether no token is out at the end, and the office is closed. Else it is ended with the first token, if that is
+    /// held.
     pub closes: bool,
 }
 
@@ -95,7 +95,7 @@ pub fn end<L: Terms, R: Wait + Abort + AllocGlobal>(
     require(rt, ended.further() == 0, "no token is out");
 }
 
-/// Whether the front that was lent as a day ended has all calls, and a watch reads nothing.
+/// Whether the session's front at the end of a day has all calls, and a watch reads nothing.
 fn is_over<S: Calls>(rt: &impl Abort, hand: &mut S, day: Day) -> bool {
     let by = if day.closes { By::One } else { By::Two };
     let seen = hand.looks(rt, by, Call::Sees);
