@@ -25,7 +25,7 @@ use vpg_texts::verdicts_by;
 use vpg_verdict::Which;
 use vpg_why::{Limits, Moves, reachable, winning_moves};
 
-/// Returns the player whose moves are listed.
+/// Returns the player of the listed moves.
 fn player(mover: Which) -> Player
     ensures { result ≡ loser mover }
 {

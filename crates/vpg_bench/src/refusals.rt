@@ -1,13 +1,13 @@
 //! Calls that are refused memory: those of the libraries below an office, of an office and its sessions, and of a
 //! press.
 //!
-//! Each call is made with no memory at all, and with sixteen bytes more each time, until it is done. A line says what
-//! came of it: its name, and
+//! Each call is made with no memory at all, and with sixteen bytes more each time, until it is done. A line has its
+//! name, and
 //!
-//! - `takes no memory` where it was done with none;
-//! - `each growth refused in turn, unchanged` where each refusal was `Memory` and changed nothing, and it was done at
+//! - `takes no memory` if it was done with none;
+//! - `each growth refused in turn, unchanged` if each refusal was `Memory` and changed nothing, and it was done at
 //!   last;
-//! - words in capitals where that is not so.
+//! - words in capitals if that is not so.
 //!
 //! A desk is compared by value: its page, the tokens out, whether it is settled. A board is opened and closed until
 //! that is done: each time the order comes back with its tables unchanged, or a harvest of it is made. A sweep is made
@@ -98,7 +98,7 @@ fn refuse<R: Threads + Wait + Sync>(rt: &R, heap: &mut Heap, report: &mut Report
     refuse_of(rt, heap, report, &game, &diagram).context("nothing to call")
 }
 
-/// Makes each call with little memory, and writes what came of each.
+/// Makes each call with little memory, and writes the result of each.
 fn report_all<R: Threads + Wait + Sync + Print>(
     rt: &R,
     heap: &mut Heap,
@@ -109,7 +109,7 @@ fn report_all<R: Threads + Wait + Sync + Print>(
     Ok(())
 }
 
-/// Does so with the memory of the process, or marks each call where there is more than one word.
+/// Does so with the memory of the process, or marks each call if there is more than one word.
 pub(crate) fn report_within<R: Threads + Wait + Sync + Print>(
     rt: &R,
     alloc: Global,

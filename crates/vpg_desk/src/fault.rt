@@ -20,7 +20,7 @@ pub struct OpenRefused {
     pub diagram: Arc<Diagram>,
 }
 
-// Written by hand, as those below: what is handed back is not shown.
+// Written by hand, as those below: the values that come back are not shown.
 impl fmt::Debug for OpenRefused {
     fn fmt<W: fmt::Write>(&self, f: &mut fmt::Formatter<W>) -> fmt::Result {
         f.debug_struct("OpenRefused")

@@ -367,8 +367,8 @@ fn defaults(out: &mut Vec<u8>) -> Result<(), AllocError>
 /// if known in, grey if known out, white and dashed if open. Then comes the picture of each line of the text, in their
 /// order.
 ///
-/// `text` is the one that the diagram was read from, and `known` has what is known of each feature. `Err` leaves `out`
-/// as it was.
+/// `text` is the one that the diagram was read from, and `known` has the value of each feature. `Err` leaves `out` as
+/// it was.
 pub fn draw_features(
     alloc: Global,
     text: &[u8],

@@ -37,7 +37,7 @@ const SYSTEMS: [&str; 4] = [
     "elevator_system",
 ];
 
-/// Where a file of a family is.
+/// Returns the path of a file of a family.
 fn path_of(alloc: Global, family: &str, file: &str) -> Result<String, AllocError> {
     format!(in alloc; "{family}/{file}")
 }
@@ -53,7 +53,7 @@ fn script_of(rt: &HostRuntime, alloc: Global, family: &str) -> Result<File> {
     Ok(File::open(rt, path.as_str())?)
 }
 
-/// The family in a folder.
+/// Returns the family in a folder.
 fn family_in(rt: &HostRuntime, alloc: Global, name: &str) -> Result<Family> {
     let diagram = text_of(rt, alloc, name, "diagram")?;
     let game = text_of(rt, alloc, name, "game")?;

@@ -123,7 +123,7 @@ static CHECKS: [(&str, Check); 12] = [
     ("faults show themselves by their words", Check::ShownFaults),
 ];
 
-/// The place of the first row of a table that holds otherwise.
+/// Returns the place of the first row of a table that holds otherwise.
 fn first_other<R: Threads + Wait + Sync>(
     rt: &R,
     alloc: Global,

@@ -308,7 +308,7 @@ fn first_line(text: &str) -> (&str, &str) {
     text.split_once('\n').unwrap_or((text, ""))
 }
 
-/// Whether words are taken as their row says, and what is shown is no wider than a terminal.
+/// Whether words are taken as their row says, and the shown text is no wider than a terminal.
 fn holds(alloc: Global, row: &str) -> bool {
     let (words, wanted) = row.split_once(" = ").unwrap_or((row, ""));
     let taken = taken(alloc, words);

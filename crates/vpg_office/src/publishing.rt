@@ -18,7 +18,7 @@ use std::alloc::{AllocError, Global};
 use std::sync::{Arc, Wait};
 use vpg_watch::{NoPlace, Press, Sheet, Watch, WatchFault};
 
-/// Returns the sheet of a front at its end, where the desk is.
+/// Returns the sheet of this front. The desk is at its end.
 fn sheet_of<L: Terms>(
     alloc: Global,
     desk: &mut Replay,
@@ -59,7 +59,7 @@ pub(crate) fn opening_press<L: Terms, R: Wait>(
     }
 }
 
-/// Publishes the sheet of a front at its end, where the desk is. If there is no memory for it, the sheet shown before
+/// Publishes the sheet of this front. The desk is at its end. If there is no memory for the sheet, the one shown before
 /// stays.
 fn publish<L: Terms, R: Wait>(
     rt: &R,

@@ -1,7 +1,7 @@
 //! The program `vpgdesk`.
 //!
 //! Without words it reads a script of commands from standard input, carries it out on a desk over the built-in game and
-//! diagram, and writes the answers to standard output. `run` does so with the files of a game, a diagram and a script,
+//! diagram, and writes the answers to standard output. `run` does so with the files of a game, a diagram and a script.
 //! `project` writes the plain game of one product, `check` writes the counts and top measures of a game, and `lint`
 //! warns of a family. `draw` writes a picture, of the page that a script leaves if one is named. A system and its
 //! requirements may stand in place of the game, which `model` writes; and `draw` draws the system itself.

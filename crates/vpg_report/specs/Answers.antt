@@ -135,7 +135,7 @@ pub record IsSwept (family : Family) (sweeps : ℕ) (decisions : List Decision) 
   pub of_order : IsOf family decisions hopeful dual made
   pub moved : ¬ (Checks family made) → sum hopeful + sum dual + sweeps ≤ sum made.hopeful + sum made.dual
 
--- the order's tables with one vertex of one table lifted once, where that is greater
+-- the order's tables with one vertex of one table lifted once, if that is greater
 pub record IsLifted (setting : Setting) (table : Which) (v : ℕ) (decisions : List Decision) (hopeful dual : List ℕ)
     (made : Harvest) : Type 0 where
   pub of_order : IsOf (family_of setting) decisions hopeful dual made

@@ -42,8 +42,8 @@ IsKeptBy setting lifters most (Ordered decisions hopeful dual) held =
     ((held.harvests ≡ before ++ Some made ∷ []) × IsMadeBy setting lifters most decisions hopeful dual made)
 IsKeptBy setting lifters most _ held = ⊤
 
--- So were, of a command's calls and what is held after them, the harvest that a settle committed and the one that a
--- harvest kept. (Of other commands it says nothing.)
+-- The harvest that a settle committed, and the one that a harvest kept, were made so. (Of other commands it says
+-- nothing.)
 abbrev pub AreMadeBy : Setting → ℕ → script.Command → List Event → Held → Type 0
 AreMadeBy setting lifters (script.Settle n) (order ∷ commit ∷ calls) held =
     IsCommittedBy setting lifters (sweeps_of n) order.reply commit.call

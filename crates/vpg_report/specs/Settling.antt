@@ -32,7 +32,7 @@ abbrev pub settling : Scene → Machine Between
 settling scene old request text new =
     calling scene old request text new × TellsSettle request.command text × AreChecked scene new.held
 
--- Then the text, the book, the number of calls and what is held are one function of the scene, the lines and their
+-- In such runs the text, the book, the calls and what is held are one function of the scene, the lines and their
 -- meaning, whichever lawful harvests the lines made.
 abbrev pub SettledAnswersAreOne : Type 0
 SettledAnswersAreOne =

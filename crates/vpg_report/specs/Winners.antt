@@ -48,7 +48,7 @@ SaysVerdicts scene (script.Look (script.Vertices named)) verdicts text =
     (vertices : List ℕ) × (hopeful : List ℕ) × (dual : List ℕ) ×
     (map (vertex_of scene) named ≡ map Some vertices) ×
     (text ≡ verdict_lines scene hopeful dual verdicts vertices)
--- it compares the vertex's verdict with what is asserted
+-- it compares the vertex's verdict with the asserted ones
 SaysVerdicts scene (script.Look (script.Assert (script.Verdicts named claims))) verdicts text =
     (v : ℕ) × (settled : Bool) × (vertex_of scene named ≡ Some v) ×
     (text ≡ verdicts_text settled (seen_at verdicts v).hopeless (seen_at verdicts v).sure claims)

@@ -46,10 +46,10 @@ pub(crate) const ROOM: u32 = 1_048_576;
 /// The sweeps of a `harvest`, and of a `settle` without a number.
 const SWEEPS: u64 = 1_000_000;
 
-/// The client of an office, with its game and its diagram, the tokens that are held, and the harvests that were kept;
-/// also the verdicts that were reported last, none before the first time. Harvest K stands at place K - 1 until it is
-/// committed. What guesses derive from the game alone is kept from the first guess on. Contracts see the client, and
-/// what is held. An engine can't be dropped: `end` spends its tokens.
+/// The client of an office, with its game and its diagram. It holds tokens, the harvests that were kept, and the
+/// verdicts that were reported last, none before the first time. Harvest K stands at place K - 1 until it is committed.
+/// What guesses derive from the game alone is kept from the first guess on. Contracts see the client, and what is held.
+/// An engine can't be dropped: `end` spends its tokens.
 pub struct Engine<L: Terms> {
     game: Arc<GuardedGame>,
     diagram: Arc<Diagram>,

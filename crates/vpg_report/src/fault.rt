@@ -1,4 +1,4 @@
-//! Why a client's calls are not answered, and what comes back.
+//! Why a client's calls are not answered, and the values that come back.
 ghost use Rattle.std.specs.Prelude.{◌≤◌, length};
 ghost use Rattle.vpg_report.specs.Faults.{Sorts};
 

@@ -25,13 +25,13 @@
 //! calls of a line and writes its answer. Questions about the page are not its own: the server takes an order for them
 //! ([`Engine::order`]) and writes the answer.
 //!
-//! A client's state and its calls are defined in `specs/Client`, and its refused calls in `specs/Faults`. What lines
-//! leave held is defined in `specs/Held`, the calls on a desk's book and their answers in `specs/Answers` and
-//! `specs/Line`. `specs/Made` defines how harvests were made, and `specs/Engine` how an engine serves a line. Over
-//! these stand `specs/Requests`, `specs/Server` and `specs/Run`, with questions about the page; `specs/Output` defines
-//! a run's result. `specs/Runs` defines the text that a run on a family reads and writes, and how its end is reported.
-//! `specs/Winners` defines who wins by the text, `specs/Draws` which page is drawn, and `specs/Ends` the program's exit
-//! status. All are this project's own.
+//! A client's state and its calls are defined in `specs/Client`, and its refused calls in `specs/Faults`. The tokens,
+//! harvests and verdicts that lines leave are defined in `specs/Held`, the calls on a desk's book and their answers in
+//! `specs/Answers` and `specs/Line`. `specs/Made` defines how harvests were made, and `specs/Engine` how an engine
+//! serves a line. Over these stand `specs/Requests`, `specs/Server` and `specs/Run`, with questions about the page;
+//! `specs/Output` defines a run's result. `specs/Runs` defines the text that a run on a family reads and writes, and
+//! how its end is reported. `specs/Winners` defines who wins by the text, `specs/Draws` which page is drawn, and
+//! `specs/Ends` the program's exit status. All are this project's own.
 #![tactic(auto)]
 
 mod answering;

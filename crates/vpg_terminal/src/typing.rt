@@ -37,8 +37,8 @@ fn asked_of<'l>(words: &[Word<'l>]) -> Asked<'l> {
     }
 }
 
-/// The setting of a session: the list of commands, the names of features, and whether it writes prompts; the identifier
-/// of the game's first vertex, and the kind of the last answer.
+/// The setting of a session: the list of commands, the names of features, whether it writes prompts, the identifier of
+/// the first vertex, and the kind of the last answer.
 #[derive(Clone, Copy)]
 pub struct Setting<'c> {
     pub commands: &'c str,
@@ -385,7 +385,7 @@ impl<'c, R: Source, W: Sink> Session<'c, R, W> {
     }
 }
 
-/// A script that is typed in. It ends where its reader does, or at a line `quit`.
+/// A script that is typed in. It ends with its reader, or at a line `quit`.
 #[derive(Drop)]
 pub struct Typed<'c, R: Source, W> {
     session: Session<'c, R, W>,

@@ -21,7 +21,7 @@ pub enum By {
     Two,
 }
 
-/// Where a token is held.
+/// The place where a token is held.
 #[derive(Clone, Copy)]
 pub enum At {
     First,
@@ -58,7 +58,7 @@ pub enum Call {
     /// An order of the family of most examples, without decisions. The one seat of a board lifts each vertex once: the
     /// harvest that is held then.
     Seated,
-    /// Hands the harvest in that is held, which comes back where it isn't taken.
+    /// Hands in the harvest that is held, which comes back if it isn't taken.
     Commit,
     Settled,
     /// As `Settled`, by the front that the first session began with.
@@ -186,10 +186,10 @@ pub trait Calls {
         call: Call,
     ) -> Answer;
 
-    /// Looks at what sessions have, also once the office has ended.
+    /// Looks at the values that sessions have, also once the office has ended.
     fn looks<R: Abort>(&mut self, rt: &R, by: By, call: Call) -> Answer;
 
-    /// The harvest that is held.
+    /// Returns the harvest that is held.
     fn harvest(&mut self) -> &mut Option<Harvest>;
 }
 

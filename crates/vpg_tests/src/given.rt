@@ -33,7 +33,7 @@ pub fn given<T, F>(rt: &impl Abort, answer: Result<T, F>) -> T {
     }
 }
 
-/// Stops a test where this doesn't hold. It takes the prover less than `assert!`, which names the line.
+/// Stops a test if this doesn't hold. It takes the prover less than `assert!`, which names the line.
 pub fn require(rt: &impl Abort, holds: bool, why: &str) {
     if !holds {
         rt.panic(why)

@@ -15,7 +15,7 @@ use crate::text::two_of;
 use vpg_diagram::{Clause, Count, Diagram, MOST_RULES};
 use vpg_guards::Names;
 
-/// The features in order, and how many there are.
+/// Writes the features in order, and how many there are.
 fn put_names(names: &Names, line: &mut Line) {
     for place in 0..512u16 {
         if (place as usize) < names.len() {
@@ -43,7 +43,7 @@ fn put_set(set: &[bool], line: &mut Line) {
     }
 }
 
-/// The products among the first 32 sets.
+/// Writes the products among the first 32 sets.
 fn put_products(diagram: &Diagram, set: &mut [bool], line: &mut Line) {
     for _ in 0..32 {
         if set.len() == diagram.features() && diagram.is_product(set) {

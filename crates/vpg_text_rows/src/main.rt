@@ -14,7 +14,7 @@
 //! the program answers them alone.
 //!
 //! No function has more than one exit at which something is dropped: an answer goes into a `Line`, which also notes
-//! that memory ran out, and the program ends once a line lacks memory.
+//! that memory ran out. The program ends once a line lacks memory.
 #![tactic(auto)]
 
 mod arenas;

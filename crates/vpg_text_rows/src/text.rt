@@ -2,7 +2,7 @@
 //!
 //! `/` is a line feed, and a byte that can't be seen has its picture: `␉` a tab, `␋` a vertical tab, `␍` a carriage
 //! return, `␠` a blank at the end. `�` is a byte 255, which no text in UTF-8 has. `<N|PART>` is the part N times, one
-//! after the other; in it `#` is the number of the repetition, from 0, `%` twice that, and `@` one more than twice
+//! after the other. In it `#` is the number of the repetition, from 0, `%` twice that, and `@` one more than twice
 //! that.
 
 use crate::line::Line;

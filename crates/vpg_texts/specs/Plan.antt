@@ -22,8 +22,8 @@ abbrev pub AreChosen : List Tri → GuardedGame Formula → List ℕ → List (O
 AreChosen known game hopeful chosen =
     AreChoices (levels_for Hopeful game) (arena_for (kleene known) Hopeful game) hopeful chosen
 
--- Under what is known, each feature is known, both tables are progress tables, and the text has the choices of the
--- first.
+-- Under these known features, each feature is known, both tables are progress tables, and the text has the choices of
+-- the hopeful table.
 pub record PlansUnder (scene : Scene) (known : List Tri) (hopeful dual text : List ℕ) : Type 0 where
   pub full : AreAllKnown (length known) known
   pub settled : AreProgressTables known scene.game hopeful dual

@@ -88,7 +88,7 @@ abbrev pub table_text : Which → List ℕ
 table_text Hopeful = codes "hopeful"
 table_text Dual = codes "dual"
 
--- a decision with its serial; a lift of a vertex in a table, with the old and the new value and what it assumed
+-- a decision with its serial; a lift of a vertex in a table, with the old and the new value and its assumptions
 abbrev pub entry_line : List (List ℕ) → List ℕ → Entry → List ℕ
 entry_line names identifiers (Decided d) =
     deciding_text d.value ++ blank_name names d.feature ++ blank_number d.serial ++ 10 ∷ []

@@ -13,7 +13,7 @@
 //! the verdicts of a page, `verdicts_by` those of two tables, and `put_changed` writes which of them differ from some
 //! that were seen earlier.
 //!
-//! The texts are defined in `specs/Text`, `specs/Sights` and `specs/Changed`, and what they say of a page in
+//! The texts are defined in `specs/Text`, `specs/Sights` and `specs/Changed`, and their meaning for a page in
 //! `specs/Scene`, `specs/Picture` and `specs/Plan`. All are this project's own.
 #![tactic(auto)]
 

@@ -7,7 +7,7 @@ use Rattle.vpg_trail.specs.WellFormed.{LiftsStandAfter}
 use Rattle.vpg_trail.specs.declared.entry.Entry.{Entry}
 use Rattle.vpg_trail.specs.declared.entry.Entry.TheVariants.{Decide, Lift}
 
--- an entry of the code, with the list of what a lift assumed
+-- an entry of the code, with the list of the choices that a lift assumed
 abbrev pub entry_of : Entry → Step
 entry_of (Decide d) = Decided d
 entry_of (Lift table vertex old new under) =

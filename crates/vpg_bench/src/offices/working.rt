@@ -40,7 +40,7 @@ fn spend<L: Terms, R: Wait>(
     unreachable!()
 }
 
-/// Where the calls of a session stand in the log, from 1.
+/// The places of a session's calls in the log, from 1.
 #[derive(Clone, Copy)]
 struct Places {
     last: usize,
@@ -97,7 +97,7 @@ fn call_of(step: Step, feature: u16) -> Call {
     }
 }
 
-/// A feature's steps in their order, each call noted.
+/// Makes a feature's steps in their order, each call noted.
 fn round<L: Terms, R: Wait>(
     rt: &R,
     alloc: Global,
@@ -185,7 +185,7 @@ fn work<L: Terms, R: Wait>(
 /// More than there are jobs.
 const MOST_JOBS: usize = 1024;
 
-/// Does each job in a thread of its own. Where no thread can be made, the last goes first.
+/// Does each job in a thread of its own. If no thread can be made, the last goes first.
 fn at_once<L: Terms + Send + Sync, R: Threads + Wait + Sync>(
     rt: &R,
     alloc: Global,
@@ -328,8 +328,8 @@ fn add_jobs<L: Terms, R: Wait>(
     true
 }
 
-/// Returns the result of jobs if no call was refused. It is how many reads there were; or whether the calls of each
-/// session stand in order and all places add up to the sum of the first `calls` numbers from 1.
+/// Returns the result of jobs if no call was refused. It has the number of reads, or whether each session's calls stand
+/// in order and all places add up to the sum of the first `calls` numbers from 1.
 fn done_by<L: Terms>(jobs: &[Job<L>], task: Task, calls: usize) -> Option<Done> {
     let mut in_order = true;
     let mut sum = 0u64;
@@ -352,7 +352,7 @@ fn done_by<L: Terms>(jobs: &[Job<L>], task: Task, calls: usize) -> Option<Done> 
     })
 }
 
-/// Has sessions work at once, each in a thread of its own: what came of that, unless something is lacking or a call is
+/// Has sessions work at once, each in a thread of its own. Returns the result, unless something is missing or a call is
 /// refused.
 pub fn work_at_once<L: Terms + Send + Sync, R: Threads + Wait + Sync>(
     rt: &R,

@@ -26,7 +26,7 @@ enum Work {
     Sweep(u32),
 }
 
-/// The order after a board is opened and closed, and how that ended.
+/// Returns the order after a board is opened and closed, and how that ended.
 fn use_board(alloc: Global, order: Order) -> (Order, End) {
     match Board::open(alloc, order) {
         Ok((board, seat)) => match board.close(alloc, seat) {
@@ -37,7 +37,7 @@ fn use_board(alloc: Global, order: Order) -> (Order, End) {
     }
 }
 
-/// The order after work on it, and how that ended.
+/// Returns the order after work on it, and how that ended.
 fn worked<R: Threads + Wait + Sync>(
     rt: &R,
     alloc: Global,

@@ -122,7 +122,7 @@ struct Parts {
     /// A table of zeros.
     zeros: Table,
     trail: Trail,
-    /// Whether what was handed in to make an order last came back.
+    /// Whether the arguments of the order that was made last came back.
     is_back: bool,
 }
 
@@ -154,7 +154,7 @@ fn parts_of(alloc: Global, diagram: &Diagram, game: &GuardedGame) -> Option<Part
     })
 }
 
-/// A call, and what it is made of.
+/// A call, and the parts that it is made of.
 #[derive(Drop)]
 struct Calling<'t> {
     call: Call,

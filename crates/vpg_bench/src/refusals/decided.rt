@@ -122,7 +122,7 @@ pub(crate) fn make_strategy(alloc: Global, shape: &Shape, arena: &Arena, table: 
     }
 }
 
-/// The arena where a game has the features of what is known.
+/// Returns the hopeful arena of a game under these known features, if they are the game's.
 pub(crate) fn arena_of(alloc: Global, game: &GuardedGame, known: &Partial) -> Option<Arena> {
     if known.values().len() != game.features() {
         return None;

@@ -171,7 +171,7 @@ fn settle(alloc: Global, desk: &Desk, held: &mut Held) -> End {
     }
 }
 
-/// Hands the harvest in that is held, which adds two entries; where it is refused it is held still.
+/// Hands the held harvest in, which adds two entries; if it is refused it is still held.
 fn commit(alloc: Global, desk: &mut Desk, held: &mut Held) -> End {
     let Some(harvest) = held.harvest.take() else {
         return End::Otherwise;
@@ -225,7 +225,7 @@ impl<R: Wait> Trial<R> for Calling<'_> {
     }
 }
 
-/// Makes a call with little memory where it has a name, and with all memory where it has none.
+/// Makes a call with little memory if it has a name, and with all memory if it has none.
 fn try_call<R: Wait>(
     rt: &R,
     heap: &mut Heap,

@@ -28,7 +28,7 @@ fn opened(alloc: Global, game: Arc<GuardedGame>, diagram: Arc<Diagram>) -> Resul
     }
 }
 
-/// A desk on a game and a diagram; or how its opening ended.
+/// Returns a desk on a game and a diagram; or how its opening ended.
 pub(crate) fn open_on(
     alloc: Global,
     game: &Arc<GuardedGame>,

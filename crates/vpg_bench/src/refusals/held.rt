@@ -16,11 +16,11 @@ pub(crate) struct Held {
     pub(crate) harvest: Option<Harvest>,
     /// The desk's answers before the call.
     pub(crate) before: Option<Seen>,
-    /// Whether what was handed in to open a desk last came back.
+    /// Whether the arguments of the desk that was opened last came back.
     pub(crate) is_back: bool,
 }
 
-/// Nothing, held.
+/// Returns a holder of nothing.
 pub(crate) fn nothing() -> Held {
     Held {
         undo: None,
@@ -43,7 +43,7 @@ pub(crate) fn wait_for_token<R: Wait>(rt: &R, desk: &Desk)
     unreachable!()
 }
 
-/// Keeps a change, where there is a token.
+/// Keeps a change, if there is a token.
 pub(crate) fn keep<R: Wait>(rt: &R, desk: &mut Desk, token: Option<Undo>) {
     if let Some(token) = token {
         wait_for_token(rt, desk);
@@ -51,7 +51,7 @@ pub(crate) fn keep<R: Wait>(rt: &R, desk: &mut Desk, token: Option<Undo>) {
     }
 }
 
-/// Forgets an undone change, where there is a token.
+/// Forgets an undone change, if there is a token.
 pub(crate) fn forget<R: Wait>(rt: &R, desk: &mut Desk, token: Option<Redo>) {
     if let Some(token) = token {
         wait_for_token(rt, desk);

@@ -1,4 +1,4 @@
-//! A session's calls with what they gave, which is looked at once one was refused.
+//! A session's calls with their answers, which are checked once one was refused.
 
 ghost use Rattle.std.specs.Prelude.{◌<◌, length};
 
@@ -13,7 +13,7 @@ use vpg_trail::Page;
 use vpg_verdict::Which;
 use vpg_watch::Watch;
 
-/// A session's seat, and what its calls gave.
+/// A session's seat, and the answers to its calls.
 pub(crate) struct Caller<L: Terms> {
     pub(crate) seat: Seat<L>,
     /// The settled harvest of the order that was given last.
@@ -43,7 +43,7 @@ fn ended<L: Terms, T: Drop, F: Drop>(answer: Result<T, Fault<L, F>>) -> End {
     }
 }
 
-/// Keeps a harvest. Whoever lets one go himself takes the prover seconds.
+/// Keeps a harvest. A function that drops one itself takes the prover seconds.
 fn put_harvest(kept: &mut Option<Harvest>, harvest: Harvest) {
     *kept = Some(harvest);
 }
@@ -59,7 +59,7 @@ fn meet_page(kept: &mut Option<Page>, page: Page) -> End {
     }
 }
 
-/// Of how many calls the sheet is that the watch reads, if there is a watch.
+/// Returns the number of calls of the sheet that the watch reads, if there is a watch.
 pub(crate) fn shown<L: Terms>(caller: &mut Caller<L>) -> Option<usize> {
     let watch = caller.watch.as_mut()?;
     match read(watch) {

@@ -55,8 +55,8 @@ struct Try<'t> {
     bytes: usize,
 }
 
-/// Asks whether the page is settled until the log has one call less than its lists have room for. The row of calls
-/// asks ahead for its next part, and does without where that is refused: then the call that needs it asks again.
+/// Asks whether the page is settled until the log has one call less than its lists have room for. The row of calls asks
+/// ahead for its next part, and goes on without it if that is refused: then the call that needs it asks again.
 fn fill_up<L: Terms, R: Wait>(rt: &R, heap: &mut Heap, office: &Office<L>, caller: &mut Caller<L>)
     requires { 0 < length L.game.vertices }
 {
@@ -102,8 +102,8 @@ fn prepare<L: Terms, R: Wait>(
     held
 }
 
-/// The state of a caller, seen without a call. It is the length of the front, the number of calls of the sheet that is
-/// shown, whether there is a harvest, and the serial of the token that is held.
+/// The state of a caller, seen without a call: the front's length, the calls of the shown sheet, whether there is a
+/// harvest, and the serial of the held token.
 type Seen = (usize, Option<usize>, bool, Option<u64>);
 
 fn look_at<L: Terms>(caller: &mut Caller<L>, held: &Held<L>) -> Seen {

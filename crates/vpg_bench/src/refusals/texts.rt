@@ -236,7 +236,7 @@ fn put_page(
     Some(())
 }
 
-/// A decision, and a lift under another.
+/// Returns a decision, and a lift under another.
 fn entries_of(alloc: Global) -> Result<Entries, AllocError> {
     let literal = Literal {
         feature: 1,
@@ -254,7 +254,7 @@ fn entries_of(alloc: Global) -> Result<Entries, AllocError> {
     Ok(Entries::new(entries))
 }
 
-/// A page with all three features in, and its settled tables.
+/// Returns a page with all three features in, and its settled tables.
 fn page_of(alloc: Global) -> Result<Page, AllocError> {
     Ok(Page {
         decisions: Decisions::new(Vec::from_slice(alloc, &DECISIONS)?),

@@ -58,7 +58,7 @@ fn are_first(entries: &[Entry]) -> bool {
     true
 }
 
-/// Four times the next decision.
+/// Returns four times the next decision.
 fn suffix_of(alloc: Global) -> Result<Vec<Entry>, AllocError>
     ensures { IfOk result (λ s. map entry_of s.items ≡ Decided NEXT ∷ Decided NEXT ∷ Decided NEXT ∷ Decided NEXT ∷ []) }
 {

@@ -21,7 +21,7 @@ pub(crate) fn is_before(text: &[u8]) -> bool {
     text == BEFORE
 }
 
-/// Reads a guard and writes it: the guard that is written is within the names where it was read over them.
+/// Reads a guard and writes it: the written guard is within the names if it was read over them.
 pub(crate) fn write_guard(alloc: Global, names: &Names, out: &mut Vec<u8>) -> End {
     let guard = match parse_guard(alloc, b"!(f|g) & true", names) {
         Ok(guard) => guard,

@@ -46,7 +46,7 @@ static ROWS: [Row; 4] = [
     },
 ];
 
-/// The texts of a family.
+/// Returns the texts of a family.
 fn texts_of(alloc: Global, diagram: &str, game: &str) -> Result<Texts, AllocError> {
     Ok(Texts {
         diagram: Vec::from_slice(alloc, diagram.as_bytes())?,
@@ -114,7 +114,7 @@ fn is_text(text: Result<Vec<u8>, AllocError>, wanted: &str) -> bool {
     }
 }
 
-/// The place of the first row that doesn't hold.
+/// Returns the place of the first row that doesn't hold.
 pub(super) fn first_other<T: Threads + Wait + Sync>(rt: &T, alloc: Global) -> Option<usize> {
     for k in 0..ROWS.len() {
         if !is_text(written(rt, alloc, &ROWS[k]), ROWS[k].written) {

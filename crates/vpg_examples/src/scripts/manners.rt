@@ -217,7 +217,7 @@ fn is_answered<T: Threads + Wait + Sync>(
     )
 }
 
-/// The place of the first row that is answered otherwise.
+/// Returns the place of the first row that is answered otherwise.
 pub(super) fn first_other<T: Threads + Wait + Sync>(
     rt: &T,
     alloc: Global,
@@ -231,7 +231,7 @@ pub(super) fn first_other<T: Threads + Wait + Sync>(
     None
 }
 
-/// Whether a run that goes on ends where its reader fails within a line that is too long.
+/// Whether a run that goes on ends if its reader fails within a line that is too long.
 pub(super) fn ends_in_a_long_line<T: Threads + Wait + Sync>(
     rt: &T,
     alloc: Global,

@@ -74,7 +74,7 @@ fn is_answered<T: Threads + Wait + Sync>(rt: &T, alloc: Global, row: &Row) -> bo
     }
 }
 
-/// The place of the first row that is answered otherwise.
+/// Returns the place of the first row that is answered otherwise.
 pub(super) fn first_other<T: Threads + Wait + Sync>(rt: &T, alloc: Global) -> Option<usize> {
     for k in 0..ROWS.len() {
         if !is_answered(rt, alloc, &ROWS[k]) {

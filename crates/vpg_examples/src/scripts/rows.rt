@@ -94,7 +94,7 @@ fn is_answered<T: Threads + Wait + Sync>(
     }
 }
 
-/// The place of the first row of a table that is answered otherwise.
+/// Returns the place of the first row of a table that is answered otherwise.
 pub(super) fn first_other<T: Threads + Wait + Sync>(
     rt: &T,
     alloc: Global,
@@ -110,7 +110,7 @@ pub(super) fn first_other<T: Threads + Wait + Sync>(
     None
 }
 
-/// The rows of a table.
+/// Returns the rows of a table.
 fn rows_of(table: Worked) -> &'static [Row] {
     match table {
         Worked::Settling => &SETTLING,
@@ -485,7 +485,7 @@ static PICTURES: [Row; 2] = [
             -> 0 [label=\"!g | f & !!r\", style=dotted, color=gray70, fontcolor=gray50]; /   0 -> 7 \
             [label=\"!(f | g)\", style=dotted, color=gray70, fontcolor=gray50]; /   0 -> 0 [style=solid]; / }",
     },
-    // What can be reached: over any edge that may be there, by Odd's moves, by Even's, and where an edge is gone.
+    // Parts that can be reached: over any edge that may be there, by Odd's moves, by Even's, and if an edge is gone.
     Row {
         diagram: "root r\noptional r a\noptional r b\noptional r c\n",
         game: "0 1 1 1,2[c]; 1 1 0 0,3[a]; 2 0 1 2; 3 1 1 3; 4 0 0 4[b],5; 5 0 0 4,5[c];",
@@ -762,7 +762,8 @@ fn put_climbers(vertices: u32, text: &mut String) -> bool {
     done
 }
 
-/// With 62 odd priorities the top is 2^62, and the vertex of the greatest priority rises to it in two lifts.
+/// Whether a vertex rises to the limit: with 62 odd priorities the top is 2^62, and the vertex of the greatest priority
+/// rises to it in two lifts.
 pub(super) fn rises_to_the_limit<T: Threads + Wait + Sync>(rt: &T, alloc: Global) -> bool {
     let script =
         "lift hopeful 61 / lift hopeful 61 / lift hopeful 61 / lift hopeful 0 / lift dual 61 / trail";

@@ -141,7 +141,7 @@ fn is_refused<T: Threads + Wait + Sync>(
     is_served(rt, alloc, whole(text), 100, ended, answers)
 }
 
-/// The place of the first of these lines that is not refused so as a script of its own.
+/// Returns the place of the first of these lines that is not refused so as a script of its own.
 fn first_of<T: Threads + Wait + Sync>(
     rt: &T,
     alloc: Global,
@@ -156,7 +156,7 @@ fn first_of<T: Threads + Wait + Sync>(
     None
 }
 
-/// The place of the first line that is not refused as such a fault: for its words, or for its first word.
+/// Returns the place of the first line that is not refused as such a fault: for its words, or for its first word.
 pub(super) fn first_other<T: Threads + Wait + Sync>(
     rt: &T,
     alloc: Global,

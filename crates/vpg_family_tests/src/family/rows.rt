@@ -84,7 +84,7 @@ pub(super) fn row_of(writing: &str) -> Row<'_> {
 }
 
 /// The rows, each with a `§` after it. The parts of a row stand beside `¦`: a remark, the question, the texts of the
-/// diagram and of the game or their names, the text that the question is about, and the answer.
+/// diagram and of the game or their names, its text, and the answer.
 pub(super) static TABLES: [&str; 8] = [
     REFUSED, DONE, PICTURES, SYSTEMS, PAGES, PASSED, NAMED, WARNED,
 ];

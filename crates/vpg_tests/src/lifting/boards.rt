@@ -22,7 +22,7 @@ pub(crate) enum Sitting {
     Splits,
 }
 
-/// The board of an order, and its opening seat.
+/// Returns the board of an order, and its opening seat.
 fn board_of<R: Abort + AllocGlobal>(rt: &R, order: Order) -> (Board, Seat)
     ensures { result.1.board ≡ result.0 }
 {
@@ -82,7 +82,7 @@ fn splits_of(board: &Board, seat: &mut Seat, tries: usize) -> usize
     splits
 }
 
-/// Whether a seat splits 63 times and no more, and what it split off splits never.
+/// Whether a seat splits 63 times and no more, and the seats that it split off never split.
 fn splits_stop(board: &Board, seat: &mut Seat) -> bool
     requires { seat.old.board ≡ board.now }
     ensures { seat.new.board ≡ board.now }

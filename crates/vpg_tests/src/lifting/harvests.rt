@@ -1,4 +1,4 @@
-//! What is made of an order in turn: harvests, each of the order that the one before left.
+//! Harvests made of an order in turn, each of the order that the one before left.
 
 ghost use Rattle.std.specs.Prelude.{◌≤◌};
 
@@ -58,7 +58,7 @@ fn few(rt: &impl Abort, lifters: u32) -> u32
     lifters
 }
 
-/// The harvest of an order raised so.
+/// Returns the harvest of an order raised so.
 fn harvest<G: Gate + Sync, R: Threads + Wait + Abort + AllocGlobal + Sync>(
     rt: &R,
     gate: &G,

@@ -24,7 +24,7 @@ enum Until {
     Relay,
 }
 
-/// Where lifters meet: each waits in its first claim, and each first claim that went on in time is counted.
+/// The meeting of lifters: each waits in its first claim, and each first claim that went on in time is counted.
 #[derive(Drop)]
 struct Meeting {
     until: Until,
@@ -135,7 +135,7 @@ const ROWS: &[Row] = &[
     },
 ];
 
-/// Sweeps the small game, and stops where others come, or go on, than have to.
+/// Sweeps the small game, and stops if others come, or go on, than have to.
 fn meet<R: Threads + Wait + Abort + AllocGlobal + Sync>(rt: &R, row: &Row, k: usize) {
     let meeting = Meeting {
         until: row.until,

@@ -29,7 +29,7 @@ pub struct Day {
     pub closes: bool,
 }
 
-/// The office, which isn't closed since one token is out.
+/// Returns the office, which isn't closed since one token is out.
 fn kept_open<L: Terms>(rt: &impl Abort, closed: Result<Ended<L>, TokensOut<L>>) -> Office<L> {
     match closed {
         Ok(_ended) => rt.panic("closed"),
@@ -40,7 +40,7 @@ fn kept_open<L: Terms>(rt: &impl Abort, closed: Result<Ended<L>, TokensOut<L>>) 
     }
 }
 
-/// The office, which can't be closed. A front of no calls and one of the first session become its log.
+/// Returns the office, which can't be closed. A front of no calls and one of the first session become its log.
 fn refused<L: Terms, R: Wait + Abort>(rt: &R, office: Office<L>, hand: &mut Hand<L>) -> Office<L> {
     let office = kept_open(rt, office.close(rt)).unshare();
     hand.sitting.early = office.log();
@@ -49,7 +49,7 @@ fn refused<L: Terms, R: Wait + Abort>(rt: &R, office: Office<L>, hand: &mut Hand
     kept_open(rt, office.share().close(rt))
 }
 
-/// The token of a change, where one is held.
+/// Returns the token of a change, if one is held.
 fn undos_of<L: Terms, R: Abort + AllocGlobal>(rt: &R, held: Held<L>) -> Vec<Undo<L>> {
     let mut undos = Vec::new(rt.alloc());
     match held {
@@ -60,7 +60,7 @@ fn undos_of<L: Terms, R: Abort + AllocGlobal>(rt: &R, held: Held<L>) -> Vec<Undo
     undos
 }
 
-/// A watch from a front reads the sheet of that front or of a later one, where there is a place for it.
+/// Checks that a watch from a front reads the sheet of that front or of a later one, if there is a place for it.
 fn watches<L: Terms, R: Wait + Abort + AllocGlobal>(rt: &R, office: &Office<L>, front: &Front<L>) {
     if let Ok(mut watch) = office.watch_from(rt, rt.alloc(), front) {
         let sheet = given(rt, read(&mut watch));
@@ -72,7 +72,7 @@ fn watches<L: Terms, R: Wait + Abort + AllocGlobal>(rt: &R, office: &Office<L>, 
     }
 }
 
-/// Ends an office: closes it with no token out, or ends it with the first token, where that is held, and no other out.
+/// Ends an office: closes it with no token out, or ends it with the first token, if that is held, and no other out.
 pub fn end<L: Terms, R: Wait + Abort + AllocGlobal>(
     rt: &R,
     office: Office<L>,
@@ -109,7 +109,7 @@ const BEGIN: &[Step] = &[
     (By::Two, Call::Number, Answer::Joined(2, 0)),
 ];
 
-/// Two sessions make a day's calls on an office, which is ended then: the front has all calls, and a watch reads
+/// Makes a day's calls of two sessions on an office, which is ended then: the front has all calls, and a watch reads
 /// nothing.
 fn spend<L: Terms, R: Wait + Abort + AllocGlobal>(rt: &R, office: Office<L>, day: Day)
     requires { length L.game.vertices ≡ 2 }

@@ -64,7 +64,7 @@ struct Rush {
     is_late: bool,
 }
 
-/// Where the calls of a session stand in the log.
+/// The places of a session's calls in the log.
 #[derive(Clone, Copy)]
 struct Places {
     last: usize,
@@ -244,7 +244,7 @@ fn work<S: Calls, R: Threads + Wait + Abort + AllocGlobal + Sync>(
     }
 }
 
-/// A session, with a watch where it reads.
+/// A session, with a watch if it reads.
 #[derive(Drop)]
 struct Job<L: Terms> {
     seat: Seat<L>,
