@@ -304,6 +304,70 @@ def game_of(texts, is_plain=False):
     return Game(requirements.read_system(texts[0], names), formulas.read_requirements(texts[1]), finish)
 
 
+# ---- traces
+
+
+class Walk:
+    """A walk, depth first, over the vertices of a game: `goes` says where the moves from one lead, `value` is 0, 1 or 2
+    where a guard is false, open or true. It goes on from no vertex twice, nor from within 32 side branches."""
+
+    def __init__(self, game, goes, value, most=1000, deepest=32):
+        self.game, self.goes, self.value, self.most, self.deepest = game, goes, value, most, deepest
+        self.actions = list(dict.fromkeys(name for _, name, _, _ in game.system.transitions))
+
+    def step(self, v, w):
+        """The first transition by which the move goes that is there, or else may be there, as a line."""
+        state, place = self.game.pairs[v]
+        kind, inner, actions = self.game.parts.rows[place]
+        if kind not in ("some", "every"):
+            return None
+        for wanted, mark in ((2, ""), (1, " depends")):
+            for name, guard, target in self.game.steps.get(state, ()):
+                leads = self.game.pair(target, inner[0]) == self.game.pairs[w]
+                if leads and formulas.permits(actions, name) and self.value(guard) == wanted:
+                    told = "" if guard == ("true",) else f"[{requirements.guard_text(guard)}]"
+                    return f"{state} -{name}{told}-> {target}{mark}"
+        return None
+
+    def standing(self, v):
+        """What is where nobody moves."""
+        state, place = self.game.pairs[v]
+        kind, _, actions = self.game.parts.rows[place]
+        if kind in ("true", "false"):
+            return kind
+        if kind not in ("some", "every"):
+            return f"no move from {state}"
+        asked = [name for name in self.actions if formulas.permits(actions, name)]
+        return f"no {' '.join(asked) if len(asked) < len(self.actions) else 'step'} from {state}"
+
+    def end(self, v, before, depth, first):
+        """What ends a visit, or None where the walk goes on."""
+        if not self.goes(v):
+            return self.standing(v)
+        if v not in first:
+            return "cut" if depth >= self.deepest else None
+        while before is not None and before != first[v]:
+            before = self.before[before]
+        return f"{'seen' if before is None else 'loop to'} {self.game.pairs[v][0]}"
+
+    def lines(self, start):
+        first, self.before, steps = {}, [], 0
+        vertices, waiting = [], [(start, None, 0)]
+        while waiting and len(vertices) < self.most:
+            v, before, depth = waiting.pop(0)
+            at, step = len(vertices), None if before is None else self.step(vertices[before], v)
+            end = self.end(v, before, depth, first)
+            yield from ("  " * depth + line for line in (step, end) if line is not None)
+            steps += step is not None
+            vertices.append(v)
+            self.before.append(before)
+            first.setdefault(v, at)
+            if end is None:
+                depths = [min(depth + 1, self.deepest)] * (len(self.goes(v)) - 1) + [depth]
+                waiting = [(w, at, d) for w, d in zip(self.goes(v), depths)] + waiting
+        yield f"steps {steps}{' cut' if waiting else ''}"
+
+
 # ---- answers
 
 
@@ -408,6 +472,19 @@ class Desk(oracle.Desk):
 
     def makes_top(self, t, v):
         return lambda choices: self.known_tops(t, v, tuple(choices))
+
+    def trace(self, identifier):
+        """How the verdict at a vertex comes about: a walk along the winner's moves, in steps of the system."""
+        v = self.place(int(identifier))
+        tops = self.tops(v)
+        if not any(tops):
+            return f"possible {identifier} unsure"
+        mover = 1 if tops[0] else 0
+        values = self.known_values(oracle.closure(self.d, self.choices()))
+        game, moves = oracle.Table(self.game, values, mover, True), self.winning(mover, v)
+        goes = lambda i: [w for w in game.kept[i] if not game.even[i] or moves.get(i) == w]
+        walk = Walk(self.model, goes, lambda guard: oracle.parse_guard(requirements.guard_text(guard))(values))
+        return "\n".join([f"{('sure', 'hopeless')[mover]} {identifier}", *walk.lines(v)])
 
     def met(self, identifier, t, decided=None):
         name = self.requirement_at[str(identifier)]

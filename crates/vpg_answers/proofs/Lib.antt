@@ -5,6 +5,7 @@ pub mod OneMoves
 pub mod OneOffers
 pub mod OneParts
 pub mod OneRepairs
+pub mod OneTraces
 pub mod Pictures
 pub mod Repairing
 pub mod Telling

@@ -1,6 +1,6 @@
 -- Two answers are one text.
 use Rattle.std.proofs.Common.{◌≡◌, ℕ, Bool, true, false, List, [], ◌++◌, refl, sym, ap, ap₂, ◌∙◌, subst, inl, inr, append-nil, append_assoc}
-use Rattle.std.specs.Prelude.{◌⊎◌, codes, length, map, slice_index}
+use Rattle.std.specs.Prelude.{◌⊎◌, Option, codes, length, map, slice_index}
 use Rattle.vpg_diagram.specs.FeatureDiagram.{IsDiagram}
 use Rattle.vpg_measure.specs.TwoGames.{top_for}
 use Rattle.vpg_verdict.specs.declared.which.Which.{Which}
@@ -8,6 +8,7 @@ use Rattle.vpg_verdict.specs.declared.which.Which.TheVariants.{Hopeful, Dual}
 use Rattle.vpg_partial.specs.Known.{literal_of}
 use Rattle.vpg_partial.specs.TableLaws.{AreChoicesOf}
 use Rattle.vpg_partial.specs.declared.decision.Decision.{Decision}
+use Rattle.vpg_checking.specs.Behaviours.{Behaviour}
 use Rattle.vpg_script.specs.declared.command.PageQuestion.{PageQuestion}
 use Rattle.vpg_script.specs.declared.command.PageQuestion.TheVariants as whole
 use Rattle.vpg_script.specs.declared.command.VertexQuestion.{VertexQuestion}
@@ -34,6 +35,7 @@ use Rattle.vpg_answers.specs.Laws.{AnswersAreOne}
 use Rattle.vpg_answers.proofs.OneMoves.{tells_moves_one}
 use Rattle.vpg_answers.proofs.OneOffers.{offers_one}
 use Rattle.vpg_answers.proofs.OneParts.{tells_part_one}
+use Rattle.vpg_answers.proofs.OneTraces.{traced_one}
 use Rattle.vpg_answers.proofs.OneRepairs.{forced_one, repair_one}
 
 -- ---- doubts
@@ -189,29 +191,30 @@ module _ (scene : Scene) (limits others : Limits) (decisions : List Decision) (i
     lost_one one other (inr (inl a)) (inr (inr b)) sure also = absurd (also (inr (inr (inl b.1))))
     lost_one one other (inr (inr a)) b sure also = absurd (sure (inr (inr (inl a.1))))
 
-  of_vertex_one : (question : VertexQuestion) (vertex : ℕ) (hopeful dual one other : List ℕ) → TellsOfVertex scene limits question vertex decisions hopeful dual one →
-      TellsOfVertex scene others question vertex decisions hopeful dual other → ¬ (HasDoubt one) → ¬ (HasDoubt other) → one ≡ other
-  of_vertex_one questions.Why vertex hopeful dual one other a b sure also = vertex_one vertex hopeful dual one other a b sure also
-  of_vertex_one (questions.Example which) vertex hopeful dual one other a b sure also = example_one (aims.Won which vertex) one other a b sure also
-  of_vertex_one questions.Offer vertex hopeful dual one other a b sure also = offers_one scene limits others vertex decisions one other a b sure also
-  of_vertex_one questions.Needs vertex hopeful dual one other a b sure also = forced_one scene limits others (aims.Won Hopeful vertex) decisions one other a b sure also
-  of_vertex_one questions.Repair vertex hopeful dual one other a b sure also = repair_one scene limits others vertex decisions is named hopeful one other a b sure also
-  of_vertex_one (questions.Lost which) vertex hopeful dual one other a b sure also = lost_one (aims.Won which vertex) one other a b sure also
-  of_vertex_one (questions.Moves mover) vertex hopeful dual one other a b sure also =
+  of_vertex_one : (behaviour : Option Behaviour) (question : VertexQuestion) (vertex : ℕ) (hopeful dual one other : List ℕ) → TellsOfVertex behaviour scene limits question vertex decisions hopeful dual one →
+      TellsOfVertex behaviour scene others question vertex decisions hopeful dual other → ¬ (HasDoubt one) → ¬ (HasDoubt other) → one ≡ other
+  of_vertex_one behaviour questions.Why vertex hopeful dual one other a b sure also = vertex_one vertex hopeful dual one other a b sure also
+  of_vertex_one behaviour (questions.Example which) vertex hopeful dual one other a b sure also = example_one (aims.Won which vertex) one other a b sure also
+  of_vertex_one behaviour questions.Offer vertex hopeful dual one other a b sure also = offers_one scene limits others vertex decisions one other a b sure also
+  of_vertex_one behaviour questions.Needs vertex hopeful dual one other a b sure also = forced_one scene limits others (aims.Won Hopeful vertex) decisions one other a b sure also
+  of_vertex_one behaviour questions.Repair vertex hopeful dual one other a b sure also = repair_one scene limits others vertex decisions is named hopeful one other a b sure also
+  of_vertex_one behaviour (questions.Lost which) vertex hopeful dual one other a b sure also = lost_one (aims.Won which vertex) one other a b sure also
+  of_vertex_one behaviour (questions.Moves mover) vertex hopeful dual one other a b sure also =
       tells_moves_one scene limits others mover vertex decisions (table_in hopeful dual (other_table mover)) one other a b sure also
-  of_vertex_one questions.Draw vertex hopeful dual one other a b sure also = tells_part_one scene limits others vertex decisions hopeful dual one other a b sure also
+  of_vertex_one behaviour questions.Draw vertex hopeful dual one other a b sure also = tells_part_one scene limits others vertex decisions hopeful dual one other a b sure also
+  of_vertex_one behaviour questions.Trace vertex hopeful dual one other a b sure also = traced_one scene limits others vertex decisions hopeful dual behaviour one other a b sure also
 
   of_page_one : (question : PageQuestion) (one other : List ℕ) → TellsOfPage scene limits question decisions one → TellsOfPage scene others question decisions other → ¬ (HasDoubt one) → ¬ (HasDoubt other) → one ≡ other
   of_page_one whole.Forced one other a b sure also = forced_one scene limits others aims.Any decisions one other a b sure also
   of_page_one whole.Empty one other a b sure also = lost_one aims.Any one other a b sure also
 
-  tells_one : (query : Query) (hopeful dual one other : List ℕ) → Tells scene limits query decisions hopeful dual one → Tells scene others query decisions hopeful dual other →
+  tells_one : (behaviour : Option Behaviour) (query : Query) (hopeful dual one other : List ℕ) → Tells behaviour scene limits query decisions hopeful dual one → Tells behaviour scene others query decisions hopeful dual other →
       ¬ (HasDoubt one) → ¬ (HasDoubt other) → one ≡ other
-  tells_one (queries.OfVertex question vertex) hopeful dual one other a b sure also = of_vertex_one question vertex hopeful dual one other a b sure also
-  tells_one (queries.OfFeature feature) hopeful dual one other a b sure also = feature_one feature one other a b
-  tells_one (queries.OfChoice feature value) hopeful dual one other a b sure also = choice_one feature value one other a b
-  tells_one (queries.OfPage question) hopeful dual one other a b sure also = of_page_one question one other a b sure also
+  tells_one behaviour (queries.OfVertex question vertex) hopeful dual one other a b sure also = of_vertex_one behaviour question vertex hopeful dual one other a b sure also
+  tells_one behaviour (queries.OfFeature feature) hopeful dual one other a b sure also = feature_one feature one other a b
+  tells_one behaviour (queries.OfChoice feature value) hopeful dual one other a b sure also = choice_one feature value one other a b
+  tells_one behaviour (queries.OfPage question) hopeful dual one other a b sure also = of_page_one question one other a b sure also
 
 pub answers_are_one : AnswersAreOne
-answers_are_one scene limits others query decisions hopeful dual one other a b sure also =
-    tells_one scene limits others decisions a.diagram a.named query hopeful dual one other a.tells b.tells sure also
+answers_are_one behaviour scene limits others query decisions hopeful dual one other a b sure also =
+    tells_one scene limits others decisions a.diagram a.named behaviour query hopeful dual one other a.tells b.tells sure also

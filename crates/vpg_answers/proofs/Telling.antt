@@ -30,6 +30,7 @@ use Rattle.vpg_why.specs.declared.question.Limits.{Limits}
 use Rattle.vpg_why.specs.declared.question.Question.{Question}
 use Rattle.vpg_why.specs.declared.question.Question.TheVariants as asks
 use Rattle.vpg_why.proofs.Listing.{among_named}
+use Rattle.vpg_checking.specs.Behaviours.{Behaviour}
 use Rattle.vpg_answers.specs.declared.query.Query.{Query}
 use Rattle.vpg_answers.specs.Texts.{verdict_line, other_line, lost_line, known_line, not_known_line, conflict_line, no_conflict_line, product_line, none_line, unsettled_line, offers_text, forced_text}
 use Rattle.vpg_answers.specs.Answers.{identifier_of, TellsVerdict, TellsVertex, TellsKnownBy, IsNotKnown, TellsFeature, TellsChoice, TellsExample, TellsLost, TellsForced, TellsOffers, Tells, lost_for, forced_word, IsAnswer, Appends}
@@ -49,9 +50,9 @@ module _ (order : OrderView) (is : IsOrder order) where
   listed_below names names_is listed among =
       named_below order.diagram.lines (length names) listed (among_named order.diagram.lines (choices listed) (choices order.decisions) among is.named) (ap length names_is ∙ is.diagram.each_named)
 
-  pub answers : (limits : Limits) (query : Query) (before after : List ℕ) → Appends (Tells scene limits query order.decisions order.hopeful order.dual) before after →
-      Appends (IsAnswer scene limits query order.decisions order.hopeful order.dual) before after
-  answers limits query before after (text, (tells, appended)) = (text, (record { diagram = is.diagram.diagram; named = is.named; tells = tells }, appended))
+  pub answers : (behaviour : Option Behaviour) (limits : Limits) (query : Query) (before after : List ℕ) → Appends (Tells behaviour scene limits query order.decisions order.hopeful order.dual) before after →
+      Appends (IsAnswer behaviour scene limits query order.decisions order.hopeful order.dual) before after
+  answers behaviour limits query before after (text, (tells, appended)) = (text, (record { diagram = is.diagram.diagram; named = is.named; tells = tells }, appended))
 
 module _ (order : OrderView) (names : List (List ℕ)) (names_is : names ≡ order.diagram.names) where
   abbrev page : Scene

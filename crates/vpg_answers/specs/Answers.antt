@@ -1,5 +1,5 @@
--- The meaning of answers about a page. This project's own.
-use Rattle.std.specs.Prelude.{◌≡◌, ◌≢◌, ℕ, ◌<◌, ⊤, ◌⊎◌, Bool, true, false, Option, List, [], ◌++◌, codes, length, slice_index, IsTrue}
+-- What answers say of a page. This project's own.
+use Rattle.std.specs.Prelude.{◌≡◌, ◌≢◌, ℕ, ◌<◌, ⊤, ◌⊎◌, Bool, true, false, Option, Some, None, List, [], ◌++◌, codes, length, slice_index, IsTrue}
 use Rattle.vpg_guards.specs.declared.tri.Tri.{Tri}
 use Rattle.vpg_diagram.specs.FeatureDiagram.{IsDiagram}
 use Rattle.vpg_diagram.specs.declared.clause.Literal.{Literal}
@@ -11,6 +11,8 @@ use Rattle.vpg_why.specs.Moves.{AreWinning, ChoicesSettleInCaution}
 use Rattle.vpg_partial.specs.KnownLaws.{IsRemaining}
 use Rattle.vpg_partial.specs.TableLaws.{AreChoicesOf, IsKnownTable}
 use Rattle.vpg_partial.specs.declared.decision.Decision.{Decision}
+use Rattle.vpg_checking.specs.Behaviours.{Behaviour}
+use Rattle.vpg_trace.specs.Answering.{Page, TellsTrace}
 use Rattle.vpg_script.specs.declared.command.PageQuestion.{PageQuestion}
 use Rattle.vpg_script.specs.declared.command.PageQuestion.TheVariants as whole
 use Rattle.vpg_script.specs.declared.command.VertexQuestion.{VertexQuestion}
@@ -206,27 +208,50 @@ TellsMoves scene limits mover vertex decisions table text =
     ⊎ (¬ (slice_index table vertex ≡ top_for (other_table mover) scene.game)
     × (text ≡ other_line (other_table mover) (identifier_of scene vertex)))
 
+-- ---- traces
+
+-- what a trace is of: the scene, and a page with these decisions and tables
+abbrev pub page_in : Scene → List Decision → (hopeful dual : List ℕ) → Page
+page_in scene decisions hopeful dual = record {
+  game = scene.game;
+  identifiers = scene.identifiers;
+  features = scene.names;
+  lines = scene.lines;
+  decisions = decisions;
+  hopeful = hopeful;
+  dual = dual;
+}
+
+-- How the verdict comes about, as steps of the system that the game was made of. Without one nothing is told.
+abbrev pub TellsTraced : Option Behaviour → Scene → Limits → (vertex : ℕ) → List Decision →
+    (hopeful dual text : List ℕ) → Type 0
+TellsTraced None scene limits vertex decisions hopeful dual text = ⊥
+TellsTraced (Some behaviour) scene limits vertex decisions hopeful dual text =
+    TellsTrace (page_in scene decisions hopeful dual) behaviour limits vertex text
+
 -- ---- any
 
--- the answer to a question about a vertex
-abbrev pub TellsOfVertex : Scene → Limits → VertexQuestion → (vertex : ℕ) → List Decision →
+-- what is asked of a vertex
+abbrev pub TellsOfVertex : Option Behaviour → Scene → Limits → VertexQuestion → (vertex : ℕ) → List Decision →
     (hopeful dual text : List ℕ) → Type 0
-TellsOfVertex scene limits questions.Why vertex decisions hopeful dual text =
+TellsOfVertex behaviour scene limits questions.Why vertex decisions hopeful dual text =
     TellsVertex scene limits vertex decisions hopeful dual text
-TellsOfVertex scene limits (questions.Example which) vertex decisions hopeful dual text =
+TellsOfVertex behaviour scene limits (questions.Example which) vertex decisions hopeful dual text =
     TellsExample scene limits (aims.Won which vertex) decisions text
-TellsOfVertex scene limits questions.Offer vertex decisions hopeful dual text =
+TellsOfVertex behaviour scene limits questions.Offer vertex decisions hopeful dual text =
     TellsOffers scene limits vertex decisions text
-TellsOfVertex scene limits questions.Needs vertex decisions hopeful dual text =
+TellsOfVertex behaviour scene limits questions.Needs vertex decisions hopeful dual text =
     TellsForced scene limits (aims.Won Hopeful vertex) decisions text
-TellsOfVertex scene limits questions.Repair vertex decisions hopeful dual text =
+TellsOfVertex behaviour scene limits questions.Repair vertex decisions hopeful dual text =
     TellsRepair scene limits vertex decisions hopeful text
-TellsOfVertex scene limits (questions.Lost which) vertex decisions hopeful dual text =
+TellsOfVertex behaviour scene limits (questions.Lost which) vertex decisions hopeful dual text =
     TellsLost scene limits (aims.Won which vertex) decisions text
-TellsOfVertex scene limits (questions.Moves mover) vertex decisions hopeful dual text =
+TellsOfVertex behaviour scene limits (questions.Moves mover) vertex decisions hopeful dual text =
     TellsMoves scene limits mover vertex decisions (table_in hopeful dual (other_table mover)) text
-TellsOfVertex scene limits questions.Draw vertex decisions hopeful dual text =
+TellsOfVertex behaviour scene limits questions.Draw vertex decisions hopeful dual text =
     TellsPart scene limits vertex decisions hopeful dual text
+TellsOfVertex behaviour scene limits questions.Trace vertex decisions hopeful dual text =
+    TellsTraced behaviour scene limits vertex decisions hopeful dual text
 
 -- the answer to a question about the page as a whole: the features that all products left have or lack, or the
 -- decisions that leave none
@@ -234,33 +259,45 @@ abbrev pub TellsOfPage : Scene → Limits → PageQuestion → List Decision →
 TellsOfPage scene limits whole.Forced decisions text = TellsForced scene limits aims.Any decisions text
 TellsOfPage scene limits whole.Empty decisions text = TellsLost scene limits aims.Any decisions text
 
-abbrev pub Tells : Scene → Limits → Query → List Decision → (hopeful dual text : List ℕ) → Type 0
-Tells scene limits (queries.OfVertex question vertex) decisions hopeful dual text =
-    TellsOfVertex scene limits question vertex decisions hopeful dual text
-Tells scene limits (queries.OfFeature feature) decisions hopeful dual text = TellsFeature scene feature decisions text
-Tells scene limits (queries.OfChoice feature value) decisions hopeful dual text =
+abbrev pub Tells : Option Behaviour → Scene → Limits → Query → List Decision → (hopeful dual text : List ℕ) → Type 0
+Tells behaviour scene limits (queries.OfVertex question vertex) decisions hopeful dual text =
+    TellsOfVertex behaviour scene limits question vertex decisions hopeful dual text
+Tells behaviour scene limits (queries.OfFeature feature) decisions hopeful dual text =
+    TellsFeature scene feature decisions text
+Tells behaviour scene limits (queries.OfChoice feature value) decisions hopeful dual text =
     TellsChoice scene feature value decisions text
-Tells scene limits (queries.OfPage question) decisions hopeful dual text =
+Tells behaviour scene limits (queries.OfPage question) decisions hopeful dual text =
     TellsOfPage scene limits question decisions text
 
--- The text answers the query within these limits, for the page with these decisions and tables: decisions on a
--- diagram's features.
-pub record IsAnswer (scene : Scene) (limits : Limits) (query : Query) (decisions : List Decision)
-    (hopeful dual text : List ℕ) : Type 0 where
+-- The text answers what is asked within these limits, of the page with these decisions and tables: decisions of a
+-- diagram's features. Traces are of the system that the game was made of.
+pub record IsAnswer (behaviour : Option Behaviour) (scene : Scene) (limits : Limits) (query : Query)
+    (decisions : List Decision) (hopeful dual text : List ℕ) : Type 0 where
   pub diagram : IsDiagram scene.lines
   pub named : AreChoicesOf scene.lines (choices decisions)
-  pub tells : Tells scene limits query decisions hopeful dual text
+  pub tells : Tells behaviour scene limits query decisions hopeful dual text
 
 -- a text with the property was appended
 abbrev pub Appends : (List ℕ → Type 0) → (before after : List ℕ) → Type 0
 Appends Holds before after = (text : List ℕ) × (Holds text × (after ≡ before ++ text))
 
--- the vertex or the feature of the query is below these counts
-abbrev pub IsWithin : (vertices features : ℕ) → Query → Type 0
-IsWithin vertices features (queries.OfVertex question vertex) = vertex < vertices
-IsWithin vertices features (queries.OfFeature feature) = feature < features
-IsWithin vertices features (queries.OfChoice feature value) = feature < features
-IsWithin vertices features (queries.OfPage question) = ⊤
+-- the game was made of a system over so many features
+abbrev pub IsOver : ℕ → Option Behaviour → Type 0
+IsOver features None = ⊥
+IsOver features (Some behaviour) = behaviour.features ≡ features
+
+-- a trace is of such a system
+abbrev pub HasItsSystem : ℕ → Option Behaviour → VertexQuestion → Type 0
+HasItsSystem features behaviour questions.Trace = IsOver features behaviour
+HasItsSystem features behaviour _ = ⊤
+
+-- the vertex or the feature that is asked of is one of so many, and a trace is of a system
+abbrev pub IsWithin : Option Behaviour → (vertices features : ℕ) → Query → Type 0
+IsWithin behaviour vertices features (queries.OfVertex question vertex) =
+    (vertex < vertices) × HasItsSystem features behaviour question
+IsWithin behaviour vertices features (queries.OfFeature feature) = feature < features
+IsWithin behaviour vertices features (queries.OfChoice feature value) = feature < features
+IsWithin behaviour vertices features (queries.OfPage question) = ⊤
 
 -- A limit was met. Some line says that fewer decisions may do, or the text's end says that there may be more lines. Or
 -- the text gives some product, or only says that it is unsettled; or it is unsettled what some decision would change.

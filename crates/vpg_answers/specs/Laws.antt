@@ -1,5 +1,6 @@
--- The law of answers, as a statement.
-use Rattle.std.specs.Prelude.{◌≡◌, ℕ, List}
+-- What holds of answers, as a statement.
+use Rattle.std.specs.Prelude.{◌≡◌, ℕ, Option, List}
+use Rattle.vpg_checking.specs.Behaviours.{Behaviour}
 use Rattle.vpg_partial.specs.declared.decision.Decision.{Decision}
 use Rattle.vpg_texts.specs.Scene.{Scene}
 use Rattle.vpg_why.specs.declared.question.Limits.{Limits}
@@ -9,7 +10,8 @@ use Rattle.vpg_answers.specs.Answers.{IsAnswer, HasDoubt}
 -- Two answers to one question about one page are the same text if no limit was met, whatever the limits were.
 abbrev pub AnswersAreOne : Type 0
 AnswersAreOne =
-    (scene : Scene) (limits others : Limits) (query : Query) (decisions : List Decision)
+    (behaviour : Option Behaviour) (scene : Scene) (limits others : Limits) (query : Query) (decisions : List Decision)
     (hopeful dual one other : List ℕ) →
-    IsAnswer scene limits query decisions hopeful dual one → IsAnswer scene others query decisions hopeful dual other →
+    IsAnswer behaviour scene limits query decisions hopeful dual one →
+    IsAnswer behaviour scene others query decisions hopeful dual other →
     ¬ (HasDoubt one) → ¬ (HasDoubt other) → one ≡ other

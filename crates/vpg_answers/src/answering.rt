@@ -1,12 +1,13 @@
 //! Answers to queries.
 ghost use Rattle.std.specs.Prelude.{◌<◌, length, OnOk};
-ghost use Rattle.vpg_answers.specs.Answers.{Appends, IsAnswer, IsWithin, TellsOfPage, TellsOfVertex};
+ghost use Rattle.vpg_answers.specs.Answers.{Appends, HasItsSystem, IsAnswer, IsWithin, TellsOfPage, TellsOfVertex};
 ghost use Rattle.vpg_diagram.specs.FeatureDiagram.{feature_count};
 ghost use Rattle.vpg_texts.specs.Scene.{scene_of};
 
 use crate::query::Query;
-use crate::{drawing, examples, losses, needs, offers, reasons, repairs, winning};
+use crate::{drawing, examples, losses, needs, offers, reasons, repairs, traces, winning};
 use std::alloc::{AllocError, Global};
+use vpg_checking::Behaviour;
 use vpg_measure::Order;
 use vpg_script::{PageQuestion, VertexQuestion};
 use vpg_verdict::Which;
@@ -16,14 +17,16 @@ use vpg_why::{Aim, Limits};
 fn of_vertex(
     alloc: Global,
     order: &Order,
+    behaviour: &Option<Behaviour>,
     question: VertexQuestion,
     vertex: u32,
     limits: Limits,
     out: &mut Vec<u8>,
 ) -> Result<(), AllocError>
-    requires { vertex < length order.now.game.vertices }
+    requires vertex { vertex < length order.now.game.vertices }
+    requires system { HasItsSystem (feature_count order.now.diagram.lines) behaviour.now question }
     ensures { OnOk result (Appends
-        (TellsOfVertex (scene_of order.now.game order.now.diagram) limits question vertex order.now.decisions
+        (TellsOfVertex behaviour.now (scene_of order.now.game order.now.diagram) limits question vertex order.now.decisions
         order.now.hopeful order.now.dual) out.old.items out.new.items) }
 {
     match question {
@@ -42,6 +45,7 @@ fn of_vertex(
         }
         VertexQuestion::Moves(mover) => winning::moves(alloc, order, mover, vertex, limits, out),
         VertexQuestion::Draw => drawing::part(alloc, order, vertex, limits, out),
+        VertexQuestion::Trace => traces::trace(alloc, order, behaviour, vertex, limits, out),
     }
 }
 
@@ -67,20 +71,21 @@ fn of_page(
 fn told(
     alloc: Global,
     order: &Order,
+    behaviour: &Option<Behaviour>,
     query: Query,
     limits: Limits,
     out: &mut Vec<u8>,
 ) -> Result<(), AllocError>
-    requires { IsWithin (length order.now.game.vertices) (feature_count order.now.diagram.lines) query }
+    requires { IsWithin behaviour.now (length order.now.game.vertices) (feature_count order.now.diagram.lines) query }
     ensures { OnOk result (Appends
-        (IsAnswer (scene_of order.now.game order.now.diagram) limits query order.now.decisions order.now.hopeful order.now.dual)
-        out.old.items out.new.items) }
+        (IsAnswer behaviour.now (scene_of order.now.game order.now.diagram) limits query order.now.decisions
+        order.now.hopeful order.now.dual) out.old.items out.new.items) }
 {
     // The invariant of every order, for the proof.
     let _order = order.game();
     match query {
         Query::OfVertex { question, vertex } => {
-            of_vertex(alloc, order, question, vertex, limits, out)
+            of_vertex(alloc, order, behaviour, question, vertex, limits, out)
         }
         Query::OfFeature { feature } => reasons::feature(alloc, order, feature, out),
         Query::OfChoice { feature, value } => reasons::choice(alloc, order, feature, value, out),
@@ -91,18 +96,20 @@ fn told(
 /// Appends the answer to a query about an order's page. The one error is out of memory; a part may have been appended
 /// then.
 ///
-/// It takes the order, since dropping it costs the prover time: it is dropped only here.
+/// A trace needs the system that the order's game was made of, over the features of its diagram; no other query does.
+/// The order is taken, since to let it go costs the prover time: it is done here alone.
 pub fn answer(
     alloc: Global,
     order: Order,
+    behaviour: &Option<Behaviour>,
     query: Query,
     limits: Limits,
     out: &mut Vec<u8>,
 ) -> Result<(), AllocError>
-    requires { IsWithin (length order.game.vertices) (feature_count order.diagram.lines) query }
+    requires { IsWithin behaviour.now (length order.game.vertices) (feature_count order.diagram.lines) query }
     ensures { OnOk result (Appends
-        (IsAnswer (scene_of order.game order.diagram) limits query order.decisions order.hopeful order.dual)
-        out.old.items out.new.items) }
+        (IsAnswer behaviour.now (scene_of order.game order.diagram) limits query order.decisions order.hopeful
+        order.dual) out.old.items out.new.items) }
 {
-    told(alloc, &order, query, limits, out)
+    told(alloc, &order, behaviour, query, limits, out)
 }

@@ -8,6 +8,7 @@ use Rattle.vpg_trail.specs.Page.{Entry}
 use Rattle.vpg_desk.specs.Headline.{VerdictMeans}
 use Rattle.vpg_system.specs.SystemText.{NamedSystem}
 use Rattle.vpg_formula.specs.Requirements as written
+use Rattle.vpg_checking.specs.Behaviours.{Behaviour}
 use Rattle.vpg_checking.specs.Checking.{IsModelOfTexts}
 use Rattle.vpg_script.specs.Script as script
 use Rattle.vpg_script.specs.Script.{Request, Said, said}
@@ -20,18 +21,18 @@ use Rattle.vpg_report.specs.Winners.{AreTrue, SaysVerdicts, NamesWinners, naming
 use Rattle.vpg_report.proofs.Winning.{answers_name_winners}
 use Rattle.vpg_assured.specs.Assured.{AreTrueOfEntries, SpeaksOfEntries, speaking, AnswersSpeakOfRequirements}
 
-module _ (meaning : Request → Request) (scene : Scene) (lifters : ℕ) (system : NamedSystem) (entries : List written.Entry) (roots : List ℕ)
+module _ (meaning : Request → Request) (behaviour : Option Behaviour) (scene : Scene) (lifters : ℕ) (system : NamedSystem) (entries : List written.Entry) (roots : List ℕ)
     (true_of : (page : List Entry) (verdicts : List Verdict) → AreTrue scene page verdicts → AreTrueOfEntries scene system entries roots page verdicts) where
   speaks : (page : List Entry) (command : script.Command) (text : List ℕ) → NamesWinners scene page command text → SpeaksOfEntries scene system entries roots page command text
   speaks page command text (inl refused) = inl refused
   speaks page command text (inr names) = inr (names.0, names.1, true_of page names.0 names.1, names.2)
 
-  line : (old : Between) (s : Said) (text : List ℕ) (new : Between) → Speaks (as_meant meaning (naming scene lifters)) old s text new → Speaks (as_meant meaning (speaking scene lifters system entries roots)) old s text new
+  line : (old : Between) (s : Said) (text : List ℕ) (new : Between) → Speaks (as_meant meaning (naming behaviour scene lifters)) old s text new → Speaks (as_meant meaning (speaking behaviour scene lifters system entries roots)) old s text new
   line old (Ok None) text new so = so
   line old (Ok (Some request)) text new so = (so.0, speaks old.book.present (meaning request).command text so.1)
   line old (Err fault) text new so = absurd so
 
-  lines_speak : (old : Between) (lines : List (List ℕ)) (text : List ℕ) (new : Between) → Answered (as_meant meaning (naming scene lifters)) old lines text new → Answered (as_meant meaning (speaking scene lifters system entries roots)) old lines text new
+  lines_speak : (old : Between) (lines : List (List ℕ)) (text : List ℕ) (new : Between) → Answered (as_meant meaning (naming behaviour scene lifters)) old lines text new → Answered (as_meant meaning (speaking behaviour scene lifters system entries roots)) old lines text new
   lines_speak old [] text new so = so
   lines_speak old (l ∷ ls) text new so = (so.0, so.1, so.2, line old (said l) so.1 so.0 so.3, so.4, lines_speak so.0 ls so.2 new so.5)
 
@@ -49,6 +50,6 @@ true_of_entries game diagram system_text requirements_text roots made page verdi
     means = are.each (slice_index roots n) (made.model.models n below).vertex
 
 pub answers_speak_of_requirements : AnswersSpeakOfRequirements
-answers_speak_of_requirements meaning game diagram system_text requirements_text roots made lifters lines text new opens answered =
-    lines_speak meaning (scene_of game diagram) lifters made.system made.entries roots (true_of_entries game diagram system_text requirements_text roots made) begun lines text new
-    (answers_name_winners meaning game diagram lifters lines text new opens answered)
+answers_speak_of_requirements meaning behaviour game diagram system_text requirements_text roots made lifters lines text new opens answered =
+    lines_speak meaning behaviour (scene_of game diagram) lifters made.system made.entries roots (true_of_entries game diagram system_text requirements_text roots made) begun lines text new
+    (answers_name_winners meaning behaviour game diagram lifters lines text new opens answered)

@@ -1,6 +1,6 @@
--- The meaning of a run's answers for requirements, if its game is that of the texts of a system and of requirements.
--- This project's own.
-use Rattle.std.specs.Prelude.{◌≡◌, ◌⊎◌, ℕ, ◌<◌, Bool, List, length, slice_index, IsTrue}
+-- What a run says of requirements, where its game is that of the texts of a system and of requirements. This project's
+-- own.
+use Rattle.std.specs.Prelude.{◌≡◌, ◌⊎◌, ℕ, ◌<◌, Bool, Option, List, length, slice_index, IsTrue}
 use Rattle.vpg_verdict.specs.declared.verdict.Verdict.{Verdict}
 use Rattle.vpg_diagram.specs.DiagramText.{NamedDiagram}
 use Rattle.vpg_game.specs.Game.{NamedGame, graph_of}
@@ -9,6 +9,7 @@ use Rattle.vpg_trail.specs.Page.{Entry, choices_of}
 use Rattle.vpg_desk.specs.State.{IsOpened}
 use Rattle.vpg_system.specs.SystemText.{NamedSystem}
 use Rattle.vpg_formula.specs.Requirements as written
+use Rattle.vpg_checking.specs.Behaviours.{Behaviour}
 use Rattle.vpg_checking.specs.Checking.{EntryHoldsIn, IsModelOfTexts}
 use Rattle.vpg_script.specs.Script as script
 use Rattle.vpg_script.specs.Script.{Request}
@@ -37,21 +38,22 @@ SpeaksOfEntries scene system entries roots page command text =
     ((verdicts : List Verdict) × AreTrue scene page verdicts ×
     AreTrueOfEntries scene system entries roots page verdicts × SaysVerdicts scene command verdicts text)
 
--- Each request is answered as by a run, with verdicts that are true of the entries on the page at that point.
-abbrev pub speaking : Scene → ℕ → NamedSystem → List written.Entry → List ℕ → Machine Between
-speaking scene lifters system entries roots old request text new =
-    answering scene lifters old request text new ×
+-- Each request is answered as by a run, and by what is so of the entries on the page at that point.
+abbrev pub speaking : Option Behaviour → Scene → ℕ → NamedSystem → List written.Entry → List ℕ → Machine Between
+speaking behaviour scene lifters system entries roots old request text new =
+    answering behaviour scene lifters old request text new ×
     SpeaksOfEntries scene system entries roots old.book.present request.command text
 
 -- A run of an office on the game of two texts, of a system and of requirements, answers `show`, `assert` and `changed`.
 -- The verdicts in its answers are true of these requirements in this system, under any meaning of the lines.
 abbrev pub AnswersSpeakOfRequirements : Type 0
 AnswersSpeakOfRequirements =
-    (meaning : Request → Request) (game : NamedGame) (diagram : NamedDiagram)
+    (meaning : Request → Request) (behaviour : Option Behaviour) (game : NamedGame) (diagram : NamedDiagram)
     (system_text requirements_text : List ℕ) (roots : List ℕ)
     (made : IsModelOfTexts diagram.names diagram.lines system_text requirements_text (graph_of game) roots)
     (lifters : ℕ) (lines : List (List ℕ)) (text : List ℕ) (new : Between) →
     IsOpened game diagram →
-    Answered (as_meant meaning (answering (scene_of game diagram) lifters)) begun lines text new →
+    Answered (as_meant meaning (answering behaviour (scene_of game diagram) lifters)) begun lines text new →
     Answered
-    (as_meant meaning (speaking (scene_of game diagram) lifters made.system made.entries roots)) begun lines text new
+    (as_meant meaning (speaking behaviour (scene_of game diagram) lifters made.system made.entries roots)) begun lines
+    text new

@@ -1,3 +1,4 @@
+pub mod Behaviours
 pub mod Checking
 pub mod Faults
 pub mod Texts

@@ -1,9 +1,12 @@
 //! The game of a family.
-ghost use Rattle.std.specs.Prelude.{◌≡◌, ◌≤◌, List, map, bytes_eq, IfOk, IfErr};
+ghost use Rattle.std.specs.Prelude.{◌≡◌, ◌≤◌, List, length, map, bytes_eq, IfOk, IfErr};
 ghost use Rattle.vpg_diagram.specs.FeatureDiagram.{Line, feature_count};
 ghost use Rattle.vpg_game.specs.Game.{graph_of, vertex_ids, IsAtLimit};
-ghost use Rattle.vpg_model.specs.Pairs.{AreNumbered, pair_for};
+ghost use Rattle.vpg_model.specs.Forms.{HasLabels};
+ghost use Rattle.vpg_model.specs.Laws.{AreOfSystem};
+ghost use Rattle.vpg_model.specs.Pairs.{AreNumbered, HaveGuards, pair_for};
 ghost use Rattle.vpg_model.specs.Sharpening.{AreSharp};
+ghost use Rattle.vpg_model.specs.Sources.{system_of};
 ghost use Rattle.vpg_part_texts.specs.SetTexts.{set_text};
 ghost use Rattle.vpg_formula.specs.EntryCode.{entries_of, earlier_of};
 ghost use Rattle.vpg_formula.specs.Requirements as spec;
@@ -14,6 +17,7 @@ ghost use Rattle.vpg_checking.specs.Checking.{IsModelOfEntries, IsModelOfTexts, 
 ghost use Rattle.vpg_checking.specs.Faults.{IsCheckingFault, IsRequirementsFault};
 ghost use Rattle.vpg_checking.specs.Texts.{AreVerticesOf};
 
+use crate::behaviour::action_names;
 use crate::fault::CheckingFault;
 use indexmap::IndexSet;
 use std::alloc::Global;
@@ -49,6 +53,8 @@ pub struct Model {
     pub source: Source,
     /// The texts of the sets of actions that parts name.
     pub sets: Vec<Text>,
+    /// The names of the system's actions.
+    pub actions: Vec<Text>,
 }
 
 /// Whether the requirement has this name.
@@ -82,6 +88,12 @@ impl Model {
             model.pairs.keys model.roots.items (graph_of model.game)) }
         ensures sets { IfOk result (λ model.
             model.sets.items ≡ map (set_text system.actions) model.source.sets.items) }
+        ensures actions { IfOk result (λ model. model.actions.items ≡ system.actions) }
+        ensures system { IfOk result (λ model. AreOfSystem (length system.actions) (system_of system)
+            model.source.states.items system.first) }
+        ensures guards { IfOk result (λ model. HaveGuards model.source.features model.source.states.items) }
+        ensures labels { IfOk result (λ model. HasLabels (length model.actions.items) model.source.states.items) }
+        ensures over { IfOk result (λ model. model.source.features ≡ model.game.features) }
         ensures refused { IfErr result (IsRequirementsFault system text.now) }
     {
         requirements_are_positive();
@@ -93,6 +105,7 @@ impl Model {
             roots: places,
         } = parts_of(alloc, &forms)?;
         let texts = set_texts(alloc, &system, sets.as_slice())?;
+        let actions = action_names(alloc, &system)?;
         let source = Source::of(alloc, &system, sets, parts)?;
         let first = system.first();
         // The source has all of the system that the game is made of.
@@ -107,6 +120,7 @@ impl Model {
             places,
             source,
             sets: texts,
+            actions,
         })
     }
 
@@ -141,6 +155,15 @@ impl Model {
             model.roots.items (graph_of model.game)) }
         ensures sets { IfOk result (λ model. (s : NamedSystem) → IsTextOf diagram.now.names system.now s →
             model.sets.items ≡ map (set_text s.actions) model.source.sets.items) }
+        // It has the names of the system's actions, and the system's transitions by their sources. So what is told of a
+        // step of the source is so of the system.
+        ensures actions { IfOk result (λ model. (s : NamedSystem) → IsTextOf diagram.now.names system.now s →
+            model.actions.items ≡ s.actions) }
+        ensures system { IfOk result (λ model. (s : NamedSystem) → IsTextOf diagram.now.names system.now s →
+            AreOfSystem (length s.actions) (system_of s) model.source.states.items s.first) }
+        ensures guards { IfOk result (λ model. HaveGuards model.source.features model.source.states.items) }
+        ensures labels { IfOk result (λ model. HasLabels (length model.actions.items) model.source.states.items) }
+        ensures over { IfOk result (λ model. model.source.features ≡ model.game.features) }
         ensures refused { IfErr result (IsCheckingFault diagram.now.names system.now requirements.now) }
     {
         spelled_are_systems();

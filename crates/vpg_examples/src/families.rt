@@ -107,7 +107,7 @@ fn answer_called<T: Threads + Wait + Sync>(
         threads,
         alloc,
         family,
-        &known.callings,
+        &known.context,
         &mut reader,
         &mut writer,
         1,

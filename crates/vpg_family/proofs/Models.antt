@@ -8,6 +8,8 @@ use Rattle.vpg_formula.specs.Requirements.{AreRequirements, names_of}
 use Rattle.vpg_formula.specs.EntryCode.{entries_of}
 use Rattle.vpg_formula.specs.declared.requirement.Entry as code
 use Rattle.vpg_family.specs.Families.{entry_names, IsNameOfEntry, SpellsFamily, IsModelFault, IsModelled, IsModelledBy, AreTextsOf, IsFamilyOf, IsUnread}
+use Rattle.vpg_checking.specs.Behaviours.{Behaviour}
+use Rattle.vpg_family.specs.Made.{IsMade, AreTextsMadeOf, IsFamilyMadeOf}
 use Rattle.vpg_family.specs.declared.fault.Fault.{Fault}
 use Rattle.vpg_family.specs.declared.fault.Fault.TheVariants as told
 use Rattle.vpg_family.specs.declared.files.GamePaths.{GamePaths}
@@ -37,6 +39,20 @@ family_of_paths (paths.Model files) diagram_text game_text one other names verti
     subst (λ (t : List ℕ). SpellsFamily t other h.diagram h.game) (sym e) (subst (λ (t : List ℕ). SpellsFamily diagram_text t h.diagram h.game) (sym f) h.spelled)
     in
     (names, vertices, moved h.diagram d h.game g names vertices (only h.diagram h.game spelled) h.modelled)
+
+-- the same texts spell it
+pub spelled_there : (diagram_text game_text one other : List ℕ) (diagram : NamedDiagram) (game : NamedGame) → one ≡ diagram_text → other ≡ game_text → SpellsFamily diagram_text game_text diagram game → SpellsFamily one other diagram game
+spelled_there diagram_text game_text one other diagram game e f h =
+    subst (λ (t : List ℕ). SpellsFamily t other diagram game) (sym e) (subst (λ (t : List ℕ). SpellsFamily diagram_text t diagram game) (sym f) h)
+
+-- a family of texts that spell one family alone was made of what their paths say
+pub made_of_paths : (files : GamePaths) (diagram_text game_text : List ℕ) (d : NamedDiagram) (g : NamedGame) (behaviour : Option Behaviour)
+    → ((diagram : NamedDiagram) (game : NamedGame) → SpellsFamily diagram_text game_text diagram game → (d ≡ diagram) × (g ≡ game)) → AreTextsMadeOf files diagram_text game_text behaviour → IsFamilyMadeOf files d g behaviour
+made_of_paths (paths.Game path) diagram_text game_text d g behaviour only h = h
+made_of_paths (paths.System path) diagram_text game_text d g behaviour only h = h
+made_of_paths (paths.Model files) diagram_text game_text d g behaviour only h =
+    let same = only h.diagram h.game h.spelled in
+    subst (λ (x : NamedDiagram). IsMade x g behaviour) (sym same.0) (subst (λ (x : NamedGame). IsMade h.diagram x behaviour) (sym same.1) h.made)
 
 -- ---- the name of an entry
 

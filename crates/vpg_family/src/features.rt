@@ -6,8 +6,9 @@ use crate::warnings::{Sort, Warnings};
 use std::alloc::{AllocError, Global};
 use vpg_diagram::Diagram;
 use vpg_game::GuardedGame;
-use vpg_guards::Tri;
+use vpg_guards::{Guard, Tri};
 use vpg_places::{Declared, LINES, Part, declared_of, form_of, lines_of, words_of};
+use vpg_system::System;
 
 /// Returns the place where a feature is named first.
 fn declared_at(declared: &[Declared<'_>], f: usize) -> usize {
@@ -95,16 +96,13 @@ fn parents_of<'t>(alloc: Global, text: &'t [u8]) -> Result<Vec<&'t [u8]>, AllocE
 }
 
 /// Whether a feature has no children and no guard names it.
-fn is_unnamed(game: &GuardedGame, parents: &[&[u8]], f: usize, name: &[u8]) -> bool {
-    0 < f
-        && f < 512
-        && game.naming(f as u16).is_empty()
-        && !parents.iter().any(|parent| *parent == name)
+fn is_unnamed(named: &[bool], parents: &[&[u8]], f: usize, name: &[u8]) -> bool {
+    0 < f && named.get(f) == Some(&false) && !parents.iter().any(|parent| *parent == name)
 }
 
 /// Warns of features without children that no guard names.
 fn warn_of_unnamed(
-    game: &GuardedGame,
+    named: &[bool],
     parents: &[&[u8]],
     declared: &[Declared<'_>],
     warnings: &mut Warnings,
@@ -112,19 +110,19 @@ fn warn_of_unnamed(
     ensures { warnings.new.length ≡ warnings.old.length }
 {
     for (f, it) in declared.iter().enumerate() {
-        if f < 512 && is_unnamed(game, parents, f, it.name) {
+        if f < 512 && is_unnamed(named, parents, f, it.name) {
             warnings.warn(Sort::Unnamed, it.at, f as u32)?;
         }
     }
     Ok(())
 }
 
-/// Warns of a diagram, and of how a game uses it.
+/// Warns of a diagram, and of how guards use it.
 fn warn_of_diagram(
     alloc: Global,
     text: &[u8],
     diagram: &Diagram,
-    game: &GuardedGame,
+    named: &[bool],
     warnings: &mut Warnings,
 ) -> Result<(), AllocError>
     ensures { warnings.new.length ≡ warnings.old.length }
@@ -132,22 +130,52 @@ fn warn_of_diagram(
     let declared = declared_of(alloc, text)?;
     warn_of_products(alloc, diagram, &declared, warnings)?;
     let parents = parents_of(alloc, text)?;
-    warn_of_unnamed(game, &parents, &declared, warnings)
+    warn_of_unnamed(named, &parents, &declared, warnings)
 }
 
-/// Returns the warnings of a diagram that was read from a text, and of its use by a game. Reasons are: the diagram has
-/// no product, or propagation alone finds none; features in no product, as far as propagation shows it; features
-/// without children that no guard names.
+/// For each feature whether a guard of a game names it.
+pub(crate) fn named_in_game(alloc: Global, game: &GuardedGame) -> Result<Vec<bool>, AllocError> {
+    let mut named = Vec::new(alloc);
+    for f in 0..512u16 {
+        named.push(!game.naming(f).is_empty())?;
+    }
+    Ok(named)
+}
+
+/// Notes the features that a guard names.
+fn note_named(alloc: Global, guard: &Guard, named: &mut [bool]) -> Result<(), AllocError> {
+    let mut features = Vec::new(alloc);
+    guard.push_features(&mut features)?;
+    for f in &features {
+        if let Some(is_named) = named.get_mut(*f as usize) {
+            *is_named = true;
+        }
+    }
+    Ok(())
+}
+
+/// For each feature whether a guard of a system names it.
+pub(crate) fn named_in_system(alloc: Global, system: &System) -> Result<Vec<bool>, AllocError> {
+    let mut named = vec![in alloc; false; system.features()]?;
+    for transition in system.transitions() {
+        note_named(alloc, &transition.guard, &mut named)?;
+    }
+    Ok(named)
+}
+
+/// What looks wrong in a diagram that was read from a text, and in how guards use it, that name these features: that
+/// the diagram has no product, or that propagation alone finds none; features that are in no product, as far as
+/// propagation shows it; and features without children that no guard names.
 pub fn warnings_of_diagram(
     alloc: Global,
     text: &[u8],
     diagram: &Diagram,
-    game: &GuardedGame,
+    named: &[bool],
 ) -> Result<Warnings, AllocError>
     ensures { IfOk result (λ warnings. warnings.length ≡ length text.now) }
 {
     let mut warnings = Warnings::new(alloc, text.len());
-    match warn_of_diagram(alloc, text, diagram, game, &mut warnings) {
+    match warn_of_diagram(alloc, text, diagram, named, &mut warnings) {
         Ok(()) => Ok(warnings),
         Err(fault) => Err(fault),
     }

@@ -1,9 +1,10 @@
 //! The files that the words name.
 ghost use Rattle.std.specs.Arc.{arc_value};
-ghost use Rattle.std.specs.Prelude.{◌≡◌, ◌⊎◌, IfOk, IfErr};
+ghost use Rattle.std.specs.Prelude.{◌≡◌, ◌⊎◌, None, IfOk, IfErr};
 ghost use Rattle.vpg_diagram.specs.DiagramText.{IsTextOf};
 ghost use Rattle.vpg_diagram.specs.FeatureDiagram.{feature_count};
 ghost use Rattle.vpg_formula.specs.EntryCode.{earlier_of};
+ghost use Rattle.vpg_family.specs.Made.{AreTextsMadeOf, IsMadeBy};
 ghost use Rattle.vpg_family.specs.Families.{IsSpelled, IsUnread, IsSomeDiagram, IsModelledBy, AreTextsOf, IsFamilyOf};
 
 use crate::family::{Family, read_diagram};
@@ -13,6 +14,7 @@ use std::alloc::Global;
 use std::fs::{self, File};
 use std::io::{Error, ErrorKind};
 use std::rt::Files;
+use vpg_checking::Behaviour;
 use vpg_diagram::Diagram;
 use vpg_formula::Entry;
 
@@ -72,6 +74,10 @@ pub struct Texts {
     pub vertices: Vec<usize>,
     /// The text of the system. It is empty if the game has a file.
     pub system: Vec<u8>,
+    /// The text of the requirements. It is empty where the game has a file.
+    pub requirements: Vec<u8>,
+    /// What the game was made of. It is nothing where the game has a file.
+    pub behaviour: Option<Behaviour>,
 }
 
 /// Returns the text of a diagram, and that of a game's file.
@@ -82,6 +88,7 @@ fn game_texts<R: Files + AllocGlobal>(
     path: &str,
 ) -> Result<Texts, Fault>
     requires { IsSomeDiagram diagram.items }
+    ensures none { IfOk result (λ texts. texts.behaviour ≡ None) }
     ensures refused { IfErr result IsUnread }
 {
     match read_file(rt, path, Fault::GameUnreadable) {
@@ -91,6 +98,8 @@ fn game_texts<R: Files + AllocGlobal>(
             entries: Vec::new(alloc),
             vertices: Vec::new(alloc),
             system: Vec::new(alloc),
+            requirements: Vec::new(alloc),
+            behaviour: None,
         }),
         Err(fault) => Err(fault),
     }
@@ -104,6 +113,7 @@ fn system_texts<R: Files + AllocGlobal>(
     path: &str,
 ) -> Result<Texts, Fault>
     requires { IsSomeDiagram diagram.items }
+    ensures none { IfOk result (λ texts. texts.behaviour ≡ None) }
     ensures refused { IfErr result IsUnread }
 {
     match read_file(rt, path, Fault::SystemUnreadable) {
@@ -113,6 +123,8 @@ fn system_texts<R: Files + AllocGlobal>(
             entries: Vec::new(alloc),
             vertices: Vec::new(alloc),
             system,
+            requirements: Vec::new(alloc),
+            behaviour: None,
         }),
         Err(fault) => Err(fault),
     }
@@ -124,19 +136,21 @@ fn made_texts(
     text: Vec<u8>,
     diagram: &Diagram,
     system: Vec<u8>,
-    requirements: &[u8],
+    requirements: Vec<u8>,
 ) -> Result<Texts, Fault>
     requires { IsTextOf text.items diagram.now }
     ensures model { IfOk result (λ texts.
         IsModelledBy texts.diagram.items texts.game.items (earlier_of texts.entries.items) texts.vertices.items) }
+    ensures made { IfOk result (λ texts. IsMadeBy texts.diagram.items texts.game.items texts.behaviour) }
     ensures refused { IfErr result IsUnread }
 {
-    match model_of(alloc, diagram, &system, requirements) {
+    match model_of(alloc, diagram, &system, &requirements) {
         Ok(
             Modelled {
                 game,
                 entries,
                 vertices,
+                behaviour,
             },
         ) => Ok(Texts {
             diagram: text,
@@ -144,6 +158,8 @@ fn made_texts(
             entries,
             vertices,
             system,
+            requirements,
+            behaviour: Some(behaviour),
         }),
         Err(fault) => Err(fault),
     }
@@ -160,6 +176,7 @@ fn model_texts<R: Files + AllocGlobal>(
     requires { IsTextOf text.items diagram.now }
     ensures model { IfOk result (λ texts.
         IsModelledBy texts.diagram.items texts.game.items (earlier_of texts.entries.items) texts.vertices.items) }
+    ensures made { IfOk result (λ texts. IsMadeBy texts.diagram.items texts.game.items texts.behaviour) }
     ensures refused { IfErr result IsUnread }
 {
     let system = match read_file(rt, files.system, Fault::SystemUnreadable) {
@@ -170,7 +187,7 @@ fn model_texts<R: Files + AllocGlobal>(
         Ok(requirements) => requirements,
         Err(fault) => return Err(fault),
     };
-    made_texts(alloc, text, diagram, system, &requirements)
+    made_texts(alloc, text, diagram, system, requirements)
 }
 
 /// Returns the texts of a family's files. That of the diagram is read, and refused, before any other is. If a system
@@ -185,6 +202,8 @@ pub fn read_texts<R: Files + AllocGlobal>(
     ensures model { IfOk result (λ texts.
         AreTextsOf paths.entry.game texts.diagram.items texts.game.items (earlier_of texts.entries.items)
         texts.vertices.items) }
+    ensures made { IfOk result (λ texts.
+        AreTextsMadeOf paths.entry.game texts.diagram.items texts.game.items texts.behaviour) }
     ensures refused { IfErr result IsUnread }
 {
     let text = match read_file(rt, paths.diagram, Fault::DiagramUnreadable) {

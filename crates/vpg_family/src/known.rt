@@ -1,11 +1,13 @@
 //! A family with the names that lines may give its vertices.
 ghost use Rattle.std.specs.Arc.{arc_value};
-ghost use Rattle.std.specs.Prelude.{◌≡◌, ◌++◌, length, option_map, slice_get, IfErr, IfOk, OnOk};
+ghost use Rattle.std.specs.Prelude.{◌≡◌, ◌++◌, [], None, length, option_map, slice_get, IfErr, IfOk, OnOk};
 ghost use Rattle.vpg_diagram.specs.FeatureDiagram.{feature_count};
-ghost use Rattle.vpg_game.specs.Game.{vertex_ids};
+ghost use Rattle.vpg_diagram.specs.DiagramText.{NamedDiagram};
+ghost use Rattle.vpg_game.specs.Game.{NamedGame, vertex_ids};
 ghost use Rattle.vpg_formula.specs.EntryCode.{earlier_of};
 ghost use Rattle.vpg_script.specs.Script.{is_nonempty};
 ghost use Rattle.vpg_family.specs.Called.{AreCallings, IsCalledFamily, calling_of, callings_of, entry_calling, entry_callings, text_callings};
+ghost use Rattle.vpg_family.specs.Made.{IsFamilyMadeOf};
 ghost use Rattle.vpg_family.specs.Families.{IsFamilyFault, IsUnread, SpellsFamily};
 
 use crate::family::Family;
@@ -13,6 +15,7 @@ use crate::fault::Fault;
 use crate::files::{Paths, Texts, read_texts};
 use std::alloc::{AllocError, Global};
 use std::rt::Files;
+use vpg_checking::Behaviour;
 use vpg_formula::Entry;
 use vpg_game::GuardedGame;
 use vpg_names::VertexNames;
@@ -133,11 +136,32 @@ fn callings_of(
     Ok(callings)
 }
 
-/// A family, the names that its game's text gives vertices, and those that lines may give them.
+/// What lines of a script may speak of beside the family: the names by which they call its vertices, and what its game
+/// was made of, if it was made of a system and requirements.
+#[derive(Drop)]
+pub struct Context {
+    pub callings: Callings,
+    pub behaviour: Option<Behaviour>,
+}
+
+impl Context {
+    /// No names, and no system.
+    pub fn none(alloc: Global) -> Context
+        ensures callings { result.callings ≡ [] }
+        ensures behaviour { result.behaviour ≡ None }
+    {
+        Context {
+            callings: Callings::none(alloc),
+            behaviour: None,
+        }
+    }
+}
+
+/// A family, the names that its game's text gives vertices, and what lines may speak of beside it.
 pub struct Known {
     pub family: Family,
     pub names: VertexNames,
-    pub callings: Callings,
+    pub context: Context,
 }
 
 // Not derived: a derived `drop` would be proved again at each exit that owns such a value.
@@ -146,7 +170,7 @@ impl Drop for Known {
         let Known {
             family: _,
             names: _,
-            callings: _,
+            context: _,
         } = self;
     }
 }
@@ -158,9 +182,13 @@ impl Known {
             (arc_value known.family.diagram) (arc_value known.family.game)) }
         // Lines call a vertex by the name that the game's text gives it, and that of a requirement by its name.
         ensures called { IfOk result (λ known. AreCallings (arc_value known.family.game) texts.now.game.items
-            (earlier_of texts.now.entries.items) texts.now.vertices.items known.callings) }
+            (earlier_of texts.now.entries.items) texts.now.vertices.items known.context.callings) }
         ensures features { IfOk result (λ known.
             (arc_value known.family.game).features ≡ feature_count (arc_value known.family.diagram).lines) }
+        // What is spelled so is read.
+        ensures only { IfOk result (λ known. (diagram : NamedDiagram) (game : NamedGame) →
+            SpellsFamily texts.now.diagram.items texts.now.game.items diagram game →
+            (arc_value known.family.diagram ≡ diagram) × (arc_value known.family.game ≡ game)) }
         ensures refused { IfErr result (IsFamilyFault texts.now.diagram.items texts.now.game.items) }
     {
         let family = match Family::read(alloc, &texts.diagram, &texts.game) {
@@ -174,7 +202,10 @@ impl Known {
             Ok(callings) => Ok(Known {
                 family,
                 names,
-                callings,
+                context: Context {
+                    callings,
+                    behaviour: None,
+                },
             }),
             Err(_) => Err(Fault::Memory),
         }
@@ -190,7 +221,10 @@ pub fn read_known<R: Files + AllocGlobal>(
 ) -> Result<Known, Fault>
     // Each requirement's name stands for its vertex, if a system and requirements stand in place of the game.
     ensures called { IfOk result (λ known. IsCalledFamily paths.entry.game (arc_value known.family.diagram)
-        (arc_value known.family.game) known.callings) }
+        (arc_value known.family.game) known.context.callings) }
+    // What its game was made of is kept then, and is nothing else.
+    ensures made { IfOk result (λ known. IsFamilyMadeOf paths.entry.game (arc_value known.family.diagram)
+        (arc_value known.family.game) known.context.behaviour) }
     ensures features { IfOk result (λ known.
         (arc_value known.family.game).features ≡ feature_count (arc_value known.family.diagram).lines) }
     ensures refused { IfErr result IsUnread }
@@ -200,7 +234,11 @@ pub fn read_known<R: Files + AllocGlobal>(
         Err(unread) => return Err(unread),
     };
     match Known::read(alloc, &texts) {
-        Ok(known) => Ok(known),
+        Ok(mut known) => {
+            let Texts { behaviour, .. } = texts;
+            known.context.behaviour = behaviour;
+            Ok(known)
+        }
         Err(fault) => Err(fault),
     }
 }

@@ -33,6 +33,7 @@ mod pages;
 mod parts;
 mod pictured;
 mod products;
+mod system_warnings;
 mod systems;
 mod telling;
 mod warnings;
@@ -46,7 +47,7 @@ pub use fault::Fault;
 pub use files::{
     GamePaths, ModelPaths, Paths, Texts, open_script, read_family, read_script, read_texts,
 };
-pub use known::{Known, read_known};
+pub use known::{Context, Known, read_known};
 pub use linting::linted;
 pub use pages::redrawn;
 pub use pictured::Pictured;

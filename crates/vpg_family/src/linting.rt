@@ -4,64 +4,108 @@ ghost use Rattle.vpg_family.specs.Families.{IsFamilyFault};
 
 use crate::family::{read_diagram, read_game};
 use crate::fault::Fault;
-use crate::files::{GamePaths, Paths};
-use crate::writing::{File, put_warned, put_warned_of_diagram};
+use crate::files::{GamePaths, ModelPaths, Paths, Texts};
+use crate::systems::read_system;
+use crate::writing::{File, put_warned, put_warned_of_system};
 use std::alloc::{AllocError, Global};
 use vpg_diagram::Diagram;
 use vpg_game::GuardedGame;
 
-/// Returns lines of warnings of a family that was read from these texts.
-fn warned(
+/// Lines of warnings of a diagram and a game that were read from these texts.
+fn warned_of_game(
     alloc: Global,
-    paths: Paths<'_>,
-    diagram_text: &[u8],
-    game_text: &[u8],
+    of_diagram: File<'_>,
+    of_game: File<'_>,
     diagram: &Diagram,
     game: &GuardedGame,
 ) -> Result<Vec<u8>, AllocError> {
-    let of_diagram = File {
-        name: paths.diagram,
-        text: diagram_text,
-    };
     let mut lines = Vec::new(alloc);
-    let put = match paths.game {
-        GamePaths::Game(name) => {
-            let of_game = File {
-                name,
-                text: game_text,
-            };
-            put_warned(alloc, of_diagram, of_game, diagram, game, &mut lines)
-        }
-        GamePaths::Model(_) | GamePaths::System(_) => {
-            put_warned_of_diagram(alloc, of_diagram, game_text, diagram, game, &mut lines)
-        }
-    };
-    match put {
+    match put_warned(alloc, of_diagram, of_game, diagram, game, &mut lines) {
         Ok(()) => Ok(lines),
         Err(fault) => Err(fault),
     }
 }
 
-/// Returns lines that warn of the family that the texts of these files spell, and a last one that counts the warnings.
-/// A fault of the diagram comes before any of the game. A game that was made from a system and its requirements gets no
-/// warnings: vertices without moves are no news in it.
-pub fn linted(
+/// Lines of warnings of a diagram, a system and its requirements that were read from these texts before.
+fn warned_of_system(
+    alloc: Global,
+    of_diagram: File<'_>,
+    files: ModelPaths<'_>,
+    texts: &Texts,
+    diagram: &Diagram,
+) -> Result<Vec<u8>, AllocError> {
+    let Ok(system) = read_system(alloc, &texts.system, diagram) else {
+        return Err(AllocError);
+    };
+    let of_system = File {
+        name: files.system,
+        text: &texts.system,
+    };
+    let of_requirements = File {
+        name: files.requirements,
+        text: &texts.requirements,
+    };
+    let mut lines = Vec::new(alloc);
+    match put_warned_of_system(
+        alloc,
+        of_diagram,
+        of_system,
+        of_requirements,
+        diagram,
+        &system,
+        &mut lines,
+    ) {
+        Ok(()) => Ok(lines),
+        Err(fault) => Err(fault),
+    }
+}
+
+/// Lines of warnings of a family that was read from these texts.
+fn warned(
     alloc: Global,
     paths: Paths<'_>,
-    diagram_text: &[u8],
-    game_text: &[u8],
-) -> Result<Vec<u8>, Fault>
-    ensures { IfErr result (IsFamilyFault diagram_text.now game_text.now) }
+    texts: &Texts,
+    diagram: &Diagram,
+    game: &GuardedGame,
+) -> Result<Vec<u8>, AllocError> {
+    let of_diagram = File {
+        name: paths.diagram,
+        text: &texts.diagram,
+    };
+    match paths.game {
+        GamePaths::Game(name) => {
+            let of_game = File {
+                name,
+                text: &texts.game,
+            };
+            warned_of_game(alloc, of_diagram, of_game, diagram, game)
+        }
+        GamePaths::Model(files) => warned_of_system(alloc, of_diagram, files, texts, diagram),
+        GamePaths::System(name) => {
+            let of_game = File {
+                name,
+                text: &texts.game,
+            };
+            warned_of_game(alloc, of_diagram, of_game, diagram, game)
+        }
+    }
+}
+
+/// Lines that warn of what looks wrong in the family that the texts of these files spell, and a last one that counts
+/// the warnings. A fault of the diagram is told before any of the game. Where the game is made from a system and its
+/// requirements, these are warned of in its place.
+pub fn linted(alloc: Global, paths: Paths<'_>, texts: &Texts) -> Result<Vec<u8>, Fault>
+    ensures { IfErr result (IsFamilyFault texts.now.diagram.items texts.now.game.items) }
 {
-    let diagram = match read_diagram(alloc, diagram_text) {
+    let diagram = match read_diagram(alloc, &texts.diagram) {
         Ok(diagram) => diagram,
         Err(fault) => return Err(fault),
     };
-    let game = match read_game(alloc, game_text, &diagram) {
+    let game = match read_game(alloc, &texts.game, &diagram) {
         Ok(game) => game,
         Err(fault) => return Err(fault),
     };
-    match warned(alloc, paths, diagram_text, game_text, &diagram, &game) {
+    match warned(alloc, paths, texts, &diagram, &game) {
         Ok(lines) => Ok(lines),
         Err(_) => Err(Fault::Memory),
     }

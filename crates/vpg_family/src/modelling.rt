@@ -5,10 +5,11 @@ ghost use Rattle.vpg_game.specs.Game.{NamedGame, SpellsGame};
 ghost use Rattle.vpg_formula.specs.EntryCode.{earlier_of};
 ghost use Rattle.vpg_checking.specs.Faults.{IsCheckingFault};
 ghost use Rattle.vpg_family.specs.Families.{IsNameOfEntry, IsModelFault, IsModelOver};
+ghost use Rattle.vpg_family.specs.Made.{IsMadeOf};
 
 use crate::fault::Fault;
 use std::alloc::Global;
-use vpg_checking::{CheckingFault, Model};
+use vpg_checking::{Behaviour, CheckingFault, Model};
 use vpg_diagram::Diagram;
 use vpg_formula::{Entry, Requirements};
 
@@ -44,12 +45,13 @@ fn told_of(alloc: Global, requirements: &[u8], fault: CheckingFault) -> Fault
     }
 }
 
-/// The text of the game of a system and its requirements, these, and the vertex of each.
+/// The text of the game of a system and its requirements, these, the vertex of each, and what the game was made of.
 #[derive(Drop)]
 pub(crate) struct Modelled {
     pub(crate) game: Vec<u8>,
     pub(crate) entries: Vec<Entry>,
     pub(crate) vertices: Vec<usize>,
+    pub(crate) behaviour: Behaviour,
 }
 
 /// Returns the game of a system and its requirements over a diagram, by their texts.
@@ -60,7 +62,8 @@ pub(crate) fn model_of(
     requirements: &[u8],
 ) -> Result<Modelled, Fault>
     ensures found { IfOk result (λ made. (game : NamedGame) × SpellsGame diagram.now.names made.game.items game ×
-        IsModelOver diagram.now system.now requirements.now game (earlier_of made.entries.items) made.vertices.items) }
+        IsModelOver diagram.now system.now requirements.now game (earlier_of made.entries.items) made.vertices.items ×
+        IsMadeOf diagram.now system.now game made.behaviour) }
     ensures refused { IfErr result (IsModelFault diagram.now system.now requirements.now) }
 {
     let model = match Model::read(alloc, system, requirements, diagram) {
@@ -74,11 +77,15 @@ pub(crate) fn model_of(
     let Model {
         roots,
         requirements,
+        pairs,
+        source,
+        actions,
         ..
     } = model;
     Ok(Modelled {
         game,
         entries: requirements.entries,
         vertices: roots,
+        behaviour: Behaviour::of(actions, source, pairs),
     })
 }

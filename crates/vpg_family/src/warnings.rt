@@ -21,6 +21,14 @@ pub enum Sort {
     NoStart,
     /// A vertex that can't be reached from the start.
     Unreached,
+    /// A state that can't be reached from the first one.
+    NoPath,
+    /// A guard that no product meets.
+    Unmet,
+    /// An action of a system that no requirement names.
+    Unasked,
+    /// An action of a requirement that no transition has.
+    NoAction,
 }
 
 /// A warning.
@@ -29,7 +37,7 @@ pub struct Warning {
     pub sort: Sort,
     /// The offset of its place in the text.
     pub at: usize,
-    /// The feature or the vertex of the warning, 0 if it has none.
+    /// The feature, the vertex, the state or the action that it is of, or the length of a word; 0 where it is of none.
     pub index: u32,
 }
 

@@ -1,22 +1,25 @@
 //! The text of warnings.
 ghost use Rattle.std.specs.Prelude.{◌≡◌, ◌≤◌, length};
+ghost use Rattle.vpg_diagram.specs.FeatureDiagram.{feature_count};
 
-use crate::features::warnings_of_diagram;
+use crate::features::{named_in_game, named_in_system, warnings_of_diagram};
 use crate::moves::warnings_of_game;
+use crate::system_warnings::{warnings_of_requirements, warnings_of_system};
 use crate::warnings::{Sort, Warning, Warnings};
 use std::alloc::{AllocError, Global};
 use vpg_diagram::Diagram;
 use vpg_game::{GuardedGame, Player};
 use vpg_guards::Names;
-use vpg_lint::{put_number, put_place, put_shown, put_text};
+use vpg_lint::{nearest_of, put_number, put_place, put_shown, put_text};
 use vpg_names::VertexNames;
 use vpg_places::place_of;
+use vpg_system::System;
 
 /// The number of warnings of each sort that are written with their places.
 const MOST_TOLD: usize = 10;
 
 /// The sorts, in the order in which they are written.
-const SORTS: [Sort; 7] = [
+const SORTS: [Sort; 11] = [
     Sort::NoProduct,
     Sort::NoneFound,
     Sort::Dead,
@@ -24,6 +27,10 @@ const SORTS: [Sort; 7] = [
     Sort::Stuck,
     Sort::NoStart,
     Sort::Unreached,
+    Sort::NoPath,
+    Sort::Unmet,
+    Sort::Unasked,
+    Sort::NoAction,
 ];
 
 /// Returns the words for the warnings of a sort.
@@ -36,6 +43,10 @@ fn called(sort: Sort) -> &'static [u8] {
         Sort::Stuck => b"vertices without moves",
         Sort::NoStart => b"starts that are no vertices",
         Sort::Unreached => b"vertices that cannot be reached from the start",
+        Sort::NoPath => b"states that cannot be reached from the first state",
+        Sort::Unmet => b"guards that are true in no product",
+        Sort::Unasked => b"actions that no requirement names",
+        Sort::NoAction => b"actions that no transition has",
     }
 }
 
@@ -89,29 +100,67 @@ fn loss_of(game: &GuardedGame, v: u32) -> &'static [u8] {
     }
 }
 
-/// Appends the message of a warning.
-fn put_said(
-    features: &Names,
-    game: &GuardedGame,
-    names: &VertexNames,
-    warning: Warning,
+/// Appends what is wrong with a state.
+fn put_state(s: u32, out: &mut Vec<u8>) -> Result<(), AllocError> {
+    out.extend_from_slice(b"state ")?;
+    put_number(s as usize, out)?;
+    out.extend_from_slice(b" cannot be reached from the first state")
+}
+
+/// Appends what is wrong with an action.
+fn put_action(system: &System, action: u32, out: &mut Vec<u8>) -> Result<(), AllocError> {
+    if action as usize >= system.actions() {
+        return Ok(());
+    }
+    out.extend_from_slice(b"`")?;
+    put_shown(system.action_name(action as usize), out)?;
+    out.extend_from_slice(b"` is named by no requirement")
+}
+
+/// The names of a system's actions.
+fn names_of_actions(alloc: Global, system: &System) -> Result<Vec<&[u8]>, AllocError> {
+    let mut names = Vec::new(alloc);
+    for action in 0..system.actions() {
+        names.push(system.action_name(action))?;
+    }
+    Ok(names)
+}
+
+/// The name that a word names: the word without its quotes, if it stands in quotes.
+fn unquoted(word: &[u8]) -> &[u8] {
+    match word {
+        [b'"', inside @ .., b'"'] => inside,
+        _ => word,
+    }
+}
+
+/// Appends what is wrong with a word that names no action, and the action that was perhaps meant.
+fn put_unknown(
+    alloc: Global,
+    system: &System,
+    word: &[u8],
     out: &mut Vec<u8>,
 ) -> Result<(), AllocError> {
-    let index = warning.index;
-    match warning.sort {
-        Sort::NoProduct => out.extend_from_slice(
-            b"the diagram has no product: its lines contradict each other",
-        ),
-        Sort::NoneFound => out.extend_from_slice(
-            b"the diagram may have no product: propagation alone finds none",
-        ),
-        Sort::Dead => put_feature(features, index, b"is in no product", out),
-        Sort::Unnamed => put_feature(features, index, b"is named by no guard", out),
-        Sort::Stuck => put_vertex(game, names, index, loss_of(game, index), out),
-        Sort::NoStart => out.extend_from_slice(b"no entry has the identifier of this start"),
-        Sort::Unreached => {
-            put_vertex(game, names, index, b"cannot be reached from the start", out)
+    let names = names_of_actions(alloc, system)?;
+    let word = unquoted(word);
+    out.extend_from_slice(b"`")?;
+    put_shown(word, out)?;
+    out.extend_from_slice(b"` is the action of no transition")?;
+    match nearest_of(alloc, &names, word)? {
+        Some(other) => {
+            out.extend_from_slice(b"; is `")?;
+            put_shown(other, out)?;
+            out.extend_from_slice(b"` meant?")
         }
+        None => Ok(()),
+    }
+}
+
+/// The word of this length at an offset of a text.
+fn word_at(text: &[u8], at: usize, len: u32) -> &[u8] {
+    match text.get(at..at.saturating_add(len as usize)) {
+        Some(word) => word,
+        None => &[],
     }
 }
 
@@ -122,12 +171,92 @@ pub struct File<'t> {
     pub text: &'t [u8],
 }
 
-/// The subjects of warnings: features, the vertices of a game, and their names.
+/// A game, and the names of its vertices.
 #[derive(Clone, Copy)]
-struct About<'f> {
-    features: &'f Names,
+struct Named<'f> {
     game: &'f GuardedGame,
     names: &'f VertexNames,
+}
+
+/// What warnings are about, beside the features of a diagram.
+#[derive(Clone, Copy)]
+enum Guarded<'f> {
+    Game(Named<'f>),
+    System(&'f System),
+}
+
+/// What warnings are about: features, and the vertices of a game, or the states and actions of a system.
+#[derive(Clone, Copy)]
+struct About<'f> {
+    alloc: Global,
+    features: &'f Names,
+    guarded: Guarded<'f>,
+}
+
+/// Appends what a warning of a diagram says.
+fn put_of_feature(features: &Names, warning: Warning, out: &mut Vec<u8>) -> Result<(), AllocError> {
+    let index = warning.index;
+    match warning.sort {
+        Sort::NoProduct => out.extend_from_slice(
+            b"the diagram has no product: its lines contradict each other",
+        ),
+        Sort::NoneFound => out.extend_from_slice(
+            b"the diagram may have no product: propagation alone finds none",
+        ),
+        Sort::Dead => put_feature(features, index, b"is in no product", out),
+        Sort::Unnamed => put_feature(features, index, b"is named by no guard", out),
+        _ => Ok(()),
+    }
+}
+
+/// Appends what a warning of a game says.
+fn put_of_vertex(named: Named<'_>, warning: Warning, out: &mut Vec<u8>) -> Result<(), AllocError> {
+    let (game, names, index) = (named.game, named.names, warning.index);
+    match warning.sort {
+        Sort::Stuck => put_vertex(game, names, index, loss_of(game, index), out),
+        Sort::NoStart => out.extend_from_slice(b"no entry has the identifier of this start"),
+        Sort::Unreached => {
+            put_vertex(game, names, index, b"cannot be reached from the start", out)
+        }
+        _ => Ok(()),
+    }
+}
+
+/// Appends what a warning of a system, or of requirements with this text, says.
+fn put_of_system(
+    alloc: Global,
+    system: &System,
+    text: &[u8],
+    warning: Warning,
+    out: &mut Vec<u8>,
+) -> Result<(), AllocError> {
+    let index = warning.index;
+    match warning.sort {
+        Sort::NoPath => put_state(index, out),
+        Sort::Unmet => out.extend_from_slice(b"this guard is true in no product"),
+        Sort::Unasked => put_action(system, index, out),
+        Sort::NoAction => put_unknown(alloc, system, word_at(text, warning.at, index), out),
+        _ => Ok(()),
+    }
+}
+
+/// Appends what a warning of a text says.
+fn put_said(
+    text: &[u8],
+    about: &About<'_>,
+    warning: Warning,
+    out: &mut Vec<u8>,
+) -> Result<(), AllocError> {
+    if matches!(
+        warning.sort,
+        Sort::NoProduct | Sort::NoneFound | Sort::Dead | Sort::Unnamed
+    ) {
+        return put_of_feature(about.features, warning, out);
+    }
+    match about.guarded {
+        Guarded::Game(named) => put_of_vertex(named, warning, out),
+        Guarded::System(system) => put_of_system(about.alloc, system, text, warning, out),
+    }
 }
 
 /// Appends a warning.
@@ -141,7 +270,7 @@ fn put_warning(
 {
     put_place(file.name, place_of(file.text, warning.at), out)?;
     out.extend_from_slice(b"warning: ")?;
-    put_said(about.features, about.game, about.names, warning, out)?;
+    put_said(file.text, about, warning, out)?;
     out.extend_from_slice(b"\n")
 }
 
@@ -202,27 +331,27 @@ fn put_count(count: usize, out: &mut Vec<u8>) -> Result<(), AllocError> {
     out.extend_from_slice(b"\n")
 }
 
-/// Appends the warnings of a diagram, in a file of this name. Returns how many they are.
+/// Appends the warnings of a diagram, in a file of this name, of which guards name these features. How many they are.
 fn put_of_diagram(
-    alloc: Global,
     file: File<'_>,
     diagram: &Diagram,
+    named: &[bool],
     about: &About<'_>,
     out: &mut Vec<u8>,
 ) -> Result<usize, AllocError> {
-    let warnings = warnings_of_diagram(alloc, file.text, diagram, about.game)?;
+    let warnings = warnings_of_diagram(about.alloc, file.text, diagram, named)?;
     put_warnings(file, about, &warnings, out)?;
     Ok(warnings.list.len())
 }
 
 /// Appends the warnings of a game, in a file of this name. Returns how many they are.
 fn put_of_game(
-    alloc: Global,
     file: File<'_>,
+    named: Named<'_>,
     about: &About<'_>,
     out: &mut Vec<u8>,
 ) -> Result<usize, AllocError> {
-    let warnings = warnings_of_game(alloc, file.text, about.game, about.names.start())?;
+    let warnings = warnings_of_game(about.alloc, file.text, named.game, named.names.start())?;
     put_warnings(file, about, &warnings, out)?;
     Ok(warnings.list.len())
 }
@@ -238,31 +367,71 @@ pub fn put_warned(
     out: &mut Vec<u8>,
 ) -> Result<(), AllocError> {
     let names = VertexNames::read(alloc, of_game.text)?;
-    let about = About {
-        features: diagram.names(),
+    let named = Named {
         game,
         names: &names,
     };
-    let in_diagram = put_of_diagram(alloc, of_diagram, diagram, &about, out)?;
-    let in_game = put_of_game(alloc, of_game, &about, out)?;
+    let about = About {
+        alloc,
+        features: diagram.names(),
+        guarded: Guarded::Game(named),
+    };
+    let in_guards = named_in_game(alloc, game)?;
+    let in_diagram = put_of_diagram(of_diagram, diagram, &in_guards, &about, out)?;
+    let in_game = put_of_game(of_game, named, &about, out)?;
     put_count(in_diagram.saturating_add(in_game), out)
 }
 
-/// Appends the warnings of the diagram alone, if the game has no file, only this text.
-pub fn put_warned_of_diagram(
+/// Appends the warnings of a system and of its requirements, in files of these names. How many they are.
+fn put_of_model(
+    of_system: File<'_>,
+    of_requirements: File<'_>,
+    diagram: &Diagram,
+    system: &System,
+    about: &About<'_>,
+    out: &mut Vec<u8>,
+) -> Result<usize, AllocError>
+    requires { system.now.features ≡ feature_count diagram.now.lines }
+{
+    let alloc = about.alloc;
+    let in_system = warnings_of_system(
+        alloc,
+        of_system.text,
+        diagram,
+        system,
+        of_requirements.text,
+    )?;
+    put_warnings(of_system, about, &in_system, out)?;
+    let in_requirements = warnings_of_requirements(alloc, of_requirements.text, system)?;
+    put_warnings(of_requirements, about, &in_requirements, out)?;
+    Ok(
+        in_system
+            .list
+            .len()
+            .saturating_add(in_requirements.list.len()),
+    )
+}
+
+/// The same of a diagram, a system over its features, and the requirements that it has to meet. Of the game that is
+/// made from them nothing is said.
+pub fn put_warned_of_system(
     alloc: Global,
     of_diagram: File<'_>,
-    game_text: &[u8],
+    of_system: File<'_>,
+    of_requirements: File<'_>,
     diagram: &Diagram,
-    game: &GuardedGame,
+    system: &System,
     out: &mut Vec<u8>,
-) -> Result<(), AllocError> {
-    let names = VertexNames::read(alloc, game_text)?;
+) -> Result<(), AllocError>
+    requires { system.now.features ≡ feature_count diagram.now.lines }
+{
     let about = About {
+        alloc,
         features: diagram.names(),
-        game,
-        names: &names,
+        guarded: Guarded::System(system),
     };
-    let in_diagram = put_of_diagram(alloc, of_diagram, diagram, &about, out)?;
-    put_count(in_diagram, out)
+    let in_guards = named_in_system(alloc, system)?;
+    let in_diagram = put_of_diagram(of_diagram, diagram, &in_guards, &about, out)?;
+    let in_model = put_of_model(of_system, of_requirements, diagram, system, &about, out)?;
+    put_count(in_diagram.saturating_add(in_model), out)
 }

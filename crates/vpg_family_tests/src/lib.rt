@@ -1,5 +1,5 @@
-//! Tests of families in two files, of the words that the program is called with, of lines that are typed, and of names
-//! beside answers.
+//! Tests of families in two files, of the games of systems, of the words that the program is called with, of lines that
+//! are typed, and of names beside answers.
 //!
 //! A crate that has tests is proved once more with them, so the tests of the crates below stand here, in a crate that
 //! has nothing else.
@@ -7,6 +7,8 @@
 
 #[cfg(test)]
 mod family;
+#[cfg(test)]
+mod games;
 #[cfg(test)]
 mod said;
 #[cfg(test)]

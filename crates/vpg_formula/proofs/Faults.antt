@@ -11,14 +11,15 @@ use Rattle.vpg_formula.specs.Requirements.{Entry, AreEntries, no_entry, entry, b
 use Rattle.vpg_formula.specs.Reading.{◌>>=◌, after_word}
 use Rattle.vpg_formula.specs.EntryReading.{body_at, item_behind}
 use Rattle.vpg_formula.specs.EntryCode.{IsHead, IsItem}
-use Rattle.vpg_formula.specs.Faults.{entry_names, IsTwiceAt, IsTooManyAt, FormulaAt, alone, in_entry, IsUnknownAt, IsNegatedIn, IsNegatedAt, IsPlace, IsWord, IsAt}
+use Rattle.vpg_formula.specs.Faults.{entry_names, IsTwiceAt, IsTooManyAt, FormulaAt, alone, in_entry, AreKnownTo, IsSyntaxAt, no_name, no_sign, no_formula, IsTooDeepAt, IsUnknownAt, IsNegatedIn, IsNegatedAt, IsPlace, IsAt}
+use Rattle.vpg_formula.specs.Stops.{IsStuckAt, IsTooDeepIn}
 use Rattle.vpg_formula.specs.Naming.{mentions, first_unknown}
-use Rattle.vpg_formula.specs.FaultCode.{ArePlaces, place_left, fault_at, IsLeft, HaltsAt, BodyAt, HeadAt, NegatedIn, NegatedAt, first_of, AreReadTo}
+use Rattle.vpg_formula.specs.FaultCode.{ArePlaces, place_left, fault_at, IsLeft, IsStopped, HaltsAt, BodyAt, IsHeadless, nameless, signless, HeadAt, NegatedIn, NegatedAt, first_of, AreReadTo}
 use Rattle.vpg_formula.specs.declared.stop.Halt.{Halt}
 use Rattle.vpg_formula.specs.declared.stop.Halt.TheVariants as halts
 use Rattle.vpg_formula.specs.declared.uses.Standing.TheVariants.{Unknown, Negated}
 use Rattle.vpg_formula.specs.Places.{place_of}
-use Rattle.vpg_formula.proofs.Series.{bind_some, some_is, word_behind}
+use Rattle.vpg_formula.proofs.Series.{bind_some, some, some_is, word_behind, word_next}
 use Rattle.vpg_formula.proofs.Entries.{body_found}
 
 abbrev Words : Type 0
@@ -38,31 +39,12 @@ word_place text places left Is p l =
       is = l.is;
     }
 
-pub any_place : (text places : List ℕ) (left : ℕ) → ArePlaces text places → IsPlace text (place_left places left) IsWord
-any_place text places left p = go (cases_Bool (nat_lt left (length places)))
-  where
-    go : (nat_lt left (length places) ≡ true) ⊎ (nat_lt left (length places) ≡ false) → IsPlace text (place_left places left) IsWord
-    go (inl e) =
-        let within : left < length places = ltb-true left (length places) e in
-        record {
-          words = length places - 1 - left;
-          within = omega (arith, p.count);
-          place = ap (λ (t : Bool). cond t (get_or places (length places - 1 - left) 0) (get_or places 0 0)) e ∙ p.each (length places - 1 - left) (omega (arith, within));
-          is = tt;
-        }
-    go (inr e) = record {
-      words = 0;
-      within = omega arith;
-      place = ap (λ (t : Bool). cond t (get_or places (length places - 1 - left) 0) (get_or places 0 0)) e ∙ p.each 0 (omega (arith, p.count));
-      is = tt;
-    }
-
 pub halt_is_at : (text places : List ℕ) (h : Halt) → ArePlaces text places → HaltsAt (words_of text) h → IsAt text (fault_at places h)
 halt_is_at text places (halts.Twice left) p h = word_place text places left (IsTwiceAt (words_of text)) p h
 halt_is_at text places (halts.TooMany left) p h = word_place text places left (IsTooManyAt (words_of text)) p h
-halt_is_at text places (halts.Syntax left) p h = any_place text places left p
+halt_is_at text places (halts.Syntax left) p h = word_place text places left (IsSyntaxAt (words_of text)) p h
 halt_is_at text places (halts.Unknown left) p h = word_place text places left (IsUnknownAt (words_of text)) p h
-halt_is_at text places (halts.TooDeep left) p h = any_place text places left p
+halt_is_at text places (halts.TooDeep left) p h = word_place text places left (IsTooDeepAt (words_of text)) p h
 halt_is_at text places (halts.Negated left) p h = word_place text places left (IsNegatedAt (words_of text)) p h
 halt_is_at text places halts.Memory p h = tt
 
@@ -134,7 +116,7 @@ positive_more earlier (x ∷ es) e =
     assoc false b c = refl
 
 -- where a new entry's formula begins
-begins_behind : (negated : Option ℕ) (made : List Marked) (name : List ℕ) (all ws mid : Words) (r : AreReadTo negated made all (name ∷ ws)) → length made < 64 → IsHead (names_of made) name ws mid → FormulaAt all r.entries (length r.front + 2) mid
+abbrev begins_behind : (negated : Option ℕ) (made : List Marked) (name : List ℕ) (all ws mid : Words) (r : AreReadTo negated made all (name ∷ ws)) → length made < 64 → IsHead (names_of made) name ws mid → FormulaAt all r.entries (length r.front + 2) mid
 begins_behind negated made name all ws mid r few head =
     let names = names_to negated made all (name ∷ ws) r in
     let count = count_to negated made all (name ∷ ws) r in
@@ -148,11 +130,11 @@ mid_count negated made name all ws mid r head =
     let sign = ap length (word_behind (codes "=") ws mid head.sign) in
     omega (arith, ap length r.parts, long, sign)
 
-negated_more : (negated first : Option ℕ) (made : List Marked) (name : List ℕ) (all ws mid : Words) (r : AreReadTo negated made all (name ∷ ws)) → length made < 64 → IsHead (names_of made) name ws mid
-    → NegatedIn (names_of made) mid first → NegatedAt all (first_of negated first)
-negated_more negated first made name all ws mid r few head n = go negated r.tells r.place first n
+negated_more : (negated first : Option ℕ) (made : List Marked) (name : List ℕ) (all ws mid rest : Words) (r : AreReadTo negated made all (name ∷ ws)) → length made < 64 → IsHead (names_of made) name ws mid
+    → NegatedIn (names_of made) mid (codes ";" ∷ rest) first → NegatedAt all (first_of negated first)
+negated_more negated first made name all ws mid rest r few head n = go negated r.tells r.place first n
   where
-    go : (negated : Option ℕ) → is_some negated ≡ not (are_positive [] r.entries) → NegatedAt all negated → (first : Option ℕ) → NegatedIn (names_of made) mid first → NegatedAt all (first_of negated first)
+    go : (negated : Option ℕ) → is_some negated ≡ not (are_positive [] r.entries) → NegatedAt all negated → (first : Option ℕ) → NegatedIn (names_of made) mid (codes ";" ∷ rest) first → NegatedAt all (first_of negated first)
     go (Some left) t p first n = p
     go None t p None n = tt
     go None t p (Some left) n =
@@ -166,8 +148,10 @@ negated_more negated first made name all ws mid r few head n = go negated r.tell
             rest = mid;
             begins = begins_behind negated made name all ws mid r few head;
             positive = positive (are_positive [] r.entries) t;
+            behind = codes ";" ∷ rest;
+            ends = refl;
             front = n.words;
-            is = subst (λ (xs : Words). IsNegatedIn xs mid n.words) (names_to negated made all (name ∷ ws) r) n.is;
+            is = subst (λ (xs : Words). IsNegatedIn xs mid (codes ";" ∷ rest) n.words) (names_to negated made all (name ∷ ws) r) n.is;
             place = refl;
           };
         }
@@ -203,7 +187,7 @@ item_found earlier name f ws rest e =
     }
 
 pub read_more : (negated first both : Option ℕ) (made : List Marked) (new : Marked) (name : List ℕ) (all ws mid rest : Words) → AreReadTo negated made all (name ∷ ws) → length made < 64 → IsHead (names_of made) name ws mid
-    → IsItem (names_of made) name first new mid rest → NegatedIn (names_of made) mid first → both ≡ first_of negated first → AreReadTo both (made ++ new ∷ []) all rest
+    → IsItem (names_of made) name first new mid rest → NegatedIn (names_of made) mid (codes ";" ∷ rest) first → both ≡ first_of negated first → AreReadTo both (made ++ new ∷ []) all rest
 read_more negated first both made new name all ws mid rest r few head i n b =
     let e : Entry = record { name = name; formula = i.formula } in
     let o = item_found (names_of made) name i.formula mid rest i.is in
@@ -222,7 +206,7 @@ read_more negated first both made new name all ws mid rest r few head i n b =
       tells = ap is_some b ∙ either negated first ∙ ap (λ (t : Bool). t || is_some first) r.tells
           ∙ ap (λ (t : Bool). not (are_positive [] r.entries) || t) (i.tells ∙ ap (λ (xs : Words). has Negated xs i.formula) names ∙ not_not (has Negated (entry_names r.entries) i.formula))
           ∙ neither (are_positive [] r.entries) (not (has Negated (entry_names r.entries) i.formula)) ∙ sym (ap not (positive_more [] r.entries e));
-      place = subst (NegatedAt all) (sym b) (negated_more negated first made name all ws mid r few head n);
+      place = subst (NegatedAt all) (sym b) (negated_more negated first made name all ws mid rest r few head n);
     }
   where
     either : (a b : Option ℕ) → is_some (first_of a b) ≡ (is_some a || is_some b)
@@ -242,8 +226,8 @@ read_more negated first both made new name all ws mid rest r few head i n b =
 front_count : (negated : Option ℕ) (made : List Marked) (all : Words) (name : List ℕ) (ws : Words) (left : ℕ) (r : AreReadTo negated made all (name ∷ ws)) → left ≡ suc (length ws) → length r.front + left ≡ length all
 front_count negated made all name ws left r e = let long = length-append r.front (name ∷ ws) in omega (arith, e, long, ap length r.parts)
 
-pub head_at : (negated : Option ℕ) (made : List Marked) (n : ℕ) (name : List ℕ) (all ws : Words) (h : Halt) → AreReadTo negated made all (name ∷ ws) → n ≡ length made → HeadAt (names_of made) n name ws h → HaltsAt all h
-head_at negated made n name all ws (halts.Twice left) r count h = record {
+pub head_at : (negated : Option ℕ) (made : List Marked) (n : ℕ) (name : List ℕ) (all ws : Words) (h : Halt) → begins_entry all ≡ true → AreReadTo negated made all (name ∷ ws) → n ≡ length made → HeadAt (names_of made) n name ws h → HaltsAt all h
+head_at negated made n name all ws (halts.Twice left) first r count h = record {
   words = length r.front;
   sum = front_count negated made all name ws left r h.all_left;
   is = record {
@@ -255,7 +239,7 @@ head_at negated made n name all ws (halts.Twice left) r count h = record {
     again = subst (λ (xs : Words). is_among xs name ≡ true) (names_to negated made all (name ∷ ws) r) h.again;
   };
 }
-head_at negated made n name all ws (halts.TooMany left) r count h =
+head_at negated made n name all ws (halts.TooMany left) first r count h =
     let few = entries_few 64 [] r.front r.entries r.are in
     let made_count = count_to negated made all (name ∷ ws) r in
     record {
@@ -271,15 +255,26 @@ head_at negated made n name all ws (halts.TooMany left) r count h =
         new = subst (λ (xs : Words). is_among xs name ≡ false) (names_to negated made all (name ∷ ws) r) h.new;
       };
     }
-head_at negated made n name all ws (halts.Syntax left) r count h = tt
-head_at negated made n name all ws (halts.Unknown left) r count h = absurd h
-head_at negated made n name all ws (halts.TooDeep left) r count h = tt
-head_at negated made n name all ws (halts.Negated left) r count h = absurd h
-head_at negated made n name all ws halts.Memory r count h = tt
+head_at negated made n name all ws (halts.Syntax left) first r count (nameless v l) = record {
+  words = length r.front;
+  sum = front_count negated made all name ws left r l;
+  is = no_name name r.entries (length r.front) ws first (record { front = r.front; parts = r.parts; count = refl; are = r.are }) v;
+}
+head_at negated made n name all ws (halts.Syntax left) first r count (signless v a few none l) = record {
+  words = suc (length r.front);
+  sum = omega (arith, front_count negated made all name ws (suc (length ws)) r refl, l);
+  is = no_sign name r.entries (length r.front) ws first (record { front = r.front; parts = r.parts; count = refl; are = r.are }) v
+      (subst (λ (xs : Words). is_among xs name ≡ false) (names_to negated made all (name ∷ ws) r) a) (omega (arith, few, count, count_to negated made all (name ∷ ws) r))
+      (λ more e. let both : None ≡ some more = sym none ∙ ap (after_word (codes "=")) e ∙ word_next (codes "=") more in absurd cc);
+}
+head_at negated made n name all ws (halts.Unknown left) first r count h = absurd h
+head_at negated made n name all ws (halts.TooDeep left) first r count h = absurd h
+head_at negated made n name all ws (halts.Negated left) first r count h = absurd h
+head_at negated made n name all ws halts.Memory first r count h = tt
 
 -- ---- faults in a formula
 
-pub item_at : (negated : Option ℕ) (made : List Marked) (name : List ℕ) (all ws mid : Words) (h : Halt) → AreReadTo negated made all (name ∷ ws) → length made < 64 → IsHead (names_of made) name ws mid → BodyAt (names_of made) mid h → HaltsAt all h
+pub item_at : (negated : Option ℕ) (made : List Marked) (name : List ℕ) (all ws mid : Words) (h : Halt) → AreReadTo negated made all (name ∷ ws) → length made < 64 → IsHead (names_of made) name ws mid → BodyAt true (names_of made) mid h → HaltsAt all h
 item_at negated made name all ws mid (halts.Unknown left) r few head b =
     let count = mid_count negated made name all ws mid r head in
     record {
@@ -295,32 +290,58 @@ item_at negated made name all ws mid (halts.Unknown left) r few head b =
         place = refl;
       };
     }
-item_at negated made name all ws mid (halts.Syntax left) r few head b = tt
-item_at negated made name all ws mid (halts.TooDeep left) r few head b = tt
+item_at negated made name all ws mid (halts.Syntax left) r few head b =
+    let count = mid_count negated made name all ws mid r head in
+    record {
+      words = length r.front + 2 + b.words;
+      sum = omega (arith, b.sum, count);
+      is = no_formula r.entries (length r.front + 2) mid b.words (begins_behind negated made name all ws mid r few head) b.is.is
+          (subst (λ (xs : Words). AreKnownTo xs mid b.words) (names_to negated made all (name ∷ ws) r) b.is.known);
+    }
+item_at negated made name all ws mid (halts.TooDeep left) r few head b =
+    let count = mid_count negated made name all ws mid r head in
+    record {
+      words = length r.front + 2 + b.words;
+      sum = omega (arith, b.sum, count);
+      is = record {
+        entries = r.entries;
+        start = length r.front + 2;
+        rest = mid;
+        begins = begins_behind negated made name all ws mid r few head;
+        front = b.words;
+        deep = b.is.is;
+        known = subst (λ (xs : Words). AreKnownTo xs mid b.words) (names_to negated made all (name ∷ ws) r) b.is.known;
+        place = refl;
+      };
+    }
 item_at negated made name all ws mid halts.Memory r few head b = tt
 item_at negated made name all ws mid (halts.Twice left) r few head b = absurd b
 item_at negated made name all ws mid (halts.TooMany left) r few head b = absurd b
 item_at negated made name all ws mid (halts.Negated left) r few head b = absurd b
 
-pub alone_at : (all : Words) (h : Halt) → begins_entry all ≡ false → BodyAt [] all h → HaltsAt all h
+pub alone_at : (all : Words) (h : Halt) → begins_entry all ≡ false → BodyAt false [] all h → HaltsAt all h
 alone_at all (halts.Unknown left) none b = record {
   words = b.words;
   sum = b.sum;
   is = record { entries = []; start = 0; rest = all; begins = alone none; front = b.words; first = b.is; place = omega arith };
 }
-alone_at all (halts.Syntax left) none b = tt
-alone_at all (halts.TooDeep left) none b = tt
+alone_at all (halts.Syntax left) none b = record { words = 0 + b.words; sum = omega (arith, b.sum); is = no_formula [] 0 all b.words (alone none) b.is.is b.is.known }
+alone_at all (halts.TooDeep left) none b = record {
+  words = b.words;
+  sum = b.sum;
+  is = record { entries = []; start = 0; rest = all; begins = alone none; front = b.words; deep = b.is.is; known = b.is.known; place = omega arith };
+}
 alone_at all halts.Memory none b = tt
 alone_at all (halts.Twice left) none b = absurd b
 alone_at all (halts.TooMany left) none b = absurd b
 alone_at all (halts.Negated left) none b = absurd b
 
-pub alone_negated : (all : Words) (negated : Option ℕ) → begins_entry all ≡ false → NegatedIn [] all negated → NegatedAt all negated
+pub alone_negated : (all : Words) (negated : Option ℕ) → begins_entry all ≡ false → NegatedIn [] all [] negated → NegatedAt all negated
 alone_negated all None none n = tt
 alone_negated all (Some left) none n = record {
   words = n.words;
   sum = n.sum;
-  is = record { entries = []; start = 0; rest = all; begins = alone none; positive = refl; front = n.words; is = n.is; place = omega arith };
+  is = record { entries = []; start = 0; rest = all; begins = alone none; positive = refl; behind = []; ends = refl; front = n.words; is = n.is; place = omega arith };
 }
 
 -- ---- results

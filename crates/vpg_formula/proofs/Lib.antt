@@ -14,3 +14,10 @@ pub mod Naming
 pub mod Places
 pub mod NamingCode
 pub mod Faults
+pub mod Needed
+pub mod Ways
+pub mod RegularWays
+pub mod FormulaWays
+pub mod Stopping
+pub mod StopCode
+pub mod ActionWords

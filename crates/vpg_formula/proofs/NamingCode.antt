@@ -122,7 +122,7 @@ left_nth earlier s end k (w ∷ ws) n left known e = cut (nat_le (suc (length ws
 
 -- ---- the names of a formula
 
-abbrev known_of : Mention → Bool
+abbrev pub known_of : Mention → Bool
 known_of m = m.1
 
 nothing_more : (earlier : Words) (s : Spot) (rest : Words) → left_mentions earlier s (length rest) rest ≡ []
@@ -141,15 +141,15 @@ left_flags earlier s (u ∷ us) rest =
     go (Some b) e = ap (λ (t : List Bool). b ∷ t) e
 
 -- what is told of the names is as they stand
-formula_flags : (earlier us rest : Words) (p : Phrase) → IsFormula 64 us p → map known_of (left_mentions earlier at_first (length rest) (us ++ rest)) ≡ told_uses earlier nothing_around p.written
+pub formula_flags : (earlier us rest : Words) (p : Phrase) → IsFormula 64 us p → map known_of (left_mentions earlier at_first (length rest) (us ++ rest)) ≡ told_uses earlier nothing_around p.written
 formula_flags earlier us rest p i = left_flags earlier at_first us rest ∙ (phrase_walks earlier a_formula 64 us p i [] nothing_around (λ x. refl)).passes.told
 
 -- ---- lists of names
 
-abbrev Told : List Mention → List Standing → Type 0
+abbrev pub Told : List Mention → List Standing → Type 0
 Told ms ss = map known_of ms ≡ map is_told ss
 
-told_rest : (m : Mention) (ms : List Mention) (s : Standing) (ss : List Standing) → Told (m ∷ ms) (s ∷ ss) → (m.1 ≡ is_told s) × Told ms ss
+pub told_rest : (m : Mention) (ms : List Mention) (s : Standing) (ss : List Standing) → Told (m ∷ ms) (s ∷ ss) → (m.1 ≡ is_told s) × Told ms ss
 told_rest m ms s ss e = (ap (λ (bs : List Bool). get_or bs 0 false) e, ap (λ (bs : List Bool). drop 1 bs) e)
 
 record FirstLike (wanted : Standing) (ss : List Standing) (n : ℕ) : Type 0 where
@@ -215,7 +215,7 @@ module _ (earlier ws us rest : Words) (p : Phrase) (i : IsFormula 64 us p) (part
   pub unknown_in : (left : ℕ) → IsFound Unknown (uses earlier nothing_around p.written) (left_mentions earlier at_first (length rest) ws) left → IsLeft ws left (λ i. first_unknown (mentions earlier ws) ≡ Some i)
   unknown_in left f = unknown_before earlier ws (length rest) left (first_told names (uses earlier nothing_around p.written) f.index told f.first ∙ ap (λ (k : ℕ). Some k) (sym f.place))
 
-  pub negated_in : (left : ℕ) → IsFound Negated (uses earlier nothing_around p.written) (left_mentions earlier at_first (length rest) ws) left → IsLeft ws left (IsNegatedIn earlier ws)
+  pub negated_in : (left : ℕ) → IsFound Negated (uses earlier nothing_around p.written) (left_mentions earlier at_first (length rest) ws) left → IsLeft ws left (IsNegatedIn earlier ws rest)
   negated_in left f =
       let ss = uses earlier nothing_around p.written in
       let l = first_like_is Negated ss f.index f.first in
@@ -226,7 +226,6 @@ module _ (earlier ws us rest : Words) (p : Phrase) (i : IsFormula 64 us p) (part
         sum = n.sum;
         is = record {
           front = us;
-          behind = rest;
           phrase = p;
           index = f.index;
           parts = parts;
@@ -256,22 +255,22 @@ module _ (earlier ws : Words) (rest : List (Bor (List ℕ))) (p : Phrase) (ms : 
       subst (λ (ss : List Standing). IsFound wanted ss (left_mentions earlier at_first (length (texts rest)) ws) left) (ap (standings_of earlier) f ∙ standings_are earlier p.written)
       (subst (λ (k : ℕ). IsFound wanted (standings_of earlier ms) (left_mentions earlier at_first k ws) left) (sym (texts_count rest)) h)
 
-  pub body_negated : (negated : Option ℕ) → NamesAt (Ok negated) (standings_of earlier ms) (left_mentions earlier at_first (length rest) ws) → NegatedIn earlier ws negated
+  pub body_negated : (negated : Option ℕ) → NamesAt (Ok negated) (standings_of earlier ms) (left_mentions earlier at_first (length rest) ws) → NegatedIn earlier ws (texts rest) negated
   body_negated None h = tt
   body_negated (Some left) h =
       let i = phrase_found a_formula 64 ws (p, texts rest) e in
       negated_in earlier ws i.0 (texts rest) p i.1 i.2 left (moved Negated left h)
 
-  pub body_unknown_at : (h : Halt) → NamesAt (Err h) (standings_of earlier ms) (left_mentions earlier at_first (length rest) ws) → BodyAt earlier ws h
-  body_unknown_at halts.Memory h = tt
-  body_unknown_at (halts.Unknown left) h =
+  pub body_unknown_at : (h : Halt) → NamesAt (Err h) (standings_of earlier ms) (left_mentions earlier at_first (length rest) ws) → (in_entry : Bool) → BodyAt in_entry earlier ws h
+  body_unknown_at halts.Memory h in_entry = tt
+  body_unknown_at (halts.Unknown left) h in_entry =
       let i = phrase_found a_formula 64 ws (p, texts rest) e in
       unknown_in earlier ws i.0 (texts rest) p i.1 i.2 left (moved Unknown left h)
-  body_unknown_at (halts.Syntax left) h = absurd h
-  body_unknown_at (halts.TooDeep left) h = absurd h
-  body_unknown_at (halts.Twice left) h = absurd h
-  body_unknown_at (halts.TooMany left) h = absurd h
-  body_unknown_at (halts.Negated left) h = absurd h
+  body_unknown_at (halts.Syntax left) h in_entry = absurd h
+  body_unknown_at (halts.TooDeep left) h in_entry = absurd h
+  body_unknown_at (halts.Twice left) h in_entry = absurd h
+  body_unknown_at (halts.TooMany left) h in_entry = absurd h
+  body_unknown_at (halts.Negated left) h in_entry = absurd h
 
 -- ---- loops
 

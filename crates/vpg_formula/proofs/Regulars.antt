@@ -28,7 +28,7 @@ stars_found Item all us (w ∷ ws) x y s e f = go (bytes_eq w (codes "*")) (is_p
     go false true is_star is_plus f later = later (codes "+") (repeated_once x) (plus s) (is_plus refl) f
     go false false is_star is_plus f later = subst (λ (z : Regular × Words). (vs : Words) × Starred Item vs z.0 × (all ≡ vs ++ z.1)) (some_is (x, w ∷ ws) y f) (us, s, e)
 
-starred_found : (Item : Form) (read : Read Regular) → Finds Item read → Finds (Starred Item) (starred_with read)
+pub starred_found : (Item : Form) (read : Read Regular) → Finds Item read → Finds (Starred Item) (starred_with read)
 unfolding starred_with
 starred_found Item read finds ws y e =
     let h = bind_some (read ws) (λ x. stars_at x.0 x.1) y e in

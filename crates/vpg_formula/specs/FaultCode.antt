@@ -1,11 +1,15 @@
 -- What the code keeps of places in a text: how many words are left, as the places of the specs.
-use Rattle.std.specs.Prelude.{◌≡◌, ℕ, suc, ◌+◌, ◌-◌, ◌<◌, ◌≤◌, List, [], ◌++◌, length, Bool, true, false, not, if◌then◌else◌, nat_lt, slice_index_or, Option, Some, None, is_some}
+use Rattle.std.specs.Prelude.{◌≡◌, ℕ, suc, ◌+◌, ◌-◌, ◌<◌, ◌≤◌, List, [], ◌++◌, length, ◌∷◌, codes, Bool, true, false, not, if◌then◌else◌, nat_lt, slice_index_or, Option, Some, None, is_some}
 use Rattle.vpg_formula.specs.Words.{words_of}
 use Rattle.vpg_formula.specs.Places.{place_of}
 use Rattle.vpg_formula.specs.Written.{is_variable}
 use Rattle.vpg_formula.specs.Standings.{is_among}
 use Rattle.vpg_formula.specs.Requirements.{Entry, Marked, marked, AreEntries, are_positive}
-use Rattle.vpg_formula.specs.Faults.{IsTwiceAt, IsTooManyAt, IsUnknownAt, IsNegatedIn, IsNegatedAt}
+use Rattle.vpg_formula.specs.Stops.{IsStuckAt, IsTooDeepIn}
+use Rattle.vpg_formula.specs.Needs as needs
+use Rattle.vpg_formula.specs.Needs.{formula_way}
+use Rattle.vpg_formula.specs.Reading.{after_word}
+use Rattle.vpg_formula.specs.Faults.{IsTwiceAt, IsTooManyAt, AreKnownTo, IsSyntaxAt, IsTooDeepAt, IsUnknownAt, IsNegatedIn, IsNegatedAt}
 use Rattle.vpg_formula.specs.Naming.{mentions, first_unknown}
 use Rattle.vpg_formula.specs.declared.fault.RequirementFault.{RequirementFault}
 use Rattle.vpg_formula.specs.declared.fault.RequirementFault.TheVariants as faults
@@ -45,20 +49,33 @@ HaltsAt ws (halts.Twice left) = IsLeft ws left (IsTwiceAt ws)
 HaltsAt ws (halts.TooMany left) = IsLeft ws left (IsTooManyAt ws)
 HaltsAt ws (halts.Unknown left) = IsLeft ws left (IsUnknownAt ws)
 HaltsAt ws (halts.Negated left) = IsLeft ws left (IsNegatedAt ws)
-HaltsAt ws h = Unit {0}
+HaltsAt ws (halts.Syntax left) = IsLeft ws left (IsSyntaxAt ws)
+HaltsAt ws (halts.TooDeep left) = IsLeft ws left (IsTooDeepAt ws)
+HaltsAt ws halts.Memory = Unit {0}
 
--- Where words begin no formula.
-abbrev pub BodyAt : List (List ℕ) → List (List ℕ) → Halt → Type 0
-BodyAt earlier ws halts.Memory = Unit {0}
-BodyAt earlier ws (halts.Syntax left) = Unit {0}
-BodyAt earlier ws (halts.TooDeep left) = Unit {0}
-BodyAt earlier ws (halts.Unknown left) = IsLeft ws left (λ k. first_unknown (mentions earlier ws) ≡ Some k)
-BodyAt earlier ws h = ⊥
+-- the words in front of a stop are known
+pub record IsStopped (earlier ws : List (List ℕ)) (Is : ℕ → Type 0) (k : ℕ) : Type 0 where
+  pub is : Is k
+  pub known : AreKnownTo earlier ws k
+
+-- Where words begin no formula, an entry's or one alone.
+abbrev pub BodyAt : Bool → List (List ℕ) → List (List ℕ) → Halt → Type 0
+BodyAt in_entry earlier ws halts.Memory = Unit {0}
+BodyAt in_entry earlier ws (halts.Syntax left) = IsLeft ws left (IsStopped earlier ws (IsStuckAt in_entry ws))
+BodyAt in_entry earlier ws (halts.TooDeep left) = IsLeft ws left (IsStopped earlier ws (IsTooDeepIn ws))
+BodyAt in_entry earlier ws (halts.Unknown left) = IsLeft ws left (λ k. first_unknown (mentions earlier ws) ≡ Some k)
+BodyAt in_entry earlier ws h = ⊥
+
+-- where reading word by word stops
+abbrev pub WayAt : List (List ℕ) → ℕ → Halt → Type 0
+WayAt ws left (halts.Syntax stop) = (stop ≡ left) × (formula_way 64 ws ≡ needs.halted left)
+WayAt ws left (halts.TooDeep stop) = (stop ≡ left) × (formula_way 64 ws ≡ needs.too_deep left)
+WayAt ws left h = ⊥
 
 -- Where the first negated name of a formula is, if it has one.
-abbrev pub NegatedIn : List (List ℕ) → List (List ℕ) → Option ℕ → Type 0
-NegatedIn earlier ws None = Unit {0}
-NegatedIn earlier ws (Some left) = IsLeft ws left (IsNegatedIn earlier ws)
+abbrev pub NegatedIn : List (List ℕ) → List (List ℕ) → List (List ℕ) → Option ℕ → Type 0
+NegatedIn earlier ws behind None = Unit {0}
+NegatedIn earlier ws behind (Some left) = IsLeft ws left (IsNegatedIn earlier ws behind)
 
 -- Where the first of all is.
 abbrev pub NegatedAt : List (List ℕ) → Option ℕ → Type 0
@@ -83,13 +100,21 @@ pub record IsBeyond (earlier : List (List ℕ)) (n : ℕ) (name : List ℕ) (ws 
   pub new : is_among earlier name ≡ false
   pub all_left : left ≡ suc (length ws)
 
+-- A word is no name, or a new name has no `=`.
+pub data IsHeadless (earlier : List (List ℕ)) (n : ℕ) (name : List ℕ) (ws : List (List ℕ)) (left : ℕ) : Type 0 where
+  nameless : is_variable name ≡ false → left ≡ suc (length ws) → IsHeadless earlier n name ws left
+  signless : is_variable name ≡ true → is_among earlier name ≡ false → n < 64 → after_word (codes "=") ws ≡ None →
+      left ≡ length ws → IsHeadless earlier n name ws left
+
 -- Where words begin no entry behind so many of these names, for what stands in front of its formula.
 abbrev pub HeadAt : List (List ℕ) → ℕ → List ℕ → List (List ℕ) → Halt → Type 0
 HeadAt earlier n name ws (halts.Twice left) = IsRepeated earlier name ws left
 HeadAt earlier n name ws (halts.TooMany left) = IsBeyond earlier n name ws left
+HeadAt earlier n name ws (halts.Syntax left) = IsHeadless earlier n name ws left
+HeadAt earlier n name ws (halts.TooDeep left) = ⊥
 HeadAt earlier n name ws (halts.Unknown left) = ⊥
 HeadAt earlier n name ws (halts.Negated left) = ⊥
-HeadAt earlier n name ws h = Unit {0}
+HeadAt earlier n name ws halts.Memory = Unit {0}
 
 -- Entries that are read, with the first negated name, and the words behind them.
 pub record AreReadTo (negated : Option ℕ) (made : List Marked) (all rest : List (List ℕ)) : Type 0 where

@@ -1,5 +1,5 @@
 -- Where a text of requirements is faulty. This project's own.
-use Rattle.std.specs.Prelude.{◌≡◌, ℕ, ◌+◌, ◌<◌, ◌≤◌, List, [], ◌∷◌, ◌++◌, length, map, take, slice_get, Bool, true, false, codes, Some}
+use Rattle.std.specs.Prelude.{◌≡◌, ℕ, suc, ◌+◌, ◌<◌, ◌≤◌, List, [], ◌∷◌, ◌++◌, length, map, take, slice_get, Bool, true, false, codes, Some}
 use Rattle.std.specs.List.{list_any}
 use Rattle.vpg_formula.specs.Words.{words_of}
 use Rattle.vpg_formula.specs.Places.{place_of}
@@ -7,6 +7,7 @@ use Rattle.vpg_formula.specs.Written.{Phrase, is_variable}
 use Rattle.vpg_formula.specs.FormulaGrammar.{IsFormula}
 use Rattle.vpg_formula.specs.Standings.{nothing_around, is_among, uses, is_like}
 use Rattle.vpg_formula.specs.Naming.{mentions, first_unknown}
+use Rattle.vpg_formula.specs.Stops.{ends_formula, IsStuckAt, IsTooDeepIn}
 use Rattle.vpg_formula.specs.Requirements.{Entry, AreEntries, begins_entry, are_positive}
 use Rattle.vpg_formula.specs.declared.fault.RequirementFault.{RequirementFault}
 use Rattle.vpg_formula.specs.declared.fault.RequirementFault.TheVariants as faults
@@ -48,6 +49,39 @@ pub data FormulaAt (ws : List (List ℕ)) : List Entry → ℕ → List (List �
       AreBehind ws entries k (name ∷ codes "=" ∷ rest) → is_variable name ≡ true →
       is_among (entry_names entries) name ≡ false → length entries < 64 → FormulaAt ws entries (k + 2) rest
 
+-- whether it is an entry's
+abbrev pub is_in_entry : {ws : List (List ℕ)} {entries : List Entry} {k : ℕ} {rest : List (List ℕ)} →
+    FormulaAt ws entries k rest → Bool
+is_in_entry (alone none) = false
+is_in_entry (in_entry name entries k rest is_behind variable new few) = true
+
+-- each name in front of so many words of a formula is bound, or an earlier entry's
+abbrev pub AreKnownTo : List (List ℕ) → List (List ℕ) → ℕ → Type 0
+AreKnownTo earlier ws k = (u : ℕ) → first_unknown (mentions earlier ws) ≡ Some u → k ≤ u
+
+-- Behind so many words stands one that cannot come there, or nothing: behind whole entries a word that is no name, or a
+-- new name without `=`; or one with which the formula there does not go on. All names in front of it are known.
+pub data IsSyntaxAt (ws : List (List ℕ)) : ℕ → Type 0 where
+  no_name : (w : List ℕ) (entries : List Entry) (k : ℕ) (rest : List (List ℕ)) → begins_entry ws ≡ true →
+      AreBehind ws entries k (w ∷ rest) → is_variable w ≡ false → IsSyntaxAt ws k
+  no_sign : (name : List ℕ) (entries : List Entry) (k : ℕ) (rest : List (List ℕ)) → begins_entry ws ≡ true →
+      AreBehind ws entries k (name ∷ rest) → is_variable name ≡ true → is_among (entry_names entries) name ≡ false →
+      length entries < 64 → ((more : List (List ℕ)) → rest ≡ codes "=" ∷ more → ⊥) → IsSyntaxAt ws (suc k)
+  no_formula : (entries : List Entry) (start : ℕ) (rest : List (List ℕ)) (k : ℕ)
+      (begins : FormulaAt ws entries start rest) → IsStuckAt (is_in_entry begins) rest k →
+      AreKnownTo (entry_names entries) rest k → IsSyntaxAt ws (start + k)
+
+-- behind so many words stands one that would open the 65th part, and all names in front of it are known
+pub record IsTooDeepAt (ws : List (List ℕ)) (k : ℕ) : Type 0 where
+  pub entries : List Entry
+  pub start : ℕ
+  pub rest : List (List ℕ)
+  pub begins : FormulaAt ws entries start rest
+  pub front : ℕ
+  pub deep : IsTooDeepIn rest front
+  pub known : AreKnownTo (entry_names entries) rest front
+  pub place : k ≡ start + front
+
 -- behind so many words stands the first name of a formula that is neither bound nor an earlier entry's
 pub record IsUnknownAt (ws : List (List ℕ)) (k : ℕ) : Type 0 where
   pub entries : List Entry
@@ -58,11 +92,10 @@ pub record IsUnknownAt (ws : List (List ℕ)) (k : ℕ) : Type 0 where
   pub first : first_unknown (mentions (entry_names entries) rest) ≡ Some front
   pub place : k ≡ start + front
 
--- Words begin with a formula, and in it so many words stand in front of the first name under an odd number of negations
--- within its fixpoint.
-pub record IsNegatedIn (earlier ws : List (List ℕ)) (k : ℕ) : Type 0 where
+-- Words are a formula and those behind it, and in it so many words stand in front of the first name under an odd number
+-- of negations within its fixpoint.
+pub record IsNegatedIn (earlier ws behind : List (List ℕ)) (k : ℕ) : Type 0 where
   pub front : List (List ℕ)
-  pub behind : List (List ℕ)
   pub parts : ws ≡ front ++ behind
   pub phrase : Phrase
   pub formula : IsFormula 64 front phrase
@@ -79,8 +112,10 @@ pub record IsNegatedAt (ws : List (List ℕ)) (k : ℕ) : Type 0 where
   pub rest : List (List ℕ)
   pub begins : FormulaAt ws entries start rest
   pub positive : are_positive [] entries ≡ true
+  pub behind : List (List ℕ)
+  pub ends : ends_formula (is_in_entry begins) behind ≡ true
   pub front : ℕ
-  pub is : IsNegatedIn (entry_names entries) rest front
+  pub is : IsNegatedIn (entry_names entries) rest behind front
   pub place : k ≡ start + front
 
 -- the byte is the first of the word behind so many others, which is as it should be
@@ -90,17 +125,14 @@ pub record IsPlace (text : List ℕ) (at : ℕ) (Is : ℕ → Type 0) : Type 0 w
   pub place : at ≡ place_of text words
   pub is : Is words
 
--- any word, or the end
-abbrev pub IsWord : ℕ → Type 0
-IsWord k = Unit {0}
-
--- Where a fault is: at the name of an entry that is not new, or one too many, at the first name of its formula that is
--- not known, or at the first of all that is negated; else at a word, or at the text's end.
+-- Where a fault is: at the name of an entry that is not new, or one too many, at the first word that cannot come there,
+-- at the first name of its formula that is not known, at the part that would be the 65th open one, or at the first name
+-- of all that is negated.
 abbrev pub IsAt : List ℕ → RequirementFault → Type 0
 IsAt text (faults.Twice at) = IsPlace text at (IsTwiceAt (words_of text))
 IsAt text (faults.TooMany at) = IsPlace text at (IsTooManyAt (words_of text))
-IsAt text (faults.Syntax at) = IsPlace text at IsWord
+IsAt text (faults.Syntax at) = IsPlace text at (IsSyntaxAt (words_of text))
 IsAt text (faults.UnknownVariable at) = IsPlace text at (IsUnknownAt (words_of text))
-IsAt text (faults.TooDeep at) = IsPlace text at IsWord
+IsAt text (faults.TooDeep at) = IsPlace text at (IsTooDeepAt (words_of text))
 IsAt text (faults.NegatedVariable at) = IsPlace text at (IsNegatedAt (words_of text))
 IsAt text faults.Memory = Unit {0}

@@ -17,6 +17,10 @@ pub mod EntryCode
 pub mod ActionCode
 pub mod Naming
 pub mod Places
+pub mod ActionWords
 pub mod Faults
 pub mod FaultCode
 pub mod NamingCode
+pub mod Needs
+pub mod NeedsCode
+pub mod Stops

@@ -8,14 +8,19 @@
 //! In a whole text each name in a formula is bound there, under an even number of negations within its fixpoint, or it
 //! is an earlier entry's. `parse_formula` does not ask what names stand for.
 //!
+//! `action_words` are the words of a text that belong to action and regular formulas, each with its place, and
+//! `label` the action that one names.
+//!
 //! Definitions stand in `specs/`: `Words` (which words a text has), `Places` (where they begin), `Regular` and
 //! `RegularGrammar` (action and regular formulas), `Written` and `FormulaGrammar` (formulas), `Standings` (how the
-//! names of a formula stand), `Naming` (which words are names), `Requirements` (whole texts), `Faults` (where a text is
-//! faulty), `Marks` (a formula as a list). `Reading` and `EntryReading` are the reader as functions on lists,
-//! `ReadCode`, `EntryCode`, `NamingCode`, `FaultCode` and `ActionCode` what its code keeps; only private contracts name
-//! them.
+//! names of a formula stand), `Naming` (which words are names), `ActionWords` (which belong to action formulas),
+//! `Requirements` (whole texts), `Stops` (where a formula stops), `Faults` (where a text is faulty), `Marks` (a formula
+//! as a list). `Reading` and `EntryReading` are the reader as functions on lists, `Needs` is how a fault is searched
+//! for; `ReadCode`, `EntryCode`, `NamingCode`, `NeedsCode`, `FaultCode` and `ActionCode` are what the code keeps. Only
+//! private contracts name them.
 #![tactic(auto)]
 
+mod acts;
 mod fault;
 mod formula;
 mod head;
@@ -23,6 +28,7 @@ mod joint;
 mod level;
 mod mark;
 mod mentions;
+mod needs;
 mod parse;
 mod regular;
 mod requirement;
@@ -30,7 +36,9 @@ mod stop;
 mod uses;
 mod words;
 
+pub use acts::{PlacedWord, action_words};
 pub use fault::{FormulaFault, RequirementFault};
 pub use mark::{Label, Mark, Name};
 pub use parse::{Formula, Regular, parse_formula, parse_regular};
+pub use regular::label;
 pub use requirement::{Entry, Requirements};

@@ -54,14 +54,15 @@ fn is_label(word: &[u8]) -> bool
 }
 
 /// Whether a word is an action formula.
-fn is_word(word: &[u8]) -> bool
+pub(crate) fn is_word(word: &[u8]) -> bool
     ensures { result ≡ is_some (word_formula word.now) }
 {
     is_same(word, b"true") || is_same(word, b"false") || is_label(word)
 }
 
-/// The action that a word names.
-fn label(alloc: Global, word: &[u8]) -> Result<Option<Label>, AllocError>
+/// Returns the action that a word of an action formula names, if it is one: any bytes in quotes, or a word that begins
+/// with a letter or `_`. That `true` and `false` are none is not asked.
+pub fn label(alloc: Global, word: &[u8]) -> Result<Option<Label>, AllocError>
     ensures { IfOk result (λ label. label ≡ label_of word.now) }
 {
     let [first, bytes @ ..] = word else {
@@ -107,7 +108,7 @@ fn put_word(alloc: Global, word: &[u8], out: &mut Vec<Mark>) -> Result<bool, All
 }
 
 /// Whether an operand can begin with these words.
-fn starts_operand(words: &[&[u8]]) -> bool
+pub(crate) fn starts_operand(words: &[&[u8]]) -> bool
     ensures { result ≡ starts_operand (texts words.now) }
 {
     match words {

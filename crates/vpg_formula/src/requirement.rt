@@ -1,12 +1,14 @@
 //! Whole texts of requirements.
-ghost use Rattle.std.specs.Prelude.{◌≡◌, ◌<◌, ◌≤◌, ◌-◌, ℕ, List, ◌∷◌, [], ◌||◌, true, false, length, is_some, IfOk, IfErr, IfSome, IfNone, MatchResult};
+ghost use Rattle.std.specs.Prelude.{◌≡◌, ◌<◌, ◌≤◌, ◌-◌, ℕ, List, ◌∷◌, [], ◌||◌, Bool, true, false, codes, None, length, is_some, IfOk, IfErr, IfSome, IfNone, MatchResult};
 ghost use Rattle.vpg_formula.specs.Requirements as spec;
 ghost use Rattle.vpg_formula.specs.Requirements.{SpellsRequirements, AreRequirements, IsRefused, marked};
 ghost use Rattle.vpg_formula.specs.EntryReading.{standings_of, body_at, item_behind, entries_at, lone_at, requirements_at};
+ghost use Rattle.vpg_formula.specs.FormulaGrammar.{a_formula};
+ghost use Rattle.vpg_formula.specs.Reading.{phrase_at};
 ghost use Rattle.vpg_formula.specs.ReadCode.{texts};
 ghost use Rattle.vpg_formula.specs.EntryCode.{words_in, entries_of, Goes, earlier_of, Halts, IsBody, IsHead, IsItem, AreRead, IsChecked, Refuses, AreWhole, is_halt_of_memory, is_fault_of_memory, is_halt_negated, is_fault_negated};
 ghost use Rattle.vpg_formula.specs.Faults.{IsAt};
-ghost use Rattle.vpg_formula.specs.FaultCode.{fault_at, HaltsAt, BodyAt, HeadAt, NegatedIn, NegatedAt, first_of, AreReadTo};
+ghost use Rattle.vpg_formula.specs.FaultCode.{fault_at, HaltsAt, BodyAt, WayAt, HeadAt, NegatedIn, NegatedAt, first_of, AreReadTo};
 ghost use Rattle.vpg_formula.specs.Naming.{at_first};
 ghost use Rattle.vpg_formula.specs.NamingCode.{left_mentions, NamesAt};
 
@@ -15,6 +17,7 @@ use crate::formula::formula;
 use crate::head::is_variable;
 use crate::mark::{Mark, Name};
 use crate::mentions::{first_unknown, left_at, mentions};
+use crate::needs::{Way, formula_way};
 use crate::parse::{Formula, place};
 use crate::regular::after_word;
 use crate::stop::{Halt, Stop};
@@ -56,12 +59,12 @@ struct Items {
     negated: Option<usize>,
 }
 
-/// The fault of a formula that ends with this one: that of a name in front of it that is not known, if there is one.
+/// The fault of a formula that stops there: that of a name in front of it that is not known, if there is one.
 fn leftmost(alloc: Global, entries: &[Entry], words: &[&[u8]], left: usize, halt: Halt) -> Halt
     requires early { is_halt_negated halt ≡ false }
-    requires at { BodyAt (earlier_of entries.now) (texts words.now) halt }
+    requires at { WayAt (texts words.now) left halt }
     ensures early { is_halt_negated result ≡ false }
-    ensures at { BodyAt (earlier_of entries.now) (texts words.now) result }
+    ensures at { (in_entry : Bool) → BodyAt in_entry (earlier_of entries.now) (texts words.now) result }
 {
     let Ok(mentions) = mentions(alloc, entries, words, left) else {
         return Halt::Memory;
@@ -69,6 +72,23 @@ fn leftmost(alloc: Global, entries: &[Entry], words: &[&[u8]], left: usize, halt
     match first_unknown(&mentions) {
         Some(left) => Halt::Unknown { left },
         None => halt,
+    }
+}
+
+/// The fault of words that begin no formula.
+fn stop(alloc: Global, entries: &[Entry], words: &[&[u8]]) -> Halt
+    requires none { phrase_at a_formula 64 (texts words.now) ≡ None }
+    ensures early { is_halt_negated result ≡ false }
+    ensures at { (in_entry : Bool) → BodyAt in_entry (earlier_of entries.now) (texts words.now) result }
+{
+    let Ok(way) = formula_way(alloc, words) else {
+        return Halt::Memory;
+    };
+    match way {
+        Way::Halted { left } => leftmost(alloc, entries, words, left, Halt::Syntax { left }),
+        Way::TooDeep { left } => leftmost(alloc, entries, words, left, Halt::TooDeep { left }),
+        // Never: a formula that is whole is read.
+        Way::Done { left } => Halt::Syntax { left },
     }
 }
 
@@ -110,8 +130,9 @@ fn read_body<'a, 't>(
     ensures body { IfOk result (λ b. IsBody (earlier_of entries.now) b.0.negated b.0.marks.items
         (texts words.now) (texts b.1.now)) }
     ensures none { IfErr result (λ h. Halts h (body_at (earlier_of entries.now) (texts words.now))) }
-    ensures negated { IfOk result (λ b. NegatedIn (earlier_of entries.now) (texts words.now) b.0.negated) }
-    ensures at { IfErr result (λ h. BodyAt (earlier_of entries.now) (texts words.now) h) }
+    ensures negated { IfOk result (λ b. NegatedIn (earlier_of entries.now) (texts words.now) (texts b.1.now)
+        b.0.negated) }
+    ensures at { IfErr result (λ h. (in_entry : Bool) → BodyAt in_entry (earlier_of entries.now) (texts words.now) h) }
     ensures shorter { IfOk result (λ b. length b.1.now ≤ length words.now) }
 {
     let mut marks = Vec::new(alloc);
@@ -120,20 +141,9 @@ fn read_body<'a, 't>(
             let negated = check_names(alloc, entries, &marks, words, rest.len())?;
             Ok((Body { marks, negated }, rest))
         }
-        Err(Stop::Syntax { left }) => Err(leftmost(
-            alloc,
-            entries,
-            words,
-            left,
-            Halt::Syntax { left },
-        )),
-        Err(Stop::TooDeep { left }) => Err(leftmost(
-            alloc,
-            entries,
-            words,
-            left,
-            Halt::TooDeep { left },
-        )),
+        Err(Stop::Syntax { left: _ } | Stop::TooDeep { left: _ }) => {
+            Err(stop(alloc, entries, words))
+        }
         Err(Stop::Memory) => Err(Halt::Memory),
     }
 }
@@ -204,8 +214,9 @@ fn read_entry<'a, 't>(
     ensures item { IfOk result (λ i. IsItem (earlier_of entries.now) name.now i.0.negated
         (i.0.entry.name, i.0.entry.formula.marks.items) (texts words.now) (texts i.1.now)) }
     ensures none { IfErr result (λ h. Halts h (item_behind (earlier_of entries.now) name.now (texts words.now))) }
-    ensures negated { IfOk result (λ i. NegatedIn (earlier_of entries.now) (texts words.now) i.0.negated) }
-    ensures at { IfErr result (λ h. BodyAt (earlier_of entries.now) (texts words.now) h) }
+    ensures negated { IfOk result (λ i. NegatedIn (earlier_of entries.now) (texts words.now)
+        (codes ";" ∷ texts i.1.now) i.0.negated) }
+    ensures at { IfErr result (λ h. BodyAt true (earlier_of entries.now) (texts words.now) h) }
     ensures shorter { IfOk result (λ i. length i.1.now ≤ length words.now) }
 {
     let (Body { marks, negated }, rest) = read_body(alloc, entries, words)?;
@@ -249,7 +260,7 @@ fn add_entry<'a, 't>(
     ensures read { (all : List (List ℕ)) →
         AreReadTo items.old.negated (entries_of items.old.entries.items) all (name.now ∷ texts words.now) →
         IfOk result (λ rest. AreReadTo items.new.negated (entries_of items.new.entries.items) all (texts rest.now)) }
-    ensures at { (all : List (List ℕ)) →
+    ensures at { (all : List (List ℕ)) → spec.begins_entry all ≡ true →
         AreReadTo items.old.negated (entries_of items.old.entries.items) all (name.now ∷ texts words.now) →
         IfErr result (λ h. HaltsAt all h) }
     ensures shorter { IfOk result (λ rest. length rest.now ≤ length words.now) }
@@ -265,6 +276,7 @@ fn add_entry<'a, 't>(
 
 /// Entries, and how many words are left at the first negated variable.
 fn several(alloc: Global, words: &[&[u8]]) -> Result<Items, Halt>
+    requires { spec.begins_entry (texts words.now) ≡ true }
     ensures items { IfOk result (λ i. AreRead i.negated (entries_of i.entries.items)
         (entries_at 64 [] (texts words.now))) }
     ensures none { IfErr result (λ h. Halts h (entries_at 64 [] (texts words.now))) }
@@ -287,8 +299,8 @@ fn several(alloc: Global, words: &[&[u8]]) -> Result<Items, Halt>
 fn alone(alloc: Global, words: &[&[u8]]) -> Result<Items, Halt>
     ensures items { IfOk result (λ i. AreRead i.negated (entries_of i.entries.items) (lone_at (texts words.now))) }
     ensures none { IfErr result (λ h. Halts h (lone_at (texts words.now))) }
-    ensures negated { IfOk result (λ i. NegatedIn [] (texts words.now) i.negated) }
-    ensures at { IfErr result (λ h. BodyAt [] (texts words.now) h) }
+    ensures negated { IfOk result (λ i. NegatedIn [] (texts words.now) [] i.negated) }
+    ensures at { IfErr result (λ h. BodyAt false [] (texts words.now) h) }
 {
     let mut entries = Vec::new(alloc);
     let (Body { marks, negated }, rest) = read_body(alloc, &entries, words)?;

@@ -25,7 +25,7 @@ mod tokens;
 pub use diagrams::explain_diagram;
 pub use games::{explain_game, put_unknown};
 pub use message::{Message, put_message, put_number, put_place, put_shown, put_text};
-pub use naming::nearest;
+pub use naming::{nearest, nearest_of};
 pub use requirements::{explain_parts, explain_requirements};
 pub use scripts::explain_line;
 pub use systems::explain_system;

@@ -65,8 +65,9 @@ pub fn nearest(alloc: Global, names: &Names, word: &str) -> Result<Option<u16>, 
     Ok(found)
 }
 
-/// The same of some words.
-pub(crate) fn nearest_of<'t>(
+/// Returns the first of some words that the fewest edits lead to, fewer than half of the bytes of the word that was
+/// perhaps meant to be one of them.
+pub fn nearest_of<'t>(
     alloc: Global,
     words: &[&'t [u8]],
     word: &[u8],

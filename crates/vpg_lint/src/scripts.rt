@@ -14,6 +14,10 @@ use vpg_places::{COMMANDS, Departure, Form, Line, Part, form_of, words_of};
 /// The most bytes of a line.
 const LONGEST_LINE: usize = 4096;
 
+/// The rule for words that stand for vertices.
+const VERTEX_RULE: &[u8] =
+    b"an identifier is digits alone; a name that is not written as a feature's stands in quotes";
+
 /// Whether a word is a label as it should be.
 fn is_label(word: &[u8]) -> bool {
     let Some((b':', digits)) = word.split_last() else {
@@ -68,9 +72,10 @@ fn put_argument_hint(departure: Departure, word: &[u8], out: &mut Said) {
     match departure.expected {
         _ if word.starts_with(b"#") => put_hint(b"a comment is a line of its own", out),
         Some(part) if part.is_name() && !word.is_empty() => put_hint(NAME_RULE, out),
-        Some(Part::Serial | Part::Vertex | Part::Number) if !word.is_empty() => {
+        Some(Part::Serial | Part::Number) if !word.is_empty() => {
             put_hint(b"a number is digits alone", out)
         }
+        Some(Part::Vertex) if !word.is_empty() => put_hint(VERTEX_RULE, out),
         _ => {}
     }
 }

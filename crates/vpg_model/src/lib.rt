@@ -26,6 +26,3 @@ pub use fault::ModelFault;
 pub use moves::Move;
 pub use sharpening::sharpened;
 pub use source::{Source, State, Transition};
-
-#[cfg(test)]
-mod tests;

@@ -237,7 +237,7 @@ pub static LINES: [Form; 8] = [
 ];
 
 /// The commands of scripts.
-pub static COMMANDS: [Form; 31] = [
+pub static COMMANDS: [Form; 32] = [
     Form {
         word: "select",
         written: "select F",
@@ -437,6 +437,13 @@ pub static COMMANDS: [Form; 31] = [
     Form {
         word: "spoil",
         written: "spoil V",
+        parts: &[Part::Vertex],
+        optional: 0,
+        rest: None,
+    },
+    Form {
+        word: "trace",
+        written: "trace V",
         parts: &[Part::Vertex],
         optional: 0,
         rest: None,

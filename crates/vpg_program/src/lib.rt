@@ -30,14 +30,14 @@ use std::sync::Wait;
 use std::thread::Threads;
 use std::{env, io};
 use vpg_family::{
-    Family, Fault, Known, Paths, Pictured, Texts, checked, drawn, explained, line_of, linted,
-    open_script, read_family, read_known, read_script, read_texts, system_drawn,
+    Context, Family, Fault, Known, Paths, Pictured, Texts, checked, drawn, explained, line_of,
+    linted, open_script, read_family, read_known, read_script, read_texts, system_drawn,
 };
 use vpg_report::{
     DIAGRAM, End, GAME, drawn_after, end_of, ended, refused_line, run_script, status,
     system_drawn_after,
 };
-use vpg_script::{Callings, Device, Sink, Source};
+use vpg_script::{Device, Sink, Source};
 use vpg_serving::{Ending, Manner};
 use vpg_terminal::{
     Asked, Ear, Heard, Named, Picture, Setting, Task, Typed, command_list, not_text, read,
@@ -92,7 +92,7 @@ fn run<T: Threads + Wait + Sync, R: Source + Drop, W: Sink + Drop>(
     threads: &T,
     alloc: Global,
     family: Family,
-    callings: &Callings,
+    context: &Context,
     mut reader: R,
     mut writer: W,
     lifters: u32,
@@ -106,7 +106,7 @@ fn run<T: Threads + Wait + Sync, R: Source + Drop, W: Sink + Drop>(
         threads,
         alloc,
         family,
-        callings,
+        context,
         &mut reader,
         &mut writer,
         lifters,
@@ -137,8 +137,8 @@ fn run_built_in<T: Threads + Wait + Sync>(
             tell_waiting(rt);
             let reader = Device::reader(rt.stdin().lock());
             let writer = Device::writer(rt.stdout().lock());
-            let callings = Callings::none(alloc);
-            run(threads, alloc, family, &callings, reader, writer, 1, PLAIN)
+            let context = Context::none(alloc);
+            run(threads, alloc, family, &context, reader, writer, 1, PLAIN)
         }
         Err(fault) => Err(fault),
     }
@@ -159,7 +159,7 @@ fn run_file<T: Threads + Wait + Sync, W: Sink + Drop>(
     threads: &T,
     alloc: Global,
     family: Family,
-    callings: &Callings,
+    context: &Context,
     script: &str,
     writer: W,
     lifters: u32,
@@ -173,7 +173,7 @@ fn run_file<T: Threads + Wait + Sync, W: Sink + Drop>(
             threads,
             alloc,
             family,
-            callings,
+            context,
             Device::reader(file),
             writer,
             lifters,
@@ -200,9 +200,9 @@ fn run_named<T: Threads + Wait + Sync>(
     match known.family.again() {
         Ok(family) => {
             let writer = named(alloc, known, Device::writer(rt.stdout().lock()));
-            let callings = &known.callings;
+            let context = &known.context;
             run_file(
-                rt, threads, alloc, family, callings, script, writer, lifters, manner,
+                rt, threads, alloc, family, context, script, writer, lifters, manner,
             )
         }
         Err(_) => Err(Fault::Memory),
@@ -244,9 +244,9 @@ fn run_known<T: Threads + Wait + Sync>(
     match known.family.again() {
         Ok(family) => {
             let writer = Device::writer(rt.stdout().lock());
-            let callings = &known.callings;
+            let context = &known.context;
             run_file(
-                rt, threads, alloc, family, callings, script, writer, lifters, manner,
+                rt, threads, alloc, family, context, script, writer, lifters, manner,
             )
         }
         Err(_) => Err(Fault::Memory),
@@ -320,9 +320,9 @@ fn converse<T: Threads + Wait + Sync, R: Source + Drop, S: Sink + Drop, W: Sink 
             };
             let reader = Typed::new(alloc, setting, reader, talk);
             let writer = Ear::new(writer, &heard);
-            let callings = &known.callings;
+            let context = &known.context;
             run(
-                threads, alloc, family, callings, reader, writer, lifters, FORGIVING,
+                threads, alloc, family, context, reader, writer, lifters, FORGIVING,
             )
         }
         Err(_) => Err(Fault::Memory),
@@ -448,7 +448,7 @@ fn picture_of_files(
 /// Returns the warnings of a family.
 fn warned(rt: &HostRuntime, alloc: Global, paths: Paths<'_>) -> Result<Vec<u8>, Fault> {
     match read_texts(rt, alloc, paths) {
-        Ok(texts) => linted(alloc, paths, &texts.diagram, &texts.game),
+        Ok(texts) => linted(alloc, paths, &texts),
         Err(fault) => Err(fault),
     }
 }
@@ -465,12 +465,12 @@ fn drawn_after_script<T: Threads + Wait + Sync>(
     requires { (arc_value known.now.family.game).features ≡ feature_count (arc_value known.now.family.diagram).lines }
 {
     let family = &known.family;
-    let callings = &known.callings;
+    let context = &known.context;
     match picture {
         Picture::Family(subject) => {
-            drawn_after(threads, alloc, subject, texts, family, callings, script)
+            drawn_after(threads, alloc, subject, texts, family, context, script)
         }
-        Picture::System => system_drawn_after(threads, alloc, texts, family, callings, script),
+        Picture::System => system_drawn_after(threads, alloc, texts, family, context, script),
     }
 }
 

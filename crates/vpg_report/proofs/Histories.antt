@@ -16,6 +16,7 @@ use Rattle.vpg_texts.specs.Scene.{Scene}
 use Rattle.vpg_texts.specs.Sights.{has_vertices}
 use Rattle.vpg_report.specs.Answers.{Own, NoFeature, NoToken, NoHarvest, NoVertex, vertex_of, call_or, page_if, full_line, Rest, Ends, Follows, Makes, Asks, TellsSettled, AsksSettled, TellsAdded, Sweeps, Keeps, Lifts, TellsChanged, TellsUndone, TellsRedone, TellsSpent, Sees, TellsNamed, TellsPage, verdicts_on, TellsVerdicts}
 use Rattle.vpg_report.specs.Requests.{query_of, order_or, first_call, TellsAnswer, Continues, Begins, Serves}
+use Rattle.vpg_checking.specs.Behaviours.{Behaviour}
 use Rattle.vpg_answers.specs.declared.query.Query.{Query}
 use Rattle.vpg_report.specs.Run.{Between, begun, calling, answering, as_meant, Asked, asking, AnswersAreHistories}
 use Rattle.vpg_report.specs.Setting.{setting_in}
@@ -118,15 +119,15 @@ module _ (L : Harvest → Type 0) where
     tells_verdicts scene (PageIs page) calls text new so = ends _ (with_seen held (verdicts_on scene page)) all calls text new so
     tells_verdicts scene _ calls text new so = absurd so
 
-    tells_answer : (scene : Scene) (inquiry : script.Inquiry) (reply : Reply) → IsFine (TellsAnswer scene held inquiry reply)
-    tells_answer scene inquiry (Ordered d h u) calls text new so = ends text held all calls text new (so.1, refl, so.2)
-    tells_answer scene inquiry _ calls text new so = absurd so
+    tells_answer : (behaviour : Option Behaviour) (scene : Scene) (inquiry : script.Inquiry) (reply : Reply) → IsFine (TellsAnswer behaviour scene held inquiry reply)
+    tells_answer behaviour scene inquiry (Ordered d h u) calls text new so = ends text held all calls text new (so.1, refl, so.2)
+    tells_answer behaviour scene inquiry _ calls text new so = absurd so
 
     asks_settled : (scene : Scene) (made label : ℕ) (reply : Reply) → IsFine (AsksSettled scene held made label reply)
     asks_settled scene made label (Added n) calls text new so = asks scene held all made label Settled (TellsSettled held n) tt (tells_settled n) calls text new so
     asks_settled scene made label _ calls text new so = absurd so
 
-module _ (scene : Scene) (held : Held) where
+module _ (behaviour : Option Behaviour) (scene : Scene) (held : Held) where
   abbrev L : Harvest → Type 0
   L = IsLawful (family_of (setting_in scene))
 
@@ -146,7 +147,7 @@ module _ (scene : Scene) (held : Held) where
         asks L scene held all made label (Commit so.1) (TellsAdded held) (λ _. so.3.of_order.lawful) (tells_added L held all) calls text new so.4
     lifts made label table named _ calls text new so = absurd so
 
-    continues : (made label : ℕ) (command : script.Command) (reply : Reply) → IsFine L (Continues scene held made label command reply)
+    continues : (made label : ℕ) (command : script.Command) (reply : Reply) → IsFine L (Continues behaviour scene held made label command reply)
     continues made label (script.Select name) reply calls text new so = tells_changed L held all reply calls text new so
     continues made label (script.Exclude name) reply calls text new so = tells_changed L held all reply calls text new so
     continues made label (script.Retract name) reply calls text new so = tells_changed L held all reply calls text new so
@@ -161,25 +162,25 @@ module _ (scene : Scene) (held : Held) where
     continues made label (script.Look lookup) reply calls text new so = tells_page L held all (Sees scene lookup) reply calls text new so
     continues made label script.Changed reply calls text new so = tells_verdicts L held all scene reply calls text new so
     continues made label (script.Known name) reply calls text new so = tells_page L held all (TellsNamed scene name) reply calls text new so
-    continues made label (script.Ask inquiry) reply calls text new so = tells_answer L held all scene inquiry reply calls text new so
+    continues made label (script.Ask inquiry) reply calls text new so = tells_answer L held all behaviour scene inquiry reply calls text new so
 
-    begins : (made label : ℕ) (command : script.Command) (call : Call) → HandsIn L call → IsFine L (Begins scene held made label command (Ok call))
-    begins made label command call hands = asks L scene held all made label call (Continues scene held (made + 1) label command) hands (continues (made + 1) label command)
+    begins : (made label : ℕ) (command : script.Command) (call : Call) → HandsIn L call → IsFine L (Begins behaviour scene held made label command (Ok call))
+    begins made label command call hands = asks L scene held all made label call (Continues behaviour scene held (made + 1) label command) hands (continues (made + 1) label command)
 
     begins_or : {X : Type 0} (made label : ℕ) (command : script.Command) (own : Own) (call : X → Call) (found : Option X) → ((x : X) → found ≡ Some x → HandsIn L (call x)) →
-        IsFine L (Begins scene held made label command (call_or own call found))
+        IsFine L (Begins behaviour scene held made label command (call_or own call found))
     begins_or made label command own call None hands calls text new so = ends L _ held all calls text new so
     begins_or made label command own call (Some x) hands calls text new so = begins made label command (call x) (hands x refl) calls text new so
 
-    begins_order : (made label : ℕ) (inquiry : script.Inquiry) (found : Result Query Own) → IsFine L (Begins scene held made label (script.Ask inquiry) (order_or found))
+    begins_order : (made label : ℕ) (inquiry : script.Inquiry) (found : Result Query Own) → IsFine L (Begins behaviour scene held made label (script.Ask inquiry) (order_or found))
     begins_order made label inquiry (Err own) calls text new so = ends L _ held all calls text new so
     begins_order made label inquiry (Ok query) calls text new so = begins made label (script.Ask inquiry) Order tt calls text new so
 
-    begins_page : (made label : ℕ) (lookup : script.Lookup) (has : Bool) → IsFine L (Begins scene held made label (script.Look lookup) (page_if has))
+    begins_page : (made label : ℕ) (lookup : script.Lookup) (has : Bool) → IsFine L (Begins behaviour scene held made label (script.Look lookup) (page_if has))
     begins_page made label lookup true calls text new so = begins made label (script.Look lookup) Page tt calls text new so
     begins_page made label lookup false calls text new so = ends L _ held all calls text new so
 
-    serves : (made label : ℕ) (command : script.Command) → IsFine L (Begins scene held made label command (first_call scene held command))
+    serves : (made label : ℕ) (command : script.Command) → IsFine L (Begins behaviour scene held made label command (first_call behaviour scene held command))
     serves made label (script.Select name) = begins_or made label (script.Select name) NoFeature (λ f. Decide f Bool.true) (index_of scene.names name) (λ _ _. tt)
     serves made label (script.Exclude name) = begins_or made label (script.Exclude name) NoFeature (λ f. Decide f Bool.false) (index_of scene.names name) (λ _ _. tt)
     serves made label (script.Retract name) = begins_or made label (script.Retract name) NoFeature Retract (index_of scene.names name) (λ _ _. tt)
@@ -194,11 +195,11 @@ module _ (scene : Scene) (held : Held) where
     serves made label (script.Look lookup) = begins_page made label lookup (has_vertices scene.identifiers lookup)
     serves made label script.Changed = begins made label script.Changed Page tt
     serves made label (script.Known name) = begins_or made label (script.Known name) NoFeature (λ f. Page) (index_of scene.names name) (λ _ _. tt)
-    serves made label (script.Ask inquiry) = begins_order made label inquiry (query_of scene inquiry)
+    serves made label (script.Ask inquiry) = begins_order made label inquiry (query_of behaviour scene inquiry)
 
 -- ---- lines
 
-module _ (meaning : Request → Request) (scene : Scene) where
+module _ (meaning : Request → Request) (behaviour : Option Behaviour) (scene : Scene) where
   abbrev family : Family
   family = family_of (setting_in scene)
 
@@ -215,8 +216,8 @@ module _ (meaning : Request → Request) (scene : Scene) where
   none_more : (old new : Between) (before : List Event) → old.calls ≡ length before → new ≡ old → new.calls ≡ length (before ++ [])
   none_more old new before counted same = omega (arith, ap (λ (b : Between). b.calls) same, counted, length-append before [])
 
-  pub line_of : (old : Between) (before : List Event) (s : Said) (text : List ℕ) (new : Between) → old.calls ≡ length before → AreLawful (IsLawful family) old.held.harvests → Speaks (as_meant meaning (calling scene)) old s text new →
-      Calls (λ a b. Speaks (as_meant meaning (asking scene)) a s text b) old before new
+  pub line_of : (old : Between) (before : List Event) (s : Said) (text : List ℕ) (new : Between) → old.calls ≡ length before → AreLawful (IsLawful family) old.held.harvests → Speaks (as_meant meaning (calling behaviour scene)) old s text new →
+      Calls (λ a b. Speaks (as_meant meaning (asking behaviour scene)) a s text b) old before new
   line_of old before (Ok None) text new counted all speaks = record {
     calls = [];
     legal = tt;
@@ -227,20 +228,20 @@ module _ (meaning : Request → Request) (scene : Scene) where
     counted = none_more old new before counted speaks.1;
   }
   line_of old before (Ok (Some request)) text new counted all speaks =
-      let fine = serves scene old.held all old.calls (meaning request).label (meaning request).command speaks.0 text new.held speaks.1.0 in
+      let fine = serves behaviour scene old.held all old.calls (meaning request).label (meaning request).command speaks.0 text new.held speaks.1.0 in
       record {
         calls = speaks.0;
         legal = speaks.1.1;
         lawful = fine.0;
         kept = fine.1;
-        asked = (speaks.0, (subst (λ (n : ℕ). Serves scene old.held n (meaning request) speaks.0 text new.held) counted speaks.1.0, refl));
+        asked = (speaks.0, (subst (λ (n : ℕ). Serves behaviour scene old.held n (meaning request) speaks.0 text new.held) counted speaks.1.0, refl));
         left = speaks.1.2;
         counted = omega (arith, speaks.1.3, counted, length-append before speaks.0);
       }
   line_of old before (Err fault) text new counted all speaks = absurd speaks
 
-  lines_of : (old : Between) (before : List Event) (lines : List (List ℕ)) (text : List ℕ) (new : Between) → old.calls ≡ length before → AreLawful (IsLawful family) old.held.harvests → Answered (as_meant meaning (calling scene)) old lines text new →
-      Calls (λ a b. Answered (as_meant meaning (asking scene)) a lines text b) old before new
+  lines_of : (old : Between) (before : List Event) (lines : List (List ℕ)) (text : List ℕ) (new : Between) → old.calls ≡ length before → AreLawful (IsLawful family) old.held.harvests → Answered (as_meant meaning (calling behaviour scene)) old lines text new →
+      Calls (λ a b. Answered (as_meant meaning (asking behaviour scene)) a lines text b) old before new
   lines_of old before [] text new counted all answered = record {
     calls = [];
     legal = tt;
@@ -252,8 +253,8 @@ module _ (meaning : Request → Request) (scene : Scene) where
   }
   lines_of old before (line ∷ lines) text new counted all answered =
       let mid = answered.0 in
-      let first : Calls (λ a b. Speaks (as_meant meaning (asking scene)) a (said line) answered.1 b) old before mid = line_of old before (said line) answered.1 mid counted all answered.3 in
-      let rest : Calls (λ a b. Answered (as_meant meaning (asking scene)) a lines answered.2 b) mid (before ++ first.calls) new = lines_of mid (before ++ first.calls) lines answered.2 new first.counted first.kept answered.5 in
+      let first : Calls (λ a b. Speaks (as_meant meaning (asking behaviour scene)) a (said line) answered.1 b) old before mid = line_of old before (said line) answered.1 mid counted all answered.3 in
+      let rest : Calls (λ a b. Answered (as_meant meaning (asking behaviour scene)) a lines answered.2 b) mid (before ++ first.calls) new = lines_of mid (before ++ first.calls) lines answered.2 new first.counted first.kept answered.5 in
       record {
         calls = first.calls ++ rest.calls;
         legal = legal_more family old.book first.calls rest.calls first.legal (subst (λ (b : Book). IsLegalFrom family b rest.calls) first.left rest.legal);
@@ -265,7 +266,7 @@ module _ (meaning : Request → Request) (scene : Scene) where
           answered.2,
           first.asked,
           answered.4,
-          subst (λ (h : List Event). Answered (as_meant meaning (asking scene)) (record { calls = before ++ first.calls; held = mid.held }) lines answered.2 (record { calls = h; held = new.held }))
+          subst (λ (h : List Event). Answered (as_meant meaning (asking behaviour scene)) (record { calls = before ++ first.calls; held = mid.held }) lines answered.2 (record { calls = h; held = new.held }))
               (append_assoc before first.calls rest.calls) rest.asked,
         );
         left = rest.left ∙ ap (λ (b : Book). book_after family b rest.calls) first.left ∙ sym (after_more family old.book first.calls rest.calls);
@@ -273,18 +274,18 @@ module _ (meaning : Request → Request) (scene : Scene) where
       }
 
 -- what sweeps made is no part of a history
-module _ (meaning : Request → Request) (scene : Scene) (lifters : ℕ) where
-  pub speaks_calls : (old : Between) (s : Said) (text : List ℕ) (new : Between) → Speaks (as_meant meaning (answering scene lifters)) old s text new → Speaks (as_meant meaning (calling scene)) old s text new
+module _ (meaning : Request → Request) (behaviour : Option Behaviour) (scene : Scene) (lifters : ℕ) where
+  pub speaks_calls : (old : Between) (s : Said) (text : List ℕ) (new : Between) → Speaks (as_meant meaning (answering behaviour scene lifters)) old s text new → Speaks (as_meant meaning (calling behaviour scene)) old s text new
   speaks_calls old (Ok None) text new so = so
   speaks_calls old (Ok (Some request)) text new so = so.0
   speaks_calls old (Err fault) text new so = so
 
-  answered_calls : (old : Between) (lines : List (List ℕ)) (text : List ℕ) (new : Between) → Answered (as_meant meaning (answering scene lifters)) old lines text new → Answered (as_meant meaning (calling scene)) old lines text new
+  answered_calls : (old : Between) (lines : List (List ℕ)) (text : List ℕ) (new : Between) → Answered (as_meant meaning (answering behaviour scene lifters)) old lines text new → Answered (as_meant meaning (calling behaviour scene)) old lines text new
   answered_calls old [] text new so = so
   answered_calls old (line ∷ lines) text new so =
       (so.0, so.1, so.2, speaks_calls old (said line) so.1 so.0 so.3, so.4, answered_calls so.0 lines so.2 new so.5)
 
 pub answers_are_histories : AnswersAreHistories
-answers_are_histories meaning scene lifters lines text new answered =
-    let all = lines_of meaning scene begun [] lines text new refl tt (answered_calls meaning scene lifters begun lines text new answered) in
+answers_are_histories meaning behaviour scene lifters lines text new answered =
+    let all = lines_of meaning behaviour scene begun [] lines text new refl tt (answered_calls meaning behaviour scene lifters begun lines text new answered) in
     (all.calls, (record { legal = all.legal; lawful = all.lawful; leaves = sym all.left }, all.asked))

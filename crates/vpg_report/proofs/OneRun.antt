@@ -9,6 +9,7 @@ use Rattle.vpg_report.specs.Results.{IsThrough}
 use Rattle.vpg_report.specs.Run.{Between, begun, as_meant}
 use Rattle.vpg_report.specs.Settling.{settling, SettledRunsAreOne}
 use Rattle.vpg_texts.specs.Scene.{Scene}
+use Rattle.vpg_checking.specs.Behaviours.{Behaviour}
 use Rattle.vpg_script.specs.Script.{Request, Said, said}
 use Rattle.vpg_script.specs.declared.command.LineFault.{LineFault}
 use Rattle.vpg_script.specs.declared.command.LineFault.TheVariants as faults
@@ -72,22 +73,22 @@ answered_faultless serves s new (line ∷ lines) text answered =
     (speaks_faultless serves s answered.0 line answered.1 (said line) refl answered.3, answered_faultless serves answered.0 new lines answered.2 answered.5)
 
 -- a run through a known script: its lines, their answers, and where it stops
-record Through (meaning : Request → Request) (scene : Scene) (script before after : List ℕ) (lines : List (List ℕ)) (stop : Option LineFault) : Type 0 where
+record Through (meaning : Request → Request) (behaviour : Option Behaviour) (scene : Scene) (script before after : List ℕ) (lines : List (List ℕ)) (stop : Option LineFault) : Type 0 where
   rest : List ℕ
   read : ReadLines script lines rest
   stops_at : Stops stop rest
   new : Between
   text : List ℕ
-  answered : Answered (as_meant meaning (settling scene)) begun lines text new
+  answered : Answered (as_meant meaning (settling behaviour scene)) begun lines text new
   written : after ≡ before ++ text
 
-through_one : (meaning : Request → Request) (scene : Scene) (script before after later : List ℕ) (lines others : List (List ℕ)) (one other : Option LineFault) → Through meaning scene script before after lines one →
-    Through meaning scene script before later others other → (after ≡ later) × (lines ≡ others) × (one ≡ other)
-through_one meaning scene script before after later lines others one other a b =
-    let same : (lines ≡ others) × (one ≡ other) = read_one script lines others a.rest b.rest one other a.read b.read (answered_faultless (as_meant meaning (settling scene)) begun a.new lines a.text a.answered)
-    (answered_faultless (as_meant meaning (settling scene)) begun b.new others b.text b.answered) a.stops_at b.stops_at in
-    let texts : (a.text ≡ b.text) × (a.new ≡ b.new) = lines_one meaning scene begun lines a.text b.text a.new b.new a.answered
-    (subst (λ (ls : List (List ℕ)). Answered (as_meant meaning (settling scene)) begun ls b.text b.new) (sym same.0) b.answered) in
+through_one : (meaning : Request → Request) (behaviour : Option Behaviour) (scene : Scene) (script before after later : List ℕ) (lines others : List (List ℕ)) (one other : Option LineFault) → Through meaning behaviour scene script before after lines one →
+    Through meaning behaviour scene script before later others other → (after ≡ later) × (lines ≡ others) × (one ≡ other)
+through_one meaning behaviour scene script before after later lines others one other a b =
+    let same : (lines ≡ others) × (one ≡ other) = read_one script lines others a.rest b.rest one other a.read b.read (answered_faultless (as_meant meaning (settling behaviour scene)) begun a.new lines a.text a.answered)
+    (answered_faultless (as_meant meaning (settling behaviour scene)) begun b.new others b.text b.answered) a.stops_at b.stops_at in
+    let texts : (a.text ≡ b.text) × (a.new ≡ b.new) = lines_one meaning behaviour scene begun lines a.text b.text a.new b.new a.answered
+    (subst (λ (ls : List (List ℕ)). Answered (as_meant meaning (settling behaviour scene)) begun ls b.text b.new) (sym same.0) b.answered) in
     (a.written ∙ ap (λ (t : List ℕ). before ++ t) texts.0 ∙ sym b.written, same.0, same.1)
 
 -- the result of a run through these lines, with this stop
@@ -95,15 +96,15 @@ abbrev result_of : List (List ℕ) → Option LineFault → Result (Unit {0}) Ru
 result_of lines None = Ok tt
 result_of lines (Some fault) = Err (stops.Line (length lines + 1) fault)
 
-module _ (meaning : Request → Request) (scene : Scene) (script before after : List ℕ) (left : Option (List ℕ)) where
-  made : (lines : List (List ℕ)) (stop : Option LineFault) (rest : Option (List ℕ)) (new : Between) → Wrote (as_meant meaning (settling scene)) begun new (Some script) rest (Some before) (Some after) lines →
-      ((r : List ℕ) → rest ≡ Some r → Stops stop r) → Through meaning scene script before after lines stop
+module _ (meaning : Request → Request) (behaviour : Option Behaviour) (scene : Scene) (script before after : List ℕ) (left : Option (List ℕ)) where
+  made : (lines : List (List ℕ)) (stop : Option LineFault) (rest : Option (List ℕ)) (new : Between) → Wrote (as_meant meaning (settling behaviour scene)) begun new (Some script) rest (Some before) (Some after) lines →
+      ((r : List ℕ) → rest ≡ Some r → Stops stop r) → Through meaning behaviour scene script before after lines stop
   made lines stop None new wrote stops_here = absurd wrote.read
   made lines stop (Some r) new wrote stops_here =
       record { rest = r; read = wrote.read; stops_at = stops_here r refl; new = new; text = wrote.text; answered = wrote.answered; written = wrote.written }
 
-  through : (result : Result (Unit {0}) RunFault) → IsThrough result → Outcome (as_meant meaning (settling scene)) (λ _. ⊤) begun (Some script) left (Some before) (Some after) result →
-      (lines : List (List ℕ)) × (stop : Option LineFault) × (Through meaning scene script before after lines stop × (result ≡ result_of lines stop))
+  through : (result : Result (Unit {0}) RunFault) → IsThrough result → Outcome (as_meant meaning (settling behaviour scene)) (λ _. ⊤) begun (Some script) left (Some before) (Some after) result →
+      (lines : List (List ℕ)) × (stop : Option LineFault) × (Through meaning behaviour scene script before after lines stop × (result ≡ result_of lines stop))
   through (Ok done) is (lines, new, rest, (wrote, empty)) =
       (lines, None, (made lines None rest new wrote (λ r here. subst IsEmptyKnown here empty), refl))
   through (Err (stops.Line n fault)) is (lines, new, rest, (wrote, faulty, counted)) =
@@ -115,8 +116,8 @@ module _ (meaning : Request → Request) (scene : Scene) (script before after : 
   through (Err stops.Stray) is outcome = absurd is
 
 pub settled_runs_are_one : SettledRunsAreOne
-settled_runs_are_one meaning scene script before after later left rest result other whole ends all full =
-    let a = through meaning scene script before after left result whole ends in
-    let b = through meaning scene script before later rest other all full in
-    let same : (after ≡ later) × (a.0 ≡ b.0) × (a.1 ≡ b.1) = through_one meaning scene script before after later a.0 b.0 a.1 b.1 a.2.0 b.2.0 in
+settled_runs_are_one meaning behaviour scene script before after later left rest result other whole ends all full =
+    let a = through meaning behaviour scene script before after left result whole ends in
+    let b = through meaning behaviour scene script before later rest other all full in
+    let same : (after ≡ later) × (a.0 ≡ b.0) × (a.1 ≡ b.1) = through_one meaning behaviour scene script before after later a.0 b.0 a.1 b.1 a.2.0 b.2.0 in
     (same.0, a.2.1 ∙ ap₂ (λ (ls : List (List ℕ)) (s : Option LineFault). result_of ls s) same.1 same.2 ∙ sym b.2.1)

@@ -22,6 +22,7 @@ use Rattle.vpg_texts.specs.Sights.{has_vertices}
 use Rattle.vpg_report.specs.Answers.{Own, NoFeature, NoToken, NoHarvest, NoVertex, Checks, IsOf, IsLifted, vertex_of, call_or, page_if, full_line, settled_text, Rest, Ends, Follows, Makes, Asks, TellsSettled, AsksSettled, TellsAdded, Sweeps, Keeps, Lifts, TellsChanged, TellsUndone, TellsRedone, TellsSpent, Sees, TellsNamed, TellsPage, verdicts_on, TellsVerdicts}
 use Rattle.vpg_report.specs.Requests.{query_of, answer_limits, order_or, first_call, TellsAnswer, Continues, Begins}
 use Rattle.vpg_answers.specs.Answers.{IsAnswer, HasDoubt}
+use Rattle.vpg_checking.specs.Behaviours.{Behaviour}
 use Rattle.vpg_answers.specs.declared.query.Query.{Query}
 use Rattle.vpg_answers.proofs.One.{answers_are_one}
 use Rattle.vpg_report.specs.Run.{Between, as_meant, begun}
@@ -86,7 +87,7 @@ query_one asked one other a b = cc (a, b)
 -- ---- calls from one book
 
 -- with what is told of the line's text
-module _ (scene : Scene) (held : Held) (Told : List ℕ → Type 0) where
+module _ (behaviour : Option Behaviour) (scene : Scene) (held : Held) (Told : List ℕ → Type 0) where
   abbrev all : Family
   all = family_of (setting_in scene)
 
@@ -276,11 +277,11 @@ module _ (scene : Scene) (held : Held) (Told : List ℕ → Type 0) where
         asks book made label (Commit a.1) (TellsAdded held) (λ reply told. tells_added (next all book label (Commit a.1) reply) held reply) calls more text other new newer a.4
         (subst (λ (h : Harvest). Asks scene held made label (Commit h) (TellsAdded held) more other newer) same b.4) fit fits
 
-    answered : (inquiry : script.Inquiry) → ((text : List ℕ) → Told text → ¬ (HasDoubt text)) → IsOne book (TellsAnswer scene held inquiry (Ordered decisions hopeful dual))
+    answered : (inquiry : script.Inquiry) → ((text : List ℕ) → Told text → ¬ (HasDoubt text)) → IsOne book (TellsAnswer behaviour scene held inquiry (Ordered decisions hopeful dual))
     answered inquiry sure calls more text other new newer a b fit fits =
-        let same : b.0.0 ≡ a.0.0 = query_one (query_of scene inquiry) b.0.0 a.0.0 b.0.1.0 a.0.1.0 in
-        let of_one : IsAnswer scene answer_limits a.0.0 decisions hopeful dual other = subst (λ (q : Query). IsAnswer scene answer_limits q decisions hopeful dual other) same b.0.1.1 in
-        (a.1 ∙ sym b.1, answers_are_one scene answer_limits answer_limits a.0.0 decisions hopeful dual text other a.0.1.1 of_one (sure text fit.told) (sure other fits.told), a.2 ∙ sym b.2)
+        let same : b.0.0 ≡ a.0.0 = query_one (query_of behaviour scene inquiry) b.0.0 a.0.0 b.0.1.0 a.0.1.0 in
+        let of_one : IsAnswer behaviour scene answer_limits a.0.0 decisions hopeful dual other = subst (λ (q : Query). IsAnswer behaviour scene answer_limits q decisions hopeful dual other) same b.0.1.1 in
+        (a.1 ∙ sym b.1, answers_are_one behaviour scene answer_limits answer_limits a.0.0 decisions hopeful dual text other a.0.1.1 of_one (sure text fit.told) (sure other fits.told), a.2 ∙ sym b.2)
 
   -- ---- a line
 
@@ -298,25 +299,25 @@ module _ (scene : Scene) (held : Held) (Told : List ℕ → Type 0) where
     lifts table named _ told = λ calls more text other new newer a. absurd a
 
     tells_answer : (inquiry : script.Inquiry) → ((text : List ℕ) → Told text → ¬ (HasDoubt text)) → (reply : Reply) → IsReply all book Order reply →
-        IsOne (next all book label Order reply) (TellsAnswer scene held inquiry reply)
+        IsOne (next all book label Order reply) (TellsAnswer behaviour scene held inquiry reply)
     tells_answer inquiry sure (Ordered d h u) told = answered book d h u (ordered book d h u told) inquiry sure
     tells_answer inquiry sure _ told = λ calls more text other new newer a. absurd a
 
-    begins : (command : script.Command) (call : Call) → ((reply : Reply) → IsReply all book call reply → IsOne (next all book label call reply) (Continues scene held (made + 1) label command reply)) →
-        IsOne book (Begins scene held made label command (Ok call))
-    begins command call = asks book made label call (Continues scene held (made + 1) label command)
+    begins : (command : script.Command) (call : Call) → ((reply : Reply) → IsReply all book call reply → IsOne (next all book label call reply) (Continues behaviour scene held (made + 1) label command reply)) →
+        IsOne book (Begins behaviour scene held made label command (Ok call))
+    begins command call = asks book made label call (Continues behaviour scene held (made + 1) label command)
 
     begins_or : {X : Type 0} (command : script.Command) (own : Own) (call : X → Call) (found : Option X) →
-        ((x : X) (reply : Reply) → IsReply all book (call x) reply → IsOne (next all book label (call x) reply) (Continues scene held (made + 1) label command reply)) →
-        IsOne book (Begins scene held made label command (call_or own call found))
+        ((x : X) (reply : Reply) → IsReply all book (call x) reply → IsOne (next all book label (call x) reply) (Continues behaviour scene held (made + 1) label command reply)) →
+        IsOne book (Begins behaviour scene held made label command (call_or own call found))
     begins_or command own call None one = ends book _ held
     begins_or command own call (Some x) one = begins command (call x) (one x)
 
-    begins_order : (inquiry : script.Inquiry) → ((text : List ℕ) → Told text → ¬ (HasDoubt text)) → (found : Result Query Own) → IsOne book (Begins scene held made label (script.Ask inquiry) (order_or found))
+    begins_order : (inquiry : script.Inquiry) → ((text : List ℕ) → Told text → ¬ (HasDoubt text)) → (found : Result Query Own) → IsOne book (Begins behaviour scene held made label (script.Ask inquiry) (order_or found))
     begins_order inquiry sure (Err own) = ends book _ held
     begins_order inquiry sure (Ok query) = begins (script.Ask inquiry) Order (tells_answer inquiry sure)
 
-    begins_page : (lookup : script.Lookup) (has : Bool) → IsOne book (Begins scene held made label (script.Look lookup) (page_if has))
+    begins_page : (lookup : script.Lookup) (has : Bool) → IsOne book (Begins behaviour scene held made label (script.Look lookup) (page_if has))
     begins_page lookup true = begins (script.Look lookup) Page (λ reply told. tells_page _ (Sees scene lookup) (λ page one other. seen_one scene page (decisions_of page) _ _ lookup one other) reply)
     begins_page lookup false = ends book _ held
 
@@ -326,7 +327,7 @@ module _ (scene : Scene) (held : Held) (Told : List ℕ → Type 0) where
     SettleIsTold (script.Ask inquiry) = (text : List ℕ) → Told text → ¬ (HasDoubt text)
     SettleIsTold _ = ⊤
 
-    serves : (command : script.Command) → SettleIsTold command → IsOne book (Begins scene held made label command (first_call scene held command))
+    serves : (command : script.Command) → SettleIsTold command → IsOne book (Begins behaviour scene held made label command (first_call behaviour scene held command))
     serves (script.Select name) is = begins_or (script.Select name) NoFeature (λ f. Decide f true) (index_of scene.names name) (λ f reply told. tells_changed _ reply)
     serves (script.Exclude name) is = begins_or (script.Exclude name) NoFeature (λ f. Decide f false) (index_of scene.names name) (λ f reply told. tells_changed _ reply)
     serves (script.Retract name) is = begins_or (script.Retract name) NoFeature Retract (index_of scene.names name) (λ f reply told. tells_changed _ reply)
@@ -341,45 +342,45 @@ module _ (scene : Scene) (held : Held) (Told : List ℕ → Type 0) where
     serves (script.Look lookup) is = begins_page lookup (has_vertices scene.identifiers lookup)
     serves script.Changed is = begins script.Changed Page (λ reply told. tells_verdicts _ reply)
     serves (script.Known name) is = begins_or (script.Known name) NoFeature (λ f. Page) (index_of scene.names name) (λ f reply told. tells_page _ (TellsNamed scene name) (λ page one other. named_one scene (decisions_of page) (index_of scene.names name) one other) reply)
-    serves (script.Ask inquiry) is = begins_order inquiry is (query_of scene inquiry)
+    serves (script.Ask inquiry) is = begins_order inquiry is (query_of behaviour scene inquiry)
 
 -- ---- lines
 
-settle_is_told : (scene : Scene) (held : Held) (book : Book) (made label : ℕ) (command : script.Command) → SettleIsTold scene held (TellsSettle command) book made label command
-settle_is_told scene held book made label (script.Settle n) = λ text told. told
-settle_is_told scene held book made label (script.Ask inquiry) = λ text told. told
-settle_is_told scene held book made label (script.Select name) = tt
-settle_is_told scene held book made label (script.Exclude name) = tt
-settle_is_told scene held book made label (script.Retract name) = tt
-settle_is_told scene held book made label (script.Undo s) = tt
-settle_is_told scene held book made label (script.Redo s) = tt
-settle_is_told scene held book made label (script.Keep s) = tt
-settle_is_told scene held book made label (script.Forget s) = tt
-settle_is_told scene held book made label (script.Lift table named) = tt
-settle_is_told scene held book made label script.Harvest = tt
-settle_is_told scene held book made label (script.Commit k) = tt
-settle_is_told scene held book made label (script.Look lookup) = tt
-settle_is_told scene held book made label script.Changed = tt
-settle_is_told scene held book made label (script.Known name) = tt
+settle_is_told : (behaviour : Option Behaviour) (scene : Scene) (held : Held) (book : Book) (made label : ℕ) (command : script.Command) → SettleIsTold behaviour scene held (TellsSettle command) book made label command
+settle_is_told behaviour scene held book made label (script.Settle n) = λ text told. told
+settle_is_told behaviour scene held book made label (script.Ask inquiry) = λ text told. told
+settle_is_told behaviour scene held book made label (script.Select name) = tt
+settle_is_told behaviour scene held book made label (script.Exclude name) = tt
+settle_is_told behaviour scene held book made label (script.Retract name) = tt
+settle_is_told behaviour scene held book made label (script.Undo s) = tt
+settle_is_told behaviour scene held book made label (script.Redo s) = tt
+settle_is_told behaviour scene held book made label (script.Keep s) = tt
+settle_is_told behaviour scene held book made label (script.Forget s) = tt
+settle_is_told behaviour scene held book made label (script.Lift table named) = tt
+settle_is_told behaviour scene held book made label script.Harvest = tt
+settle_is_told behaviour scene held book made label (script.Commit k) = tt
+settle_is_told behaviour scene held book made label (script.Look lookup) = tt
+settle_is_told behaviour scene held book made label script.Changed = tt
+settle_is_told behaviour scene held book made label (script.Known name) = tt
 
-module _ (meaning : Request → Request) (scene : Scene) where
-  line_one : (old : Between) (s : Said) (text other : List ℕ) (new newer : Between) → Speaks (as_meant meaning (settling scene)) old s text new → Speaks (as_meant meaning (settling scene)) old s other newer → (text ≡ other) × (new ≡ newer)
+module _ (meaning : Request → Request) (behaviour : Option Behaviour) (scene : Scene) where
+  line_one : (old : Between) (s : Said) (text other : List ℕ) (new newer : Between) → Speaks (as_meant meaning (settling behaviour scene)) old s text new → Speaks (as_meant meaning (settling behaviour scene)) old s other newer → (text ≡ other) × (new ≡ newer)
   line_one old (Ok None) text other new newer a b = (a.0 ∙ sym b.0, a.1 ∙ sym b.1)
   line_one old (Ok (Some request)) text other new newer a b =
       let one : (a.0.0 ≡ b.0.0) × (text ≡ other) × (new.held ≡ newer.held) =
-      serves scene old.held (TellsSettle (meaning request).command) old.book old.calls (meaning request).label (meaning request).command (settle_is_told scene old.held old.book old.calls (meaning request).label (meaning request).command) a.0.0 b.0.0 text other new.held newer.held a.0.1.0 b.0.1.0
+      serves behaviour scene old.held (TellsSettle (meaning request).command) old.book old.calls (meaning request).label (meaning request).command (settle_is_told behaviour scene old.held old.book old.calls (meaning request).label (meaning request).command) a.0.0 b.0.0 text other new.held newer.held a.0.1.0 b.0.1.0
       (record { legal = a.0.1.1; told = a.1; checked = a.2 }) (record { legal = b.0.1.1; told = b.1; checked = b.2 }) in
       let book : new.book ≡ newer.book = a.0.1.2 ∙ ap (λ (es : List Event). book_after (family_of (setting_in scene)) old.book es) one.0 ∙ sym b.0.1.2 in
       let calls : new.calls ≡ newer.calls = a.0.1.3 ∙ ap (λ (es : List Event). old.calls + length es) one.0 ∙ sym b.0.1.3 in
       (one.1, λ i. record { book = book i; calls = calls i; held = one.2 i })
   line_one old (Err fault) text other new newer a b = absurd a
 
-  pub lines_one : (old : Between) (lines : List (List ℕ)) (text other : List ℕ) (new newer : Between) → Answered (as_meant meaning (settling scene)) old lines text new → Answered (as_meant meaning (settling scene)) old lines other newer → (text ≡ other) × (new ≡ newer)
+  pub lines_one : (old : Between) (lines : List (List ℕ)) (text other : List ℕ) (new newer : Between) → Answered (as_meant meaning (settling behaviour scene)) old lines text new → Answered (as_meant meaning (settling behaviour scene)) old lines other newer → (text ≡ other) × (new ≡ newer)
   lines_one old [] text other new newer a b = (a.0 ∙ sym b.0, a.1 ∙ sym b.1)
   lines_one old (line ∷ lines) text other new newer a b =
       let first : (a.1 ≡ b.1) × (a.0 ≡ b.0) = line_one old (said line) a.1 b.1 a.0 b.0 a.3 b.3 in
-      let rest : (a.2 ≡ b.2) × (new ≡ newer) = lines_one a.0 lines a.2 b.2 new newer a.5 (subst (λ (m : Between). Answered (as_meant meaning (settling scene)) m lines b.2 newer) (sym first.1) b.5) in
+      let rest : (a.2 ≡ b.2) × (new ≡ newer) = lines_one a.0 lines a.2 b.2 new newer a.5 (subst (λ (m : Between). Answered (as_meant meaning (settling behaviour scene)) m lines b.2 newer) (sym first.1) b.5) in
       (a.4 ∙ ap₂ (λ (x y : List ℕ). x ++ y) first.0 rest.0 ∙ sym b.4, rest.1)
 
 pub settled_answers_are_one : SettledAnswersAreOne
-settled_answers_are_one meaning scene lines text other new newer a b = lines_one meaning scene begun lines text other new newer a b
+settled_answers_are_one meaning behaviour scene lines text other new newer a b = lines_one meaning behaviour scene begun lines text other new newer a b

@@ -1,5 +1,5 @@
 -- What a run's result says, by that of its script.
-use Rattle.std.proofs.Common.{◌≡◌, ℕ, false, List, [], Option, Result, Ok, Err, ap, subst}
+use Rattle.std.proofs.Common.{◌≡◌, ℕ, false, List, [], Option, None, Result, Ok, Err, ap, subst}
 use Rattle.std.proofs.Math.Path.{fun_ext}
 use Rattle.std.specs.Prelude.{IsErrOf}
 use Rattle.vpg_faults.specs.declared.fault.OpenFault.{OpenFault}
@@ -14,7 +14,7 @@ use Rattle.vpg_report.specs.Output.{Outcome, OutcomeAs}
 use Rattle.vpg_report.specs.Results.{Opens}
 use Rattle.vpg_diagram.specs.DiagramText.{NamedDiagram}
 use Rattle.vpg_game.specs.Game.{NamedGame}
-use Rattle.vpg_script.specs.Calling.{Calling}
+use Rattle.vpg_family.specs.declared.known.Context.{Context}
 use Rattle.vpg_script.specs.Script.{Request}
 use Rattle.vpg_script.proofs.Nameless.{none_meant}
 use Rattle.vpg_texts.specs.Scene.{scene_of}
@@ -66,10 +66,10 @@ not_stopped A value stop is = absurd (cc is)
 
 -- ---- without names of vertices
 
-pub uncalled : (manner : Manner) (game : NamedGame) (diagram : NamedDiagram) (callings : List Calling) (lifters : ℕ) (input left before after : Option (List ℕ)) (result : Result Ending RunFault) → callings ≡ [] →
-    OutcomeAs manner (answering_called (called_in game diagram callings) lifters) (IsOpenRefusal game diagram) begun input left before after result →
-    OutcomeAs manner (answering (scene_of game diagram) lifters) (IsOpenRefusal game diagram) begun input left before after result
-uncalled manner game diagram callings lifters input left before after result none outcome =
-    subst (λ (meaning : Request → Request). OutcomeAs manner (as_meant meaning (answering (scene_of game diagram) lifters)) (IsOpenRefusal game diagram) begun input left before after result)
+pub uncalled : (manner : Manner) (game : NamedGame) (diagram : NamedDiagram) (context : Context) (lifters : ℕ) (input left before after : Option (List ℕ)) (result : Result Ending RunFault) → context.callings ≡ [] → context.behaviour ≡ None →
+    OutcomeAs manner (answering_called (called_in game diagram context) lifters) (IsOpenRefusal game diagram) begun input left before after result →
+    OutcomeAs manner (answering None (scene_of game diagram) lifters) (IsOpenRefusal game diagram) begun input left before after result
+uncalled manner game diagram context lifters input left before after result none alone outcome =
+    subst (λ (meaning : Request → Request). OutcomeAs manner (as_meant meaning (answering None (scene_of game diagram) lifters)) (IsOpenRefusal game diagram) begun input left before after result)
     (fun_ext (λ request. none_meant diagram.names request))
-    (subst (λ (cs : List Calling). OutcomeAs manner (answering_called (called_in game diagram cs) lifters) (IsOpenRefusal game diagram) begun input left before after result) none outcome)
+    (coe 0 1 (k. OutcomeAs manner (answering_called (record { scene = scene_of game diagram; callings = none k; behaviour = alone k }) lifters) (IsOpenRefusal game diagram) begun input left before after result) outcome)

@@ -21,6 +21,7 @@ use Rattle.vpg_desk.specs.Lawful.{IsLawful, AllHandIn}
 use Rattle.vpg_desk.specs.Setting.{IsSetting}
 use Rattle.vpg_desk.proofs.Whole.{reply_means}
 use Rattle.vpg_script.specs.declared.command.Claim.{Claim}
+use Rattle.vpg_checking.specs.Behaviours.{Behaviour}
 use Rattle.vpg_script.specs.Script as script
 use Rattle.vpg_script.specs.Script.{Request, Said, said}
 use Rattle.vpg_serving.specs.Output.{Speaks, Answered}
@@ -185,7 +186,7 @@ module _ (scene : Scene) (page : List Entry) where
 
 -- ---- the page of a history
 
-module _ (scene : Scene) where
+module _ (behaviour : Option Behaviour) (scene : Scene) where
   abbrev F : Family
   F = family_of (setting_in scene)
 
@@ -215,7 +216,7 @@ module _ (scene : Scene) where
   page_told book page (Some r, (refuses, told)) = absurd (cc told)
 
   module _ (book : Book) (held : Held) (made label : ℕ) (lookup : script.Lookup) where
-    replied : (reply : Reply) (calls : List Event) (text : List ℕ) (new : Held) → IsReply F book Page reply → Follows scene held (Continues scene held made label (script.Look lookup)) reply calls text new →
+    replied : (reply : Reply) (calls : List Event) (text : List ℕ) (new : Held) → IsReply F book Page reply → Follows scene held (Continues behaviour scene held made label (script.Look lookup)) reply calls text new →
         IsRefusal text ⊎ Sees scene lookup book.present text
     replied (Refused r) calls text new told so = inl (refusal_text scene.names r, so.1)
     replied (Changed s) calls text new told so = absurd so
@@ -228,7 +229,7 @@ module _ (scene : Scene) where
     replied (VerdictIs a b) calls text new told so = absurd so
     replied (PageIs page) calls text new told so = inr (subst (λ (p : List Entry). Sees scene lookup p text) (page_told book page told) so.0)
 
-    asked : (before : ℕ) (calls : List Event) (text : List ℕ) (new : Held) → IsLegalFrom F book calls → Asks scene held before label Page (Continues scene held made label (script.Look lookup)) calls text new →
+    asked : (before : ℕ) (calls : List Event) (text : List ℕ) (new : Held) → IsLegalFrom F book calls → Asks scene held before label Page (Continues behaviour scene held made label (script.Look lookup)) calls text new →
         IsRefusal text ⊎ Sees scene lookup book.present text
     asked before calls text new legal (inr (full, so)) = inl (codes "LogFull", so.1)
     asked before [] text new legal (inl (less, so)) = absurd so
@@ -236,7 +237,7 @@ module _ (scene : Scene) where
         replied e.reply calls text new (subst (λ c. IsReply F book c e.reply) so.1 legal.0) so.2
 
   looked : (book : Book) (held : Held) (made label : ℕ) (lookup : script.Lookup) (has : Bool) (calls : List Event) (text : List ℕ) (new : Held) → IsLegalFrom F book calls →
-      Begins scene held made label (script.Look lookup) (page_if has) calls text new → IsRefusal text ⊎ ((has ≡ true) × Sees scene lookup book.present text)
+      Begins behaviour scene held made label (script.Look lookup) (page_if has) calls text new → IsRefusal text ⊎ ((has ≡ true) × Sees scene lookup book.present text)
   looked book held made label lookup false calls text new legal so = inl (own_text NoVertex, so.1)
   looked book held made label lookup true calls text new legal so = seen (asked book held (made + 1) label lookup made calls text new legal so)
     where
@@ -247,7 +248,7 @@ module _ (scene : Scene) where
   -- ---- lines
 
   -- an answer to `changed`
-  compared : (book : Book) (held : Held) (made label : ℕ) (reply : Reply) (calls : List Event) (text : List ℕ) (new : Held) → IsReply F book Page reply → Follows scene held (Continues scene held made label script.Changed) reply calls text new →
+  compared : (book : Book) (held : Held) (made label : ℕ) (reply : Reply) (calls : List Event) (text : List ℕ) (new : Held) → IsReply F book Page reply → Follows scene held (Continues behaviour scene held made label script.Changed) reply calls text new →
       IsRefusal text ⊎ SaysVerdicts scene script.Changed (verdicts_on scene book.present) text
   compared book held made label (Refused r) calls text new told so = inl (refusal_text scene.names r, so.1)
   compared book held made label (Changed s) calls text new told so = absurd so
@@ -261,7 +262,7 @@ module _ (scene : Scene) where
   compared book held made label (PageIs page) calls text new told so =
       inr (held.seen, so.1 ∙ ap (λ (p : List Entry). changed_text scene.identifiers held.seen (verdicts_on scene p)) (page_told book page told))
 
-  changed : (book : Book) (held : Held) (before made label : ℕ) (calls : List Event) (text : List ℕ) (new : Held) → IsLegalFrom F book calls → Asks scene held before label Page (Continues scene held made label script.Changed) calls text new →
+  changed : (book : Book) (held : Held) (before made label : ℕ) (calls : List Event) (text : List ℕ) (new : Held) → IsLegalFrom F book calls → Asks scene held before label Page (Continues behaviour scene held made label script.Changed) calls text new →
       IsRefusal text ⊎ SaysVerdicts scene script.Changed (verdicts_on scene book.present) text
   changed book held before made label calls text new legal (inr (full, so)) = inl (codes "LogFull", so.1)
   changed book held before made label [] text new legal (inl (less, so)) = absurd so
@@ -279,14 +280,14 @@ module _ (scene : Scene) where
 
     -- of what is looked at
     seen : (lookup : script.Lookup) (text : List ℕ) → (has_vertices scene.identifiers lookup ≡ true → Sees scene lookup book.present text → SaysVerdicts scene (script.Look lookup) (verdicts_on scene book.present) text) →
-        (calls : List Event) (new : Held) → IsLegalFrom F book calls → Serves scene held made (record { label = label; command = script.Look lookup }) calls text new → Names (script.Look lookup) text
+        (calls : List Event) (new : Held) → IsLegalFrom F book calls → Serves behaviour scene held made (record { label = label; command = script.Look lookup }) calls text new → Names (script.Look lookup) text
     seen lookup text says calls new legal so = of (looked book held made label lookup (has_vertices scene.identifiers lookup) calls text new legal so)
       where
         of : IsRefusal text ⊎ ((has_vertices scene.identifiers lookup ≡ true) × Sees scene lookup book.present text) → Names (script.Look lookup) text
         of (inl why) = inl why
         of (inr sees) = inr (verdicts_on scene book.present, are, says sees.0 sees.1)
 
-    names : (command : script.Command) (calls : List Event) (text : List ℕ) (new : Held) → IsLegalFrom F book calls → Serves scene held made (record { label = label; command = command }) calls text new → Names command text
+    names : (command : script.Command) (calls : List Event) (text : List ℕ) (new : Held) → IsLegalFrom F book calls → Serves behaviour scene held made (record { label = label; command = command }) calls text new → Names command text
     names (script.Look script.Show) calls text new legal so = seen script.Show text (λ has sees. show_says scene book.present sized text sees) calls new legal so
     names (script.Look (script.Vertices named)) calls text new legal so =
         seen (script.Vertices named) text (λ has sees. named_says scene book.present sized named text has sees) calls new legal so
@@ -326,16 +327,16 @@ module _ (scene : Scene) where
     true_here : (old : Between) (before : List Event) → IsSoFar old before → TrueOn old.book.present
     true_here old before here = subst (λ (b : Book). TrueOn b.present) (sym here.leaves) (verdicts_after before is_setting here.legal here.lawful)
 
-    names_line : (old : Between) (before : List Event) (s : Said) (text : List ℕ) (new : Between) → IsSoFar old before → Speaks (as_meant meaning (answering scene lifters)) old s text new → Speaks (as_meant meaning (naming scene lifters)) old s text new
+    names_line : (old : Between) (before : List Event) (s : Said) (text : List ℕ) (new : Between) → IsSoFar old before → Speaks (as_meant meaning (answering behaviour scene lifters)) old s text new → Speaks (as_meant meaning (naming behaviour scene lifters)) old s text new
     names_line old before (Ok None) text new here so = so
     names_line old before (Ok (Some request)) text new here so =
         (so, names sized old.book (true_here old before here) old.held old.calls (meaning request).label (meaning request).command so.0.0 text new.held so.0.1.1 so.0.1.0)
     names_line old before (Err fault) text new here so = absurd so
 
-    names_lines : (old : Between) (before : List Event) (lines : List (List ℕ)) (text : List ℕ) (new : Between) → IsSoFar old before → Answered (as_meant meaning (answering scene lifters)) old lines text new → Answered (as_meant meaning (naming scene lifters)) old lines text new
+    names_lines : (old : Between) (before : List Event) (lines : List (List ℕ)) (text : List ℕ) (new : Between) → IsSoFar old before → Answered (as_meant meaning (answering behaviour scene lifters)) old lines text new → Answered (as_meant meaning (naming behaviour scene lifters)) old lines text new
     names_lines old before [] text new here so = so
     names_lines old before (line ∷ lines) text new here so =
-        let first : Calls meaning scene (λ a b. Speaks (as_meant meaning (asking scene)) a (said line) so.1 b) old before so.0 = line_of meaning scene old before (said line) so.1 so.0 here.counted here.kept (speaks_calls meaning scene lifters old (said line) so.1 so.0 so.3) in (
+        let first : Calls meaning behaviour scene (λ a b. Speaks (as_meant meaning (asking behaviour scene)) a (said line) so.1 b) old before so.0 = line_of meaning behaviour scene old before (said line) so.1 so.0 here.counted here.kept (speaks_calls meaning behaviour scene lifters old (said line) so.1 so.0 so.3) in (
           so.0,
           so.1,
           so.2,
@@ -351,6 +352,6 @@ module _ (scene : Scene) where
         )
 
 pub answers_name_winners : AnswersNameWinners
-answers_name_winners meaning game diagram lifters lines text new opens answered =
-    names_lines (scene_of game diagram) (length-map game.vertices _ ∙ sym (length-map game.vertices unnamed)) opens.is_setting lifters meaning begun [] lines text new
+answers_name_winners meaning behaviour game diagram lifters lines text new opens answered =
+    names_lines behaviour (scene_of game diagram) (length-map game.vertices _ ∙ sym (length-map game.vertices unnamed)) opens.is_setting lifters meaning begun [] lines text new
     (record { leaves = refl; legal = tt; lawful = tt; counted = refl; kept = tt }) answered

@@ -59,13 +59,14 @@ settled_text settled n = numbered (if settled then codes "settled" else codes "u
 
 -- ---- what commands ask
 
--- A reason to refuse a line without a call: a name that the diagram lacks, a token or a harvest that isn't held, a
--- vertex that the game lacks.
+-- What is refused without a call: a name that the diagram lacks, a token or a harvest that isn't held, a vertex that
+-- the game lacks, a trace where there is no system.
 pub data Own : Type 0 where
   NoFeature : Own
   NoToken : Own
   NoHarvest : Own
   NoVertex : Own
+  NoSystem : Own
 
 -- the word for such a reason
 abbrev pub own_text : Own → List ℕ
@@ -73,6 +74,7 @@ own_text NoFeature = codes "UnknownFeature"
 own_text NoToken = codes "NoToken"
 own_text NoHarvest = codes "NoHarvest"
 own_text NoVertex = codes "NoVertex"
+own_text NoSystem = codes "NoSystem"
 
 -- the vertex that a line names
 abbrev pub vertex_of : Scene → script.Vertex → Option ℕ

@@ -9,9 +9,9 @@ use Rattle.vpg_report.specs.declared.fault.ClientFault.TheVariants.{LogFull, Ref
 use Rattle.vpg_desk.specs.Book.{Call, Refusal, Reply}
 use Rattle.vpg_faults.specs.declared.fault.OpenFault.{OpenFault}
 use Rattle.vpg_faults.specs.declared.fault.OpenFault.TheVariants.{AtLimit, Conflict, Memory}
-use Rattle.vpg_report.specs.Answers.{Own, NoFeature, NoVertex, Rest, first_call, Continues, full_line, refused_line, refusal_text}
+use Rattle.vpg_report.specs.Answers.{Own, NoFeature, NoVertex, NoSystem, Rest, first_call, Continues, full_line, refused_line, refusal_text}
 use Rattle.vpg_report.specs.declared.lines.Missing.{Missing}
-use Rattle.vpg_report.specs.declared.lines.Missing.TheVariants.{Vertex, Feature}
+use Rattle.vpg_report.specs.declared.lines.Missing.TheVariants.{Vertex, Feature, System}
 use Rattle.vpg_report.specs.Held.{Held, nothing_held}
 use Rattle.vpg_report.specs.Line.{Between, beginning}
 use Rattle.vpg_report.specs.Made.{AreMadeBy}
@@ -61,10 +61,11 @@ abbrev pub deciding : Bool → List ℕ → script.Command
 deciding true name = script.Select name
 deciding false name = script.Exclude name
 
--- the reason for a name that game or diagram lack
+-- what an inquiry names that game or diagram lack, or that there is no system
 abbrev pub own_of : Missing → Own
 own_of Vertex = NoVertex
 own_of Feature = NoFeature
+own_of System = NoSystem
 
 -- the place of the first serial that is the one meant
 abbrev pub IsPlaceOf : Option ℕ → List ℕ → Option ℕ → Type 0

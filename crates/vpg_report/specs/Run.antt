@@ -1,5 +1,5 @@
--- How a run of a script changes the book of an office's desk and what the engine holds, and what it writes.
-use Rattle.std.specs.Prelude.{◌≡◌, ℕ, ◌+◌, List, [], ◌++◌, length}
+-- What a run of a script does to the book of an office's desk, what the engine holds, and what it writes.
+use Rattle.std.specs.Prelude.{◌≡◌, ℕ, ◌+◌, Option, List, [], ◌++◌, length}
 use Rattle.vpg_desk.specs.History.{Event, IsLegalFrom, book_after}
 use Rattle.vpg_desk.specs.Desk.{family_of}
 use Rattle.vpg_desk.specs.State.{IsHistoryOf}
@@ -10,25 +10,27 @@ use Rattle.vpg_report.specs.Setting.{setting_in}
 use Rattle.vpg_serving.specs.Output.{Machine, Answered}
 use Rattle.vpg_diagram.specs.DiagramText.{NamedDiagram}
 use Rattle.vpg_game.specs.Game.{NamedGame}
+use Rattle.vpg_checking.specs.Behaviours.{Behaviour}
+use Rattle.vpg_family.specs.declared.known.Context.{Context}
 use Rattle.vpg_script.specs.Calling.{Calling, meant}
 use Rattle.vpg_script.specs.Script.{Request}
 use Rattle.vpg_texts.specs.Scene.{Scene, scene_of}
 use Rattle.vpg_report.specs.Requests.{Serves}
 
--- A request makes calls, each with the reply that the book gives at that point. It is answered with this text, and
--- leaves the book after the calls.
-abbrev pub calling : Scene → Machine Between
-calling scene old request text new =
+-- Where the game was made of this, a request makes calls, each with the reply that the book gives at that point, is
+-- answered with this text, and leaves the book after them.
+abbrev pub calling : Option Behaviour → Scene → Machine Between
+calling behaviour scene old request text new =
     (calls : List Event) ×
-    (Serves scene old.held old.calls request calls text new.held ×
+    (Serves behaviour scene old.held old.calls request calls text new.held ×
     IsLegalFrom (family_of (setting_in scene)) old.book calls
     × (new.book ≡ book_after (family_of (setting_in scene)) old.book calls) × (new.calls ≡ old.calls + length calls))
 
--- As `calling`, and what is committed or kept was made by at most the line's number of sweeps, each by this many
--- lifters.
-abbrev pub answering : Scene → ℕ → Machine Between
-answering scene lifters old request text new =
-    (so : calling scene old request text new) × AreMadeBy (setting_in scene) lifters request.command so.0 new.held
+-- The same, and what is committed or kept was made by at most the line's number of sweeps, each by this many lifters.
+abbrev pub answering : Option Behaviour → Scene → ℕ → Machine Between
+answering behaviour scene lifters old request text new =
+    (so : calling behaviour scene old request text new) ×
+    AreMadeBy (setting_in scene) lifters request.command so.0 new.held
 
 -- ---- lines that call vertices by their names
 
@@ -36,19 +38,24 @@ answering scene lifters old request text new =
 abbrev pub as_meant : {S : Type 0} → (Request → Request) → Machine S → Machine S
 as_meant meaning serves old request text new = serves old (meaning request) text new
 
--- a scene, and the names that lines may give its vertices
+-- a scene, the names by which lines call its vertices, and what its game was made of
 pub record Called : Type 0 where
   pub scene : Scene
   pub callings : List Calling
+  pub behaviour : Option Behaviour
 
--- the scene of a game and a diagram, and these names
-abbrev pub called_in : NamedGame → NamedDiagram → List Calling → Called
-called_in game diagram callings = record { scene = scene_of game diagram; callings = callings }
+-- a scene in a context
+abbrev pub called_at : Scene → Context → Called
+called_at scene context = record { scene = scene; callings = context.callings; behaviour = context.behaviour }
+
+-- the scene of a game and a diagram in a context
+abbrev pub called_in : NamedGame → NamedDiagram → Context → Called
+called_in game diagram context = called_at (scene_of game diagram) context
 
 -- A line is answered as if the identifier of each vertex stood in place of its name.
 abbrev pub answering_called : Called → ℕ → Machine Between
 answering_called called lifters =
-    as_meant (meant called.callings called.scene.names) (answering called.scene lifters)
+    as_meant (meant called.callings called.scene.names) (answering called.behaviour called.scene lifters)
 
 -- ---- histories
 
@@ -61,18 +68,19 @@ abbrev pub unasked : Asked
 unasked = record { calls = []; held = nothing_held }
 
 -- Each request adds its calls to those before; a full log takes no more.
-abbrev pub asking : Scene → Machine Asked
-asking scene old request text new =
+abbrev pub asking : Option Behaviour → Scene → Machine Asked
+asking behaviour scene old request text new =
     (calls : List Event) ×
-    (Serves scene old.held (length old.calls) request calls text new.held × (new.calls ≡ old.calls ++ calls))
+    (Serves behaviour scene old.held (length old.calls) request calls text new.held × (new.calls ≡ old.calls ++ calls))
 
 -- The texts written for lines without a fault answer the calls of a legal history, with lawful harvests only. These are
 -- exactly the calls of these lines in their order, under any meaning of the lines, and they leave the book.
 abbrev pub AnswersAreHistories : Type 0
 AnswersAreHistories =
-    (meaning : Request → Request) (scene : Scene) (lifters : ℕ) (lines : List (List ℕ)) (text : List ℕ)
-    (new : Between) →
-    Answered (as_meant meaning (answering scene lifters)) begun lines text new →
+    (meaning : Request → Request) (behaviour : Option Behaviour) (scene : Scene) (lifters : ℕ)
+    (lines : List (List ℕ)) (text : List ℕ) (new : Between) →
+    Answered (as_meant meaning (answering behaviour scene lifters)) begun lines text new →
     (history : List Event) ×
     (IsHistoryOf (setting_in scene) new.book history ×
-    Answered (as_meant meaning (asking scene)) unasked lines text (record { calls = history; held = new.held }))
+    Answered (as_meant meaning (asking behaviour scene)) unasked lines text
+    (record { calls = history; held = new.held }))

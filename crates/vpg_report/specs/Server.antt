@@ -1,5 +1,5 @@
--- The answers of a server, also to questions about the page, by places; and why an office isn't opened.
-use Rattle.std.specs.Prelude.{◌≡◌, ℕ, ◌+◌, List, Result, Ok, Err}
+-- What a server answers, also where the page is asked about, by places; and how an office isn't opened.
+use Rattle.std.specs.Prelude.{◌≡◌, ℕ, ◌+◌, Option, List, Result, Ok, Err}
 use Rattle.vpg_diagram.specs.DiagramText.{NamedDiagram}
 use Rattle.vpg_game.specs.Game.{NamedGame}
 use Rattle.vpg_faults.specs.declared.fault.OpenFault.{OpenFault}
@@ -8,6 +8,7 @@ use Rattle.vpg_answers.specs.declared.query.Query.{Query}
 use Rattle.vpg_report.specs.Answers.{Own}
 use Rattle.vpg_report.specs.Engine.{EngineState, IsOpenFault, AnswersBy, own_of, scene_at}
 use Rattle.vpg_report.specs.declared.lines.Missing.{Missing}
+use Rattle.vpg_checking.specs.Behaviours.{Behaviour}
 use Rattle.vpg_report.specs.Requests.{Continues, first_call}
 use Rattle.vpg_script.specs.Script.{Request}
 
@@ -17,10 +18,10 @@ IsQuery asked (Ok query) = asked ≡ Ok query
 IsQuery asked (Err missing) = asked ≡ Err (own_of missing)
 
 -- A text is appended that answers the request, also where it asks about the page; game and diagram stay.
-abbrev pub AnswersTo : EngineState → Request → List ℕ → List ℕ → EngineState → Type 0
-AnswersTo old request before after new =
-    AnswersBy old request.label (first_call (scene_at old) old.held request.command)
-    (Continues (scene_at old) old.held (old.client.calls + 1) request.label request.command) before after new
+abbrev pub AnswersTo : Option Behaviour → EngineState → Request → List ℕ → List ℕ → EngineState → Type 0
+AnswersTo behaviour old request before after new =
+    AnswersBy old request.label (first_call behaviour (scene_at old) old.held request.command)
+    (Continues behaviour (scene_at old) old.held (old.client.calls + 1) request.label request.command) before after new
 
 -- why an office isn't opened; out of memory is reported separately
 abbrev pub IsOpenRefusal : NamedGame → NamedDiagram → OpenFault → Type 0

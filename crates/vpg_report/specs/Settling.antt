@@ -10,6 +10,7 @@ use Rattle.vpg_serving.specs.Output.{Machine, Answered}
 use Rattle.vpg_report.specs.Output.{Outcome}
 use Rattle.vpg_report.specs.Results.{IsThrough}
 use Rattle.vpg_report.specs.Run.{Between, begun, calling, as_meant}
+use Rattle.vpg_checking.specs.Behaviours.{Behaviour}
 use Rattle.vpg_script.specs.Script as script
 use Rattle.vpg_script.specs.Script.{Request}
 use Rattle.vpg_texts.specs.Scene.{Scene}
@@ -28,27 +29,30 @@ AreChecked scene held = AllByRecursion (λ h. IfSome h (Checks (family_of (setti
 
 -- It answers, and so far each settle was answered `settled`, no answer about the page had a doubt, and each harvest
 -- that a line keeps passes `check`.
-abbrev pub settling : Scene → Machine Between
-settling scene old request text new =
-    calling scene old request text new × TellsSettle request.command text × AreChecked scene new.held
+abbrev pub settling : Option Behaviour → Scene → Machine Between
+settling behaviour scene old request text new =
+    calling behaviour scene old request text new × TellsSettle request.command text × AreChecked scene new.held
 
 -- In such runs the text, the book, the calls and what is held are one function of the scene, the lines and their
 -- meaning, whichever lawful harvests the lines made.
 abbrev pub SettledAnswersAreOne : Type 0
 SettledAnswersAreOne =
-    (meaning : Request → Request) (scene : Scene) (lines : List (List ℕ)) (text other : List ℕ) (new newer : Between) →
-    Answered (as_meant meaning (settling scene)) begun lines text new →
-    Answered (as_meant meaning (settling scene)) begun lines other newer →
+    (meaning : Request → Request) (behaviour : Option Behaviour) (scene : Scene) (lines : List (List ℕ))
+    (text other : List ℕ) (new newer : Between) →
+    Answered (as_meant meaning (settling behaviour scene)) begun lines text new →
+    Answered (as_meant meaning (settling behaviour scene)) begun lines other newer →
     (text ≡ other) × (new ≡ newer)
 
 -- So are the text that a run writes and its result, if it goes through a known script. (It was opened then, so no cause
 -- of a refusal matters.)
 abbrev pub SettledRunsAreOne : Type 0
 SettledRunsAreOne =
-    (meaning : Request → Request) (scene : Scene) (script before after later : List ℕ) (left rest : Option (List ℕ))
-    (result other : Result (Unit {0}) RunFault) →
+    (meaning : Request → Request) (behaviour : Option Behaviour) (scene : Scene) (script before after later : List ℕ)
+    (left rest : Option (List ℕ)) (result other : Result (Unit {0}) RunFault) →
     IsThrough result →
-    Outcome (as_meant meaning (settling scene)) (λ _. ⊤) begun (Some script) left (Some before) (Some after) result →
+    Outcome (as_meant meaning (settling behaviour scene)) (λ _. ⊤) begun (Some script) left (Some before) (Some after)
+    result →
     IsThrough other →
-    Outcome (as_meant meaning (settling scene)) (λ _. ⊤) begun (Some script) rest (Some before) (Some later) other →
+    Outcome (as_meant meaning (settling behaviour scene)) (λ _. ⊤) begun (Some script) rest (Some before) (Some later)
+    other →
     (after ≡ later) × (result ≡ other)

@@ -1,5 +1,5 @@
--- The winners, by the text that a run writes. This project's own.
-use Rattle.std.specs.Prelude.{◌≡◌, ◌⊎◌, ℕ, ◌<◌, Bool, List, ◌++◌, length, map, Some, flat_map, slice_index, decimal, ⊤}
+-- Who wins, by what a run writes. This project's own.
+use Rattle.std.specs.Prelude.{◌≡◌, ◌⊎◌, ℕ, ◌<◌, Bool, Option, List, ◌++◌, length, map, Some, flat_map, slice_index, decimal, ⊤}
 use Rattle.std.specs.List.{range_with_len}
 use Rattle.vpg_diagram.specs.DiagramText.{NamedDiagram}
 use Rattle.vpg_game.specs.Game.{NamedGame}
@@ -7,6 +7,7 @@ use Rattle.vpg_verdict.specs.declared.verdict.Verdict.{Verdict}
 use Rattle.vpg_trail.specs.Page.{Entry}
 use Rattle.vpg_desk.specs.Headline.{VerdictMeans}
 use Rattle.vpg_desk.specs.State.{IsOpened}
+use Rattle.vpg_checking.specs.Behaviours.{Behaviour}
 use Rattle.vpg_script.specs.Script as script
 use Rattle.vpg_script.specs.Script.{Request}
 use Rattle.vpg_serving.specs.Output.{Machine, Answered}
@@ -68,16 +69,16 @@ NamesWinners scene page command text =
     ((verdicts : List Verdict) × AreTrue scene page verdicts × SaysVerdicts scene command verdicts text)
 
 -- Each request is answered as by a run, and by what is true of the page at that point.
-abbrev pub naming : Scene → ℕ → Machine Between
-naming scene lifters old request text new =
-    answering scene lifters old request text new × NamesWinners scene old.book.present request.command text
+abbrev pub naming : Option Behaviour → Scene → ℕ → Machine Between
+naming behaviour scene lifters old request text new =
+    answering behaviour scene lifters old request text new × NamesWinners scene old.book.present request.command text
 
 -- The answers of an office's run to `show`, `assert` and `changed` name the winners. The verdicts that they say are
 -- true of the page at that point, under any meaning of the lines.
 abbrev pub AnswersNameWinners : Type 0
 AnswersNameWinners =
-    (meaning : Request → Request) (game : NamedGame) (diagram : NamedDiagram) (lifters : ℕ)
-    (lines : List (List ℕ)) (text : List ℕ) (new : Between) →
+    (meaning : Request → Request) (behaviour : Option Behaviour) (game : NamedGame) (diagram : NamedDiagram)
+    (lifters : ℕ) (lines : List (List ℕ)) (text : List ℕ) (new : Between) →
     IsOpened game diagram →
-    Answered (as_meant meaning (answering (scene_of game diagram) lifters)) begun lines text new →
-    Answered (as_meant meaning (naming (scene_of game diagram) lifters)) begun lines text new
+    Answered (as_meant meaning (answering behaviour (scene_of game diagram) lifters)) begun lines text new →
+    Answered (as_meant meaning (naming behaviour (scene_of game diagram) lifters)) begun lines text new

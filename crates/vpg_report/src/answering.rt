@@ -13,8 +13,10 @@ use std::alloc::Global;
 use std::sync::Wait;
 use std::thread::Threads;
 use vpg_answers::Limits;
+use vpg_checking::Behaviour;
+use vpg_family::Context;
 use vpg_office::Terms;
-use vpg_script::{Callings, Command, Inquiry, Request, meant};
+use vpg_script::{Command, Inquiry, Request, meant};
 use vpg_serving::{ServeFault, Server};
 
 /// The limits of a question about the page. The bounds of a trial's table may look at 2^27 edges and vertices; if they
@@ -31,14 +33,15 @@ fn ask<L: Terms, R: Wait>(
     rt: &R,
     alloc: Global,
     session: u32,
+    behaviour: &Option<Behaviour>,
     inquiry: Inquiry<'_>,
     out: &mut Vec<u8>,
 ) -> Result<(), ServeFault>
-    ensures { OnOk result (AnswersTo engine.old
+    ensures { OnOk result (AnswersTo behaviour.now engine.old
         (record { label = session; command = Ask (inquiry_shown inquiry.entry) })
         out.old.items out.new.items engine.new) }
 {
-    let query = match query_of(engine.game(), engine.diagram(), inquiry) {
+    let query = match query_of(behaviour, engine.game(), engine.diagram(), inquiry) {
         Ok(query) => query,
         Err(what) => return put_missing(what, out),
     };
@@ -46,7 +49,7 @@ fn ask<L: Terms, R: Wait>(
         Ok(order) => order,
         Err(fault) => return put_unanswered(fault, out),
     };
-    vpg_answers::answer(alloc, order, query, LIMITS, out)?;
+    vpg_answers::answer(alloc, order, behaviour, query, LIMITS, out)?;
     Ok(())
 }
 
@@ -56,31 +59,32 @@ fn answer<L: Terms, T: Threads + Wait + Sync>(
     rt: &T,
     alloc: Global,
     lifters: u32,
+    behaviour: &Option<Behaviour>,
     request: &Request<'_>,
     out: &mut Vec<u8>,
 ) -> Result<(), ServeFault>
     requires lifters { (1 ≤ lifters) × (lifters ≤ 64) }
     ensures answer { OnOk result
         ((text : List ℕ) ×
-        (answering (scene_at engine.old) lifters (between_of engine.old) (request_shown request.now) text
+        (answering behaviour.now (scene_at engine.old) lifters (between_of engine.old) (request_shown request.now) text
         (between_of engine.new) × (out.new.items ≡ out.old.items ++ text))) }
     ensures scene { OnOk result (scene_at engine.new ≡ scene_at engine.old) }
 {
     match &request.command {
-        Command::Ask(inquiry) => ask(engine, rt, alloc, request.label, *inquiry, out),
+        Command::Ask(inquiry) => ask(engine, rt, alloc, request.label, behaviour, *inquiry, out),
         _ => engine.carry_out(rt, alloc, lifters, request, out),
     }
 }
 
-/// An engine that also answers questions about the page, with names that lines may give vertices. It can't be dropped,
-/// as the engine can't.
+/// An engine that is asked about the page too, and what lines may speak of beside the family. It can't be let go, as
+/// the engine.
 pub(crate) struct Answering<'c, L: Terms> {
     pub(crate) engine: Engine<L>,
-    pub(crate) callings: &'c Callings,
+    pub(crate) context: &'c Context,
 }
 
 impl<L: Terms> Server for Answering<'_, L> {
-    ghost use Rattle.vpg_report.specs.Run.{Between, Called, answering_called};
+    ghost use Rattle.vpg_report.specs.Run.{Between, Called, answering_called, called_at};
 
     ghost Scene = { Called };
 
@@ -88,7 +92,7 @@ impl<L: Terms> Server for Answering<'_, L> {
 
     ghost answering = { answering_called };
 
-    ghost scene = { λ a. record { scene = scene_at a.engine; callings = a.callings.now } };
+    ghost scene = { λ a. called_at (scene_at a.engine) a.context.now };
 
     ghost state = { λ a. between_of a.engine };
 
@@ -101,7 +105,8 @@ impl<L: Terms> Server for Answering<'_, L> {
         out: &mut Vec<u8>,
     ) -> Result<(), ServeFault> {
         let features = self.engine.diagram().names();
-        let said = meant(alloc, self.callings, features, request)?;
-        answer(&mut self.engine, rt, alloc, lifters, &said, out)
+        let said = meant(alloc, &self.context.callings, features, request)?;
+        let behaviour = &self.context.behaviour;
+        answer(&mut self.engine, rt, alloc, lifters, behaviour, &said, out)
     }
 }

@@ -2,17 +2,19 @@
 ghost use Rattle.std.specs.Prelude.{◌≡◌, ◌<◌, length, IfOk, IfSome};
 ghost use Rattle.vpg_answers.specs.Answers.{IsWithin};
 ghost use Rattle.vpg_features.specs.Names.{index_of};
-ghost use Rattle.vpg_report.specs.Requests.{query_of};
+ghost use Rattle.vpg_report.specs.Requests.{is_answerable, is_over, query_of};
 ghost use Rattle.vpg_report.specs.Server.{IsQuery};
-ghost use Rattle.vpg_script.specs.View.{inquiry_shown};
+ghost use Rattle.vpg_script.specs.Script.{OfVertex};
+ghost use Rattle.vpg_script.specs.View.{inquiry_shown, vertex_shown};
 ghost use Rattle.vpg_texts.specs.Scene.{scene_of};
 
 use crate::lines::Missing;
-use vpg_answers::Query;
+use vpg_answers::{Query, VertexQuestion};
+use vpg_checking::Behaviour;
 use vpg_diagram::Diagram;
 use vpg_game::GuardedGame;
 use vpg_guards::Names;
-use vpg_script::Inquiry;
+use vpg_script::{Inquiry, Vertex};
 use vpg_texts::vertex_at;
 
 fn feature_at(names: &Names, name: &[u8]) -> Option<u16>
@@ -22,20 +24,62 @@ fn feature_at(names: &Names, name: &[u8]) -> Option<u16>
     names.get(name)
 }
 
-/// Returns an inquiry as a query by places, or the kind of name that is missing.
+/// Whether there is a system over so many features.
+fn is_over(features: usize, behaviour: &Option<Behaviour>) -> bool
+    ensures { result ≡ is_over features behaviour.now }
+{
+    match behaviour {
+        Some(behaviour) => behaviour.features() == features,
+        None => false,
+    }
+}
+
+/// Whether what a question needs beside the family is there: a trace needs a system.
+fn is_answerable(features: usize, behaviour: &Option<Behaviour>, question: VertexQuestion) -> bool
+    ensures { result ≡ is_answerable features behaviour.now question }
+{
+    match question {
+        VertexQuestion::Trace => is_over(features, behaviour),
+        _ => true,
+    }
+}
+
+/// What is asked of a vertex, or what it needs that isn't there.
+fn query_of_vertex(
+    behaviour: &Option<Behaviour>,
+    game: &GuardedGame,
+    diagram: &Diagram,
+    question: VertexQuestion,
+    named: Vertex<'_>,
+) -> Result<Query, Missing>
+    ensures query { IsQuery (query_of behaviour.now (scene_of game.now diagram.now)
+        (OfVertex question (vertex_shown named.entry))) result }
+    ensures within { IfOk result (IsWithin behaviour.now (length game.now.vertices) (length diagram.now.names)) }
+{
+    if !is_answerable(diagram.names().len(), behaviour, question) {
+        return Err(Missing::System);
+    }
+    match vertex_at(game, named) {
+        Some(vertex) => Ok(Query::OfVertex { question, vertex }),
+        None => Err(Missing::Vertex),
+    }
+}
+
+/// What an inquiry asks, or what it needs that isn't there.
 pub(crate) fn query_of(
+    behaviour: &Option<Behaviour>,
     game: &GuardedGame,
     diagram: &Diagram,
     inquiry: Inquiry<'_>,
 ) -> Result<Query, Missing>
-    ensures query { IsQuery (query_of (scene_of game.now diagram.now) (inquiry_shown inquiry.entry)) result }
-    ensures within { IfOk result (IsWithin (length game.now.vertices) (length diagram.now.names)) }
+    ensures query { IsQuery (query_of behaviour.now (scene_of game.now diagram.now) (inquiry_shown inquiry.entry))
+        result }
+    ensures within { IfOk result (IsWithin behaviour.now (length game.now.vertices) (length diagram.now.names)) }
 {
     match inquiry {
-        Inquiry::OfVertex(question, named) => match vertex_at(game, named) {
-            Some(vertex) => Ok(Query::OfVertex { question, vertex }),
-            None => Err(Missing::Vertex),
-        },
+        Inquiry::OfVertex(question, named) => {
+            query_of_vertex(behaviour, game, diagram, question, named)
+        }
         Inquiry::OfFeature(name) => match feature_at(diagram.names(), name) {
             Some(feature) => Ok(Query::OfFeature { feature }),
             None => Err(Missing::Feature),

@@ -8,8 +8,8 @@ use crate::running::run_script;
 use std::alloc::{AllocError, Global};
 use std::sync::Wait;
 use std::thread::Threads;
-use vpg_family::{Family, Fault, Subject, Texts, redrawn, system_redrawn};
-use vpg_script::{Callings, Device};
+use vpg_family::{Context, Family, Fault, Subject, Texts, redrawn, system_redrawn};
+use vpg_script::Device;
 use vpg_serving::{Ending, Manner};
 
 /// Returns the script with a line `draw` at its end.
@@ -27,11 +27,11 @@ fn answered<T: Threads + Wait + Sync>(
     rt: &T,
     alloc: Global,
     family: Family,
-    callings: &Callings,
+    context: &Context,
     script: &[u8],
 ) -> Result<(Ending, Vec<u8>), Fault>
     requires { (arc_value family.game).features ≡ feature_count (arc_value family.diagram).lines }
-    ensures { IfOk result (λ run. AreWritten (arc_value family.diagram) (arc_value family.game) callings.now script.now
+    ensures { IfOk result (λ run. AreWritten (arc_value family.diagram) (arc_value family.game) context.now script.now
         run.0 run.1.items) }
 {
     let text = with_draw(alloc, script)?;
@@ -45,7 +45,7 @@ fn answered<T: Threads + Wait + Sync>(
         rt,
         alloc,
         family,
-        callings,
+        context,
         &mut reader,
         &mut writer,
         1,
@@ -56,8 +56,8 @@ fn answered<T: Threads + Wait + Sync>(
     }
 }
 
-/// Returns the picture of the family of these texts on the page that a script leaves, and the script's end. Its lines
-/// may also give vertices these names.
+/// The picture of a family, of which these are the texts, on the page that a script leaves, and how the script ends.
+/// Its lines speak of what the context has too.
 #[tactic(auto, using(crate::proofs::Draws::drawn))]
 pub fn drawn_after<T: Threads + Wait + Sync>(
     rt: &T,
@@ -65,15 +65,15 @@ pub fn drawn_after<T: Threads + Wait + Sync>(
     subject: Subject,
     texts: &Texts,
     family: &Family,
-    callings: &Callings,
+    context: &Context,
     script: &[u8],
 ) -> Result<(Ending, Vec<u8>), Fault>
     requires { (arc_value family.now.game).features ≡ feature_count (arc_value family.now.diagram).lines }
     ensures { IfOk result (λ drawn. IsDrawnAfter subject (arc_value family.now.diagram) (arc_value family.now.game)
-        callings.now texts.now.diagram.items texts.now.game.items script.now drawn.0 drawn.1.items) }
+        context.now texts.now.diagram.items texts.now.game.items script.now drawn.0 drawn.1.items) }
 {
     let again = family.again()?;
-    let (ending, written) = answered(rt, alloc, again, callings, script)?;
+    let (ending, written) = answered(rt, alloc, again, context, script)?;
     match redrawn(
         alloc,
         subject,
@@ -87,23 +87,23 @@ pub fn drawn_after<T: Threads + Wait + Sync>(
     }
 }
 
-/// Returns the picture of the system of the family of these texts on the page that a script leaves, and the script's
-/// end. Its lines may also give vertices these names.
+/// The picture of the system of a family, of which these are the texts, on the page that a script leaves, and how the
+/// script ends. Its lines speak of what the context has too.
 #[tactic(auto, using(crate::proofs::Draws::system_drawn))]
 pub fn system_drawn_after<T: Threads + Wait + Sync>(
     rt: &T,
     alloc: Global,
     texts: &Texts,
     family: &Family,
-    callings: &Callings,
+    context: &Context,
     script: &[u8],
 ) -> Result<(Ending, Vec<u8>), Fault>
     requires { (arc_value family.now.game).features ≡ feature_count (arc_value family.now.diagram).lines }
     ensures { IfOk result (λ drawn. IsSystemDrawnAfter (arc_value family.now.diagram) (arc_value family.now.game)
-        callings.now texts.now.system.items script.now drawn.0 drawn.1.items) }
+        context.now texts.now.system.items script.now drawn.0 drawn.1.items) }
 {
     let again = family.again()?;
-    let (ending, written) = answered(rt, alloc, again, callings, script)?;
+    let (ending, written) = answered(rt, alloc, again, context, script)?;
     let picture = system_redrawn(alloc, &family.diagram, &family.game, texts, &written)?;
     Ok((ending, picture))
 }

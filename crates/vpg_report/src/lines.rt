@@ -13,13 +13,15 @@ use vpg_guards::Names;
 use vpg_serving::ServeFault;
 use vpg_texts::{blank_name, blank_number};
 
-/// A kind of name in a line that the game, or the diagram, lacks.
+/// What a line names that the game, or the diagram, lacks; or that there is no system, where it needs one.
 #[derive(Clone, Copy, Debug, Error)]
 pub enum Missing {
     #[error("NoVertex")]
     Vertex,
     #[error("UnknownFeature")]
     Feature,
+    #[error("NoSystem")]
+    System,
 }
 
 /// Writes a word and a number.
@@ -60,6 +62,7 @@ pub fn put_missing(what: Missing, out: &mut Vec<u8>) -> Result<(), ServeFault>
     match what {
         Missing::Vertex => refused(b"NoVertex", out),
         Missing::Feature => refused(b"UnknownFeature", out),
+        Missing::System => refused(b"NoSystem", out),
     }
 }
 

@@ -10,8 +10,8 @@ use std::sync::Wait;
 use std::thread::Threads;
 use vpg_desk::OpenFault;
 use vpg_diagram::Diagram;
-use vpg_family::{Family, Fault, conflict};
-use vpg_script::{Callings, Sink, Source};
+use vpg_family::{Context, Family, Fault, conflict};
+use vpg_script::{Sink, Source};
 use vpg_serving::{Ending, Manner, RunFault};
 
 /// Returns the fault that reports a refused opening. A conflict names the root.
@@ -26,12 +26,13 @@ fn not_opened(alloc: Global, diagram: &Diagram, fault: OpenFault) -> Fault
     }
 }
 
-/// Carries a script out at an office of the family, in a manner. Its lines may also give vertices these names.
+/// Carries a script out at an office of the family, in a manner. Its lines speak of what the context has too: they call
+/// vertices by its names, and ask for traces of what the game was made of.
 pub fn run_script<T: Threads + Wait + Sync, R: Source, W: Sink>(
     rt: &T,
     alloc: Global,
     family: Family,
-    callings: &Callings,
+    context: &Context,
     reader: &mut R,
     writer: &mut W,
     lifters: u32,
@@ -41,9 +42,9 @@ pub fn run_script<T: Threads + Wait + Sync, R: Source, W: Sink>(
     requires lifters { (1 ≤ lifters) × (lifters ≤ 64) }
     requires features { (arc_value family.game).features ≡ feature_count (arc_value family.diagram).lines }
 
-    // An office on the family writes the answers to the script's lines, with the vertices that their names mean, and
-    // the result is their end.
-    ensures output { IsRun manner (arc_value family.diagram) (arc_value family.game) callings.now lifters
+    // What is written are the answers to the script's lines by an office on the family, by what the names of vertices in
+    // them stand for, and the result tells how they end.
+    ensures output { IsRun manner (arc_value family.diagram) (arc_value family.game) context.now lifters
         (R.remaining reader.old) (R.remaining reader.new) (W.contents writer.old) (W.contents writer.new) result }
 
     // Read and Write come only if the device failed, or the script was read 16,777,216 times.
@@ -60,7 +61,7 @@ pub fn run_script<T: Threads + Wait + Sync, R: Source, W: Sink>(
         alloc,
         family.game,
         family.diagram,
-        callings,
+        context,
         reader,
         writer,
         lifters,

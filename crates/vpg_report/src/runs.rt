@@ -1,6 +1,6 @@
 //! Runs of scripts.
 ghost use Rattle.std.specs.Arc.{arc_value};
-ghost use Rattle.std.specs.Prelude.{◌≡◌, ◌≤◌, ◌⊎◌, true, IsErrOf};
+ghost use Rattle.std.specs.Prelude.{◌≡◌, ◌≤◌, ◌⊎◌, true, None, IsErrOf};
 ghost use Rattle.vpg_diagram.specs.FeatureDiagram.{feature_count};
 ghost use Rattle.vpg_desk.specs.State.{IsOpened};
 ghost use Rattle.vpg_report.specs.Server.{IsOpenRefusal};
@@ -18,9 +18,10 @@ use std::sync::{Arc, Wait};
 use std::thread::Threads;
 use vpg_desk::OpenFault;
 use vpg_diagram::Diagram;
+use vpg_family::Context;
 use vpg_game::GuardedGame;
 use vpg_office::{Site, Terms};
-use vpg_script::{Callings, Sink, Source};
+use vpg_script::{Sink, Source};
 use vpg_serving::{Ending, Manner, RunFault, answer_script_as};
 
 /// Opens an office on the game and the diagram, reads a script, and answers its lines in order, each before the next is
@@ -45,7 +46,7 @@ pub fn run<T: Threads + Wait + Sync, R: Source, W: Sink>(
     // The answers to the lines read are written, each by calls on the office's desk with the replies that it gives,
     // while its log has room for them. A harvest that a line commits or keeps was made by at most its number of sweeps,
     // each by this many lifters.
-    ensures output { Outcome (answering (scene_of (arc_value game) (arc_value diagram)) lifters)
+    ensures output { Outcome (answering None (scene_of (arc_value game) (arc_value diagram)) lifters)
         (IsOpenRefusal (arc_value game) (arc_value diagram)) begun (R.remaining reader.old) (R.remaining reader.new)
         (W.contents writer.old) (W.contents writer.new) result }
 
@@ -90,8 +91,8 @@ pub fn run_as<T: Threads + Wait + Sync, R: Source, W: Sink>(
     requires lifters { (1 ≤ lifters) × (lifters ≤ 64) }
     requires features { (arc_value game).features ≡ feature_count (arc_value diagram).lines }
 
-    // The answers to the lines read are written, as `run` writes them, and the result is their end.
-    ensures output { OutcomeAs manner (answering (scene_of (arc_value game) (arc_value diagram)) lifters)
+    // What is written are the answers to the lines read, as `run` has them, and the result tells how they end.
+    ensures output { OutcomeAs manner (answering None (scene_of (arc_value game) (arc_value diagram)) lifters)
         (IsOpenRefusal (arc_value game) (arc_value diagram)) begun (R.remaining reader.old) (R.remaining reader.new)
         (W.contents writer.old) (W.contents writer.new) result }
 
@@ -106,20 +107,22 @@ pub fn run_as<T: Threads + Wait + Sync, R: Source, W: Sink>(
     ensures readable { UnlessReaderFails result (R.has_failed reader.new ≡ R.has_failed reader.old) }
     ensures writable { UnlessWriterFails result (W.has_failed writer.new ≡ W.has_failed writer.old) }
 {
-    let callings = Callings::none(alloc);
+    let context = Context::none(alloc);
     run_called(
-        rt, alloc, game, diagram, &callings, reader, writer, lifters, manner,
+        rt, alloc, game, diagram, &context, reader, writer, lifters, manner,
     )
 }
 
-/// Runs a script as `run_as` does, and its lines may give vertices names. A line is answered as if the identifier of
-/// each vertex stood in place of its name; a vertex with a name that none has is refused `NoVertex`.
+/// The same where lines call vertices by names, and where the game was made of a system. A line is answered as the one
+/// in which the identifier of each vertex stands in place of its name; a vertex whose name stands for none is refused
+/// `NoVertex`. A trace is of the system that the game was made of; without one over the diagram's features it is
+/// refused `NoSystem`.
 pub fn run_called<T: Threads + Wait + Sync, R: Source, W: Sink>(
     rt: &T,
     alloc: Global,
     game: Arc<GuardedGame>,
     diagram: Arc<Diagram>,
-    callings: &Callings,
+    context: &Context,
     reader: &mut R,
     writer: &mut W,
     lifters: u32,
@@ -129,9 +132,10 @@ pub fn run_called<T: Threads + Wait + Sync, R: Source, W: Sink>(
     requires lifters { (1 ≤ lifters) × (lifters ≤ 64) }
     requires features { (arc_value game).features ≡ feature_count (arc_value diagram).lines }
 
-    // The answers to the lines read are written, with the vertices that their names mean, and the result is their end.
+    // What is written are the answers to the lines read, by what their names stand for and what the game was made of,
+    // and the result tells how they end.
     ensures output { OutcomeAs manner
-        (answering_called (called_in (arc_value game) (arc_value diagram) callings.now) lifters)
+        (answering_called (called_in (arc_value game) (arc_value diagram) context.now) lifters)
         (IsOpenRefusal (arc_value game) (arc_value diagram)) begun (R.remaining reader.old) (R.remaining reader.new)
         (W.contents writer.old) (W.contents writer.new) result }
 
@@ -150,7 +154,7 @@ pub fn run_called<T: Threads + Wait + Sync, R: Source, W: Sink>(
         return Err(RunFault::Memory);
     };
     run_there::<Brand, T, R, W>(
-        rt, alloc, site, game, diagram, callings, reader, writer, lifters, manner,
+        rt, alloc, site, game, diagram, context, reader, writer, lifters, manner,
     )
 }
 
@@ -161,7 +165,7 @@ fn run_there<L: Terms, T: Threads + Wait + Sync, R: Source, W: Sink>(
     site: Site,
     game: Arc<GuardedGame>,
     diagram: Arc<Diagram>,
-    callings: &Callings,
+    context: &Context,
     reader: &mut R,
     writer: &mut W,
     lifters: u32,
@@ -174,7 +178,7 @@ fn run_there<L: Terms, T: Threads + Wait + Sync, R: Source, W: Sink>(
     requires of { (arc_value game ≡ L.game) × (arc_value diagram ≡ L.diagram) }
     requires room { L.limit ≡ 1048576 }
     ensures output { OutcomeAs manner
-        (answering_called (called_in (arc_value game) (arc_value diagram) callings.now) lifters)
+        (answering_called (called_in (arc_value game) (arc_value diagram) context.now) lifters)
         (IsOpenRefusal (arc_value game) (arc_value diagram)) begun (R.remaining reader.old) (R.remaining reader.new)
         (W.contents writer.old) (W.contents writer.new) result }
     ensures opened { Opens result (IsOpened (arc_value game) (arc_value diagram)) }
@@ -188,12 +192,9 @@ fn run_there<L: Terms, T: Threads + Wait + Sync, R: Source, W: Sink>(
         Err(OpenFault::Memory) => return Err(RunFault::Memory),
         Err(fault) => return Err(RunFault::Open { fault }),
     };
-    let mut server = Answering { engine, callings };
+    let mut server = Answering { engine, context };
     let result = answer_script_as(rt, alloc, lifters, manner, &mut server, reader, writer);
-    let Answering {
-        engine,
-        callings: _,
-    } = server;
+    let Answering { engine, context: _ } = server;
     let _further = engine.end(rt);
     result
 }

@@ -158,6 +158,7 @@ verb_of_question w =
     else if bytes_eq w (codes "forced") then Some verbs.Forced
     else if bytes_eq w (codes "empty") then Some verbs.Empty
     else if bytes_eq w (codes "spoil") then Some verbs.Spoil
+    else if bytes_eq w (codes "trace") then Some verbs.Trace
     else None
 
 -- the command that a word names, if it is a lookup or such a question
@@ -267,6 +268,7 @@ asked verbs.Won w = of_vertex (questions.Lost Dual) w
 asked verbs.Plan w = of_vertex (questions.Moves Hopeful) w
 asked verbs.Spoil w = of_vertex (questions.Moves Dual) w
 asked verbs.Draw w = of_vertex questions.Draw w
+asked verbs.Trace w = of_vertex questions.Trace w
 asked _ w = None
 
 -- a command with one argument

@@ -59,6 +59,7 @@ pub enum Verb {
     Forced,
     Empty,
     Spoil,
+    Trace,
 }
 
 /// A question about a vertex.
@@ -80,6 +81,8 @@ pub enum VertexQuestion {
     Moves(Which),
     /// A picture of the vertices that can be reached from it.
     Draw,
+    /// How its verdict comes about, as steps of the system.
+    Trace,
 }
 
 /// A question about the page as a whole.
@@ -330,6 +333,8 @@ fn verb_of_question_named(word: &[u8]) -> Option<Verb>
         Some(Verb::Empty)
     } else if same(word, b"spoil") {
         Some(Verb::Spoil)
+    } else if same(word, b"trace") {
+        Some(Verb::Trace)
     } else {
         None
     }
@@ -370,7 +375,8 @@ fn bare_command<'t>(verb: Verb) -> Option<Command<'t>>
         | Verb::Repair
         | Verb::Lost
         | Verb::Won
-        | Verb::Spoil => None,
+        | Verb::Spoil
+        | Verb::Trace => None,
     }
 }
 
@@ -474,6 +480,7 @@ fn asked(verb: Verb, word: &[u8]) -> Option<Inquiry>
         Verb::Plan => of_vertex(VertexQuestion::Moves(Which::Hopeful), word),
         Verb::Spoil => of_vertex(VertexQuestion::Moves(Which::Dual), word),
         Verb::Draw => of_vertex(VertexQuestion::Draw, word),
+        Verb::Trace => of_vertex(VertexQuestion::Trace, word),
         _ => None,
     }
 }

@@ -1,3 +1,4 @@
+pub mod AllRows
 pub mod Joins
 pub mod Noting
 pub mod Numbered

@@ -15,11 +15,11 @@ use Rattle.vpg_system_draw.specs.Reached.{MayStep, AreReached}
 use Rattle.vpg_system_draw.specs.Searched.{may_be, with_target, rows_of, RowStep, AreInside, IsSearched}
 use Rattle.vpg_system_draw.proofs.Searching.{along}
 
-abbrev Rows : Type 0
+abbrev pub Rows : Type 0
 Rows = List (List ℕ)
 
 -- a value that is not `No`, and these ends
-abbrev IsStep : Tri → ℕ → ℕ → ℕ → ℕ → Type 0
+abbrev pub IsStep : Tri → ℕ → ℕ → ℕ → ℕ → Type 0
 IsStep value a b s w = (value ≢ No) × (a ≡ s) × (b ≡ w)
 
 -- ---- one target more
@@ -31,7 +31,7 @@ module _ (rows : Rows) (a b : ℕ) (less : a < length rows) (s w : ℕ) where
   here_is : s ≡ a → get_or more s [] ≡ get_or rows s [] ++ b ∷ []
   here_is e = ap (λ (k : ℕ). get_or more k []) e ∙ (get_or-set_same rows a (get_or rows a [] ++ b ∷ []) [] less ∙ ap (λ (k : ℕ). get_or rows k [] ++ b ∷ []) (sym e))
 
-  more_has : (value : Tri) → value ≢ No → Contains (get_or more s []) w ↔ (Contains (get_or rows s []) w ⊎ IsStep value a b s w)
+  pub more_has : (value : Tri) → value ≢ No → Contains (get_or more s []) w ↔ (Contains (get_or rows s []) w ⊎ IsStep value a b s w)
   more_has value may = (λ c. to (cases_eq s a) c, λ h. from (cases_eq s a) h)
     where
       pushed : s ≡ a → Contains (get_or rows s []) w ⊎ (b ≡ w) → Contains (get_or rows s []) w ⊎ IsStep value a b s w

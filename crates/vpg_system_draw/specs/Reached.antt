@@ -22,3 +22,15 @@ pub record MayStep (known : List Tri) (transitions : List Transition) (s w : ℕ
 pub record AreReached (known : List Tri) (system : NamedSystem) (reached : List Bool) : Type 0 where
   pub count : length reached ≡ system.states
   pub each : (s : ℕ) → slice_index_or reached s false ≡ true ↔ Leads (MayStep known system.transitions) system.first s
+
+-- a transition, whatever its guard, leads from the first state to the second
+pub record Step (transitions : List Transition) (s w : ℕ) : Type 0 where
+  pub transition : Transition
+  pub its : Contains transitions transition
+  pub comes : transition.source ≡ s
+  pub leads : transition.target ≡ w
+
+-- Marked is each state that transitions lead to from the first one, whatever their guards, and no other.
+pub record AreReachedByAny (system : NamedSystem) (reached : List Bool) : Type 0 where
+  pub count : length reached ≡ system.states
+  pub each : (s : ℕ) → slice_index_or reached s false ≡ true ↔ Leads (Step system.transitions) system.first s

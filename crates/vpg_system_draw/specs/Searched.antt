@@ -23,6 +23,14 @@ with_target known rows t =
 abbrev pub rows_of : List Tri → ℕ → List Transition → List (List ℕ)
 rows_of known count transitions = fold (with_target known) (replicate count []) transitions
 
+-- the rows with the target of a transition in that of its source
+abbrev pub with_any_target : List (List ℕ) → Transition → List (List ℕ)
+with_any_target rows t = slice_set rows t.source (slice_index_or rows t.source [] ++ t.target ∷ [])
+
+-- for each of so many states where the transitions lead
+abbrev pub all_rows_of : ℕ → List Transition → List (List ℕ)
+all_rows_of count transitions = fold with_any_target (replicate count []) transitions
+
 -- ---- marks
 
 abbrev pub IsMarked : List Bool → ℕ → Type 0

@@ -20,4 +20,4 @@ mod reached;
 mod transitions;
 
 pub use picture::draw_system;
-pub use reached::reachable;
+pub use reached::{reachable, reachable_by_any};

@@ -4,8 +4,8 @@ ghost use Rattle.vpg_guards.specs.Formula.{IsBelow};
 ghost use Rattle.vpg_guards.specs.Known.{kleene};
 ghost use Rattle.vpg_guards.specs.View.{formula_of};
 ghost use Rattle.vpg_system.specs.SystemView.{transition_of};
-ghost use Rattle.vpg_system_draw.specs.Reached.{AreReached};
-ghost use Rattle.vpg_system_draw.specs.Searched.{may_be, with_target, rows_of, AreNoted, AreInside, IsSearched};
+ghost use Rattle.vpg_system_draw.specs.Reached.{AreReached, AreReachedByAny};
+ghost use Rattle.vpg_system_draw.specs.Searched.{may_be, with_target, rows_of, with_any_target, all_rows_of, AreNoted, AreInside, IsSearched};
 
 use crate::transitions::{transition_at, transition_count};
 use std::alloc::{AllocError, Global};
@@ -91,7 +91,19 @@ fn rows_of(alloc: Global, system: &System, known: &[Tri]) -> Result<Vec<Row>, Al
     Ok(rows)
 }
 
-/// Marks a state that is not marked yet, and puts it among those that wait.
+/// For each state where the transitions from it lead.
+fn all_rows_of(alloc: Global, system: &System) -> Result<Vec<Row>, AllocError>
+    ensures { IfOk result (λ rows. rows.items ≡ all_rows_of system.now.states system.now.transitions) }
+{
+    let mut rows = empty_rows(alloc, system.states())?;
+    for at in 0..transition_count(system) {
+        let transition = transition_at(system, at);
+        add_target(&mut rows, transition.source, transition.target)?;
+    }
+    Ok(rows)
+}
+
+/// Marks a state that is not marked yet, and lets it wait.
 fn note(marks: &mut Vec<bool>, waiting: &mut Vec<u32>, s: u32) -> Result<(), AllocError>
     requires { s < length marks.old.items }
     ensures { OnOk result (AreNoted (λ w. w ≡ s) marks.old.items waiting.old.items marks.new.items
@@ -163,4 +175,17 @@ pub fn reachable(alloc: Global, system: &System, known: &Partial) -> Result<Vec<
     let mut waiting = Vec::new(alloc);
     search(&rows, system.first(), &mut marks, &mut waiting)?;
     Ok(marks)
+}
+
+/// Tells of each state whether it can be reached from the first one over transitions, whatever their guards are.
+pub fn reachable_by_any(alloc: Global, system: &System) -> Result<Vec<bool>, AllocError>
+    ensures { IfOk result (λ reached. AreReachedByAny system.now reached.items) }
+{
+    // `transitions` tells what every system has.
+    let _transitions = system.transitions();
+    let rows = all_rows_of(alloc, system)?;
+    let mut reached = vec![in alloc; false; rows.len()]?;
+    let mut waiting = Vec::new(alloc);
+    search(&rows, system.first(), &mut reached, &mut waiting)?;
+    Ok(reached)
 }

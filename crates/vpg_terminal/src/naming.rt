@@ -6,7 +6,7 @@ ghost use Rattle.std.specs.List.{list_all, prefix_len, slice_split};
 ghost use Rattle.std.specs.Str.Parse.{digits_value};
 ghost use Rattle.vpg_game.specs.Game.{vertex_ids};
 ghost use Rattle.vpg_script.specs.Script.{number_of, largest_identifier};
-ghost use Rattle.vpg_terminal.specs.Naming.{is_within_word, first_word, behind_word, name_of, is_empty, shown_byte, quoted, beside, beside_both, is_of_move, is_of_lift, is_of_verdict, is_of_fact, is_of_vertex, labels_of, named_line, is_line_end, named_lines, is_count, named_text};
+ghost use Rattle.vpg_terminal.specs.Naming.{is_within_word, first_word, behind_word, name_of, is_empty, shown_byte, quoted, beside, beside_both, is_of_move, is_of_lift, is_of_verdict, is_of_fact, is_of_vertex, is_step, labels_of, named_line, is_line_end, named_lines, is_count, named_text};
 
 use std::alloc::{AllocError, Global};
 use vpg_game::GuardedGame;
@@ -198,7 +198,17 @@ fn is_of_vertex(word: &[u8]) -> bool
     is_of_lift(word) || (is_of_verdict(word) || is_of_fact(word))
 }
 
-/// Appends the names beside a line.
+/// Whether this stands behind the first word of a step.
+fn is_step(rest: &[u8]) -> bool
+    ensures { result ≡ is_step rest.now }
+{
+    match rest {
+        [] => false,
+        [first, ..] => *first == b'-',
+    }
+}
+
+/// Appends what stands beside a line.
 fn put_labels(
     game: &GuardedGame,
     names: &VertexNames,
@@ -216,6 +226,8 @@ fn put_labels(
         put_both(from, to, out)
     } else if is_of_vertex(first) {
         put_beside(name_of(game, names, first_word(rest)), out)
+    } else if is_step(rest) {
+        Ok(())
     } else {
         put_beside(name_of(game, names, first), out)
     }

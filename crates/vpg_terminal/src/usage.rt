@@ -60,6 +60,8 @@ number, N a number):
   repair V               what to retract so that V is possible
   spoil V                moves of Odd that win at V in every product left;
   plan V                 the same of Even
+  trace V                where V is hopeless or sure, how the winner wins there,
+                         as steps of the system that stands in place of a game
   forced                 what every product has that is left
   empty                  decisions that leave no product; else the first left
   # ..                   a comment

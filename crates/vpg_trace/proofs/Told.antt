@@ -10,6 +10,7 @@ use Rattle.vpg_hope.proofs.Reach.{reaches_move}
 use Rattle.vpg_measure.specs.Views.{strategy_of}
 use Rattle.vpg_guards.specs.declared.tri.Tri.{Tri}
 use Rattle.vpg_game.specs.Game.{graph_of}
+use Rattle.vpg_checking.specs.Behaviours.{Behaviour}
 use Rattle.vpg_partial.specs.TableLaws.{IsKnownTable}
 use Rattle.vpg_measure.specs.Orders.{OrderView, other_table}
 use Rattle.vpg_verdict.specs.declared.which.Which.{Which}
@@ -17,7 +18,7 @@ use Rattle.vpg_verdict.specs.declared.which.Which.TheVariants.{Hopeful, Dual}
 use Rattle.vpg_why.specs.Explained.{choices}
 use Rattle.vpg_why.specs.Moves.{AreWinning}
 use Rattle.vpg_why.specs.declared.question.Limits.{Limits}
-use Rattle.vpg_trace.specs.Answering.{Appends, Behaviour, HasVerdict, IsTooShort, IsWalkTold, Page, TellsTrace, TellsWon, family_on, head_line, identifier_of, neither_line, page_of, unsettled_line, walk_along, walk_text}
+use Rattle.vpg_trace.specs.Answering.{Appends, HasVerdict, IsTooShort, IsWalkTold, Page, TellsTrace, TellsWon, family_on, head_line, identifier_of, neither_line, page_of, unsettled_line, walk_along, walk_text}
 use Rattle.vpg_parts.specs.declared.part.Part.{Part}
 use Rattle.vpg_model.specs.Departures.{Departure}
 use Rattle.vpg_trace.specs.Texts.{family_of, trace_text}
@@ -57,14 +58,17 @@ pub on_ok : {E : Type 0} (r : Result (Unit {0}) E) (P Q : Type 0) → (P → Q) 
 on_ok (Ok done) P Q f p = f p
 on_ok (Err e) P Q f p = tt
 
--- what is written of the walk that was made, where the code has its names, what is known, and the game elsewhere
-pub walk_written : (names shown actions : List (List ℕ)) (known seen : List Tri) (states : List (List Departure)) (sets : List (List Bool)) (parts : List Part) (pairs : List (ℕ × ℕ)) (game arena : Game) (moves : List (Option ℕ)) (vertex : ℕ)
-    (visits : List Visit) (is_cut : Bool) → shown ≡ names → seen ≡ known → arena ≡ game → IsWalkFrom arena moves vertex visits is_cut →
-    trace_text (family_of shown actions seen states sets parts pairs) visits is_cut
-    ≡ trace_text (family_of names actions known states sets parts pairs) (walk_from game moves vertex).visits (is_left (walk_from game moves vertex).waiting)
-walk_written names shown actions known seen states sets parts pairs game arena moves vertex visits is_cut shown_is seen_is arena_is is =
-    let walk : IsWalkFrom game moves vertex visits is_cut = subst (λ (a : Game). IsWalkFrom a moves vertex visits is_cut) arena_is is in
-    λ i. trace_text (family_of (shown_is i) actions (seen_is i) states sets parts pairs) (walk.made i) (walk.cut i)
+-- what is written of the walk that was made, where the code has its names, what is known, what the game was made of, and
+-- the game elsewhere
+module _ (page : Page) (behaviour : Behaviour) (game arena : Game) (moves : List (Option ℕ)) (vertex : ℕ) (visits : List Visit) (is_cut : Bool) where
+  pub walk_written : (shown actions : List (List ℕ)) (known seen : List Tri) (states : List (List Departure)) (sets : List (List Bool)) (parts : List Part) (pairs : List (ℕ × ℕ)) →
+      shown ≡ page.features → actions ≡ behaviour.actions → seen ≡ known → states ≡ behaviour.states → sets ≡ behaviour.sets → parts ≡ behaviour.parts → pairs ≡ behaviour.pairs → arena ≡ game →
+      IsWalkFrom arena moves vertex visits is_cut →
+      trace_text (family_of shown actions seen states sets parts pairs) visits is_cut
+      ≡ trace_text (family_on page known behaviour) (walk_from game moves vertex).visits (is_left (walk_from game moves vertex).waiting)
+  walk_written shown actions known seen states sets parts pairs shown_is actions_are seen_is states_are sets_are parts_are pairs_are arena_is is =
+      let walk : IsWalkFrom game moves vertex visits is_cut = subst (λ (a : Game). IsWalkFrom a moves vertex visits is_cut) arena_is is in
+      λ i. trace_text (family_of (shown_is i) (actions_are i) (seen_is i) (states_are i) (sets_are i) (parts_are i) (pairs_are i)) (walk.made i) (walk.cut i)
 
 module _ (order : OrderView) (behaviour : Behaviour) (vertex : ℕ) (before after : List ℕ) where
   abbrev page : Page

@@ -1,25 +1,28 @@
 -- What is answered of a vertex: a trace of how the verdict comes about. This project's own.
-use Rattle.std.specs.Prelude.{◌≡◌, ℕ, ◌⊎◌, Bool, Option, List, ◌++◌, codes, decimal, slice_index}
+use Rattle.std.specs.Prelude.{◌≡◌, ℕ, ◌⊎◌, Option, List, ◌++◌, codes, decimal, slice_index}
 use Rattle.vpg_guards.specs.declared.tri.Tri.{Tri}
 use Rattle.vpg_diagram.specs.FeatureDiagram.{Line}
-use Rattle.vpg_game.specs.Game.{NamedGame, graph_of, vertex_ids}
+use Rattle.vpg_guards.specs.Formula.{Formula}
+use Rattle.vpg_game.specs.Game.{graph_of, vertex_ids}
+use Rattle.vpg_game.specs.Guarded.{GuardedGame}
 use Rattle.vpg_partial.specs.TableLaws.{IsKnownTable}
 use Rattle.vpg_partial.specs.declared.decision.Decision.{Decision}
-use Rattle.vpg_parts.specs.declared.part.Part.{Part}
+use Rattle.vpg_checking.specs.Behaviours.{Behaviour}
 use Rattle.vpg_verdict.specs.declared.which.Which.{Which}
 use Rattle.vpg_verdict.specs.declared.which.Which.TheVariants.{Hopeful, Dual}
 use Rattle.vpg_measure.specs.Orders.{OrderView, other_table}
 use Rattle.vpg_measure.specs.TwoGames.{top_for}
-use Rattle.vpg_model.specs.Departures.{Departure}
 use Rattle.vpg_why.specs.Explained.{choices}
 use Rattle.vpg_why.specs.Moves.{AreWinning, ChoicesSettleInCaution, caution_for}
 use Rattle.vpg_why.specs.declared.question.Limits.{Limits}
 use Rattle.vpg_trace.specs.Texts.{Family, family_of, trace_text}
 use Rattle.vpg_trace.specs.Walks.{Walked, walk_from, is_left}
 
--- What a page says: its game, the names of its features, the lines of its diagram, its decisions, and both tables.
+-- What a page says: its game, the identifiers of the vertices, the names of its features, the lines of its diagram, its
+-- decisions, and both tables.
 pub record Page : Type 0 where
-  pub game : NamedGame
+  pub game : GuardedGame Formula
+  pub identifiers : List ℕ
   pub features : List (List ℕ)
   pub lines : List Line
   pub decisions : List Decision
@@ -29,28 +32,14 @@ pub record Page : Type 0 where
 -- the page of an order
 abbrev pub page_of : OrderView → Page
 page_of order = record {
-  game = order.game;
+  game = graph_of order.game;
+  identifiers = vertex_ids order.game.vertices;
   features = order.diagram.names;
   lines = order.diagram.lines;
   decisions = order.decisions;
   hopeful = order.hopeful;
   dual = order.dual;
 }
-
--- What the game was made of: the names of the actions, the transitions from each state, the sets of actions and the
--- parts of the requirements, and the state and the part of each vertex.
-pub record Behaviour : Type 0 where
-  pub actions : List (List ℕ)
-  pub states : List (List Departure)
-  pub sets : List (List Bool)
-  pub parts : List Part
-  pub pairs : List (ℕ × ℕ)
-
--- what these are together
-abbrev pub behaviour_of : (actions : List (List ℕ)) → List (List Departure) → List (List Bool) → List Part →
-    List (ℕ × ℕ) → Behaviour
-behaviour_of actions states sets parts pairs =
-    record { actions = actions; states = states; sets = sets; parts = parts; pairs = pairs }
 
 -- the words of a walk on the page, where so much is known
 abbrev pub family_on : Page → List Tri → Behaviour → Family
@@ -64,10 +53,10 @@ page_table Dual page = page.dual
 
 -- the page has the table's verdict at the vertex
 abbrev pub HasVerdict : Page → Which → ℕ → Type 0
-HasVerdict page which vertex = slice_index (page_table which page) vertex ≡ top_for which (graph_of page.game)
+HasVerdict page which vertex = slice_index (page_table which page) vertex ≡ top_for which page.game
 
 abbrev pub identifier_of : Page → ℕ → ℕ
-identifier_of page vertex = slice_index (vertex_ids page.game.vertices) vertex
+identifier_of page vertex = slice_index page.identifiers vertex
 
 -- the verdict of a table at a vertex
 abbrev pub head_line : Which → ℕ → List ℕ
@@ -84,7 +73,7 @@ unsettled_line = codes "unsettled\n"
 
 -- the walk along these moves of a player: Even for the first table, Odd for the second
 abbrev pub walk_along : Page → List Tri → Which → ℕ → List (Option ℕ) → Walked
-walk_along page known mover vertex moves = walk_from (caution_for known mover (graph_of page.game)) moves vertex
+walk_along page known mover vertex moves = walk_from (caution_for known mover page.game) moves vertex
 
 -- the verdict by which the player wins, and the walk
 abbrev pub walk_text : Page → List Tri → Behaviour → Which → ℕ → List (Option ℕ) → List ℕ
@@ -103,7 +92,7 @@ pub record IsWalkTold (page : Page) (behaviour : Behaviour) (mover : Which) (ver
 -- The moves win in each product that is left, and the text is that of the walk along them, under what is known.
 pub record TellsWalk (page : Page) (behaviour : Behaviour) (mover : Which) (vertex : ℕ) (text : List ℕ) : Type 0 where
   pub moves : List (Option ℕ)
-  pub win : AreWinning (graph_of page.game) page.lines (choices page.decisions) mover vertex moves
+  pub win : AreWinning page.game page.lines (choices page.decisions) mover vertex moves
   pub known : List Tri
   pub is_known : IsKnownTable page.lines (choices page.decisions) known
   pub text_is : text ≡ walk_text page known behaviour mover vertex moves
@@ -111,7 +100,7 @@ pub record TellsWalk (page : Page) (behaviour : Behaviour) (mover : Which) (vert
 -- the limits leave no room to find such moves
 abbrev pub IsTooShort : Page → Limits → Which → Type 0
 IsTooShort page limits mover =
-    ¬ (ChoicesSettleInCaution limits.rounds (graph_of page.game) page.lines (choices page.decisions) mover)
+    ¬ (ChoicesSettleInCaution limits.rounds page.game page.lines (choices page.decisions) mover)
 
 -- A walk along moves of the player that win; or the limits leave no room to find them.
 abbrev pub TellsWon : Page → Behaviour → Limits → (mover : Which) → (vertex : ℕ) → (text : List ℕ) → Type 0

@@ -5,24 +5,20 @@ ghost use Rattle.vpg_game.specs.Game.{graph_of, vertex_ids};
 ghost use Rattle.vpg_measure.specs.Games.{ArePageGames};
 ghost use Rattle.vpg_measure.specs.Orders.{order_table, other_table};
 ghost use Rattle.vpg_measure.specs.TwoGames.{top_for};
-ghost use Rattle.vpg_model.specs.Forms.{HasLabels};
-ghost use Rattle.vpg_model.specs.Pairs.{HaveGuards};
 ghost use Rattle.vpg_why.specs.Explained.{choices};
 ghost use Rattle.vpg_why.specs.Moves.{caution_for};
-ghost use Rattle.vpg_trace.specs.Answering.{Appends, TellsTrace, TellsWon, IsWalkTold, behaviour_of, head_line, neither_line, page_of, unsettled_line, walk_along};
-ghost use Rattle.vpg_trace.specs.Texts.{family_of, trace_text};
+ghost use Rattle.vpg_trace.specs.Answering.{Appends, TellsTrace, TellsWon, IsWalkTold, family_on, head_line, neither_line, page_of, unsettled_line, walk_along};
+ghost use Rattle.vpg_trace.specs.Texts.{trace_text};
 ghost use Rattle.vpg_trace.specs.Walks.{is_left};
 
 use crate::walking::follow;
 use crate::writing::{put_number, put_trace};
-use indexmap::IndexSet;
 use std::alloc::{AllocError, Global};
+use vpg_checking::Behaviour;
 use vpg_game::GuardedGame;
 use vpg_hope::Arena;
 use vpg_measure::{Order, PageGames};
-use vpg_model::Source;
 use vpg_partial::Partial;
-use vpg_system::System;
 use vpg_verdict::Which;
 use vpg_why::{Limits, Moves, winning_moves};
 
@@ -101,20 +97,16 @@ fn put_walk(
     alloc: Global,
     order: &Order,
     games: &PageGames,
-    system: &System,
-    source: &Source,
-    pairs: &IndexSet<(u32, u32)>,
+    behaviour: &Behaviour,
     mover: Which,
     vertex: u32,
     moves: &[Option<u32>],
     out: &mut Vec<u8>,
 ) -> Result<(), AllocError>
     requires games { ArePageGames order.now.game order.now.diagram (choices order.now.decisions) games.now }
-    requires guards { HaveGuards order.now.game.features source.now.states.items }
-    requires labels { HasLabels (length system.now.actions) source.now.states.items }
+    requires features { behaviour.now.features ≡ order.now.game.features }
     ensures { OnOk result (out.new.items ≡ out.old.items
-        ++ trace_text (family_of order.now.diagram.names system.now.actions games.now.known source.now.states.items
-        source.now.sets.items source.now.parts.items pairs.now.keys)
+        ++ trace_text (family_on (page_of order.now) games.now.known behaviour.now)
         (walk_along (page_of order.now) games.now.known mover vertex moves.now).visits
         (is_left (walk_along (page_of order.now) games.now.known mover vertex moves.now).waiting)) }
 {
@@ -124,9 +116,9 @@ fn put_walk(
     put_trace(
         alloc,
         order.diagram().names(),
-        system,
-        source,
-        pairs,
+        behaviour.actions(),
+        behaviour.source(),
+        behaviour.pairs(),
         known.values(),
         &trace,
         out,
@@ -137,19 +129,15 @@ fn put_walk(
 fn put_won(
     alloc: Global,
     order: &Order,
-    system: &System,
-    source: &Source,
-    pairs: &IndexSet<(u32, u32)>,
+    behaviour: &Behaviour,
     mover: Which,
     vertex: u32,
     moves: &[Option<u32>],
     out: &mut Vec<u8>,
 ) -> Result<(), AllocError>
     requires vertex { vertex < length order.now.game.vertices }
-    requires guards { HaveGuards order.now.game.features source.now.states.items }
-    requires labels { HasLabels (length system.now.actions) source.now.states.items }
-    ensures { OnOk result (IsWalkTold (page_of order.now) (behaviour_of system.now.actions source.now.states.items
-        source.now.sets.items source.now.parts.items pairs.now.keys) mover vertex moves.now out.old.items
+    requires features { behaviour.now.features ≡ order.now.game.features }
+    ensures { OnOk result (IsWalkTold (page_of order.now) behaviour.now mover vertex moves.now out.old.items
         out.new.items) }
 {
     put_head(other_table(mover), identifier(order, vertex), out)?;
@@ -157,9 +145,7 @@ fn put_won(
         alloc,
         order,
         order.games(),
-        system,
-        source,
-        pairs,
+        behaviour,
         mover,
         vertex,
         moves,
@@ -171,9 +157,7 @@ fn put_won(
 fn won(
     alloc: Global,
     order: &Order,
-    system: &System,
-    source: &Source,
-    pairs: &IndexSet<(u32, u32)>,
+    behaviour: &Behaviour,
     mover: Which,
     vertex: u32,
     limits: Limits,
@@ -182,16 +166,12 @@ fn won(
     requires vertex { vertex < length order.now.game.vertices }
     requires verdict { slice_index (order_table (other_table mover) order.now) vertex ≡
         top_for (other_table mover) (graph_of order.now.game) }
-    requires guards { HaveGuards order.now.game.features source.now.states.items }
-    requires labels { HasLabels (length system.now.actions) source.now.states.items }
-    ensures { OnOk result (Appends (TellsWon (page_of order.now) (behaviour_of system.now.actions
-        source.now.states.items source.now.sets.items source.now.parts.items pairs.now.keys) limits mover vertex)
+    requires features { behaviour.now.features ≡ order.now.game.features }
+    ensures { OnOk result (Appends (TellsWon (page_of order.now) behaviour.now limits mover vertex)
         out.old.items out.new.items) }
 {
     match winning_moves(alloc, order, mover, vertex, limits)? {
-        Moves::Winning(moves) => put_won(
-            alloc, order, system, source, pairs, mover, vertex, &moves, out,
-        ),
+        Moves::Winning(moves) => put_won(alloc, order, behaviour, mover, vertex, &moves, out),
         Moves::Nothing => unreachable!(),
         Moves::Unsettled => put_unsettled(out),
     }
@@ -201,50 +181,26 @@ fn won(
 /// in each product that is left, where it is sure one along moves of Even. Or that it is neither, or that the limits
 /// leave no room.
 ///
-/// The game is that of the system and of the requirements that the source has; the pairs are its vertices. The first
-/// line is the verdict, `hopeless 0` or `sure 0`; the walk follows, as of `put_trace`, up to the line `steps 12`. Else
-/// there is one line: `possible 0 unsure`, or `unsettled`. The one error is want of memory.
+/// The behaviour is what the game was made of, over the features of the order's diagram. The first line is the verdict,
+/// `hopeless 0` or `sure 0`; the walk follows, as of `put_trace`, up to the line `steps 12`. Else there is one line:
+/// `possible 0 unsure`, or `unsettled`. The one error is want of memory.
 pub fn put_answer(
     alloc: Global,
     order: &Order,
-    system: &System,
-    source: &Source,
-    pairs: &IndexSet<(u32, u32)>,
+    behaviour: &Behaviour,
     vertex: u32,
     limits: Limits,
     out: &mut Vec<u8>,
 ) -> Result<(), AllocError>
     requires vertex { vertex < length order.now.game.vertices }
-    requires guards { HaveGuards order.now.game.features source.now.states.items }
-    requires labels { HasLabels (length system.now.actions) source.now.states.items }
-    ensures { OnOk result (Appends (TellsTrace (page_of order.now) (behaviour_of system.now.actions
-        source.now.states.items source.now.sets.items source.now.parts.items pairs.now.keys) limits vertex)
+    requires features { behaviour.now.features ≡ order.now.game.features }
+    ensures { OnOk result (Appends (TellsTrace (page_of order.now) behaviour.now limits vertex)
         out.old.items out.new.items) }
 {
     if has_top(order, Which::Hopeful, vertex) {
-        won(
-            alloc,
-            order,
-            system,
-            source,
-            pairs,
-            Which::Dual,
-            vertex,
-            limits,
-            out,
-        )
+        won(alloc, order, behaviour, Which::Dual, vertex, limits, out)
     } else if has_top(order, Which::Dual, vertex) {
-        won(
-            alloc,
-            order,
-            system,
-            source,
-            pairs,
-            Which::Hopeful,
-            vertex,
-            limits,
-            out,
-        )
+        won(alloc, order, behaviour, Which::Hopeful, vertex, limits, out)
     } else {
         put_neither(identifier(order, vertex), out)
     }

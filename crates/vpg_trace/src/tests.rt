@@ -6,6 +6,7 @@ use std::test::Fail;
 use vpg_diagram::Diagram;
 use vpg_hope::Arena;
 use vpg_model::{Source, build};
+use vpg_part_texts::Text;
 use vpg_partial::Partial;
 use vpg_parts::{Kind, Part, Permitted, TRUE_PLACE};
 use vpg_system::System;
@@ -69,11 +70,16 @@ fn walk(
         Which::Dual => Arena::cautious_of_dual(alloc, &built.game, &known)?,
     };
     let trace = follow(alloc, &arena, moves, 0)?;
+    let mut actions = Vec::new(alloc);
+    for action in 0..system.actions() {
+        let bytes = Vec::from_slice(alloc, system.action_name(action))?;
+        actions.push(Text { bytes })?;
+    }
     let mut out = Vec::new(alloc);
     put_trace(
         alloc,
         names,
-        &system,
+        &actions,
         &source,
         &built.pairs,
         known.values(),

@@ -1,5 +1,5 @@
 //! The text of a walk.
-ghost use Rattle.std.specs.Prelude.{◌≡◌, ◌<◌, ◌++◌, ℕ, List, IfSome, OnErr, OnOk, decimal, length};
+ghost use Rattle.std.specs.Prelude.{◌≡◌, ◌<◌, ◌++◌, [], ℕ, List, IfSome, OnErr, OnOk, decimal, length, slice_index_or};
 ghost use Rattle.vpg_guards.specs.Formula.{IsBelow};
 ghost use Rattle.vpg_guards.specs.View.{formula_of};
 ghost use Rattle.vpg_model.specs.Forms.{HasLabels};
@@ -14,8 +14,8 @@ use itoa::Buffer;
 use std::alloc::{AllocError, Global};
 use vpg_guards::{Guard, Names, Tri};
 use vpg_model::{Source, Transition};
+use vpg_part_texts::Text;
 use vpg_parts::Part;
-use vpg_system::System;
 
 /// Appends a number in decimal.
 pub(crate) fn put_number(n: u64, out: &mut Vec<u8>) -> Result<(), AllocError>
@@ -23,6 +23,16 @@ pub(crate) fn put_number(n: u64, out: &mut Vec<u8>) -> Result<(), AllocError>
 {
     let mut buffer = Buffer::new();
     out.extend_from_slice(buffer.format(n).as_bytes())
+}
+
+/// The name of an action. Past the last one it is empty.
+fn name_of(actions: &[Text], action: usize) -> &[u8]
+    ensures { result.now ≡ slice_index_or actions.now action [] }
+{
+    match actions.get(action) {
+        Some(name) => name.bytes.as_slice(),
+        None => b"",
+    }
 }
 
 /// Appends two blanks for each side branch.
@@ -59,17 +69,17 @@ fn put_guard(
 fn put_arrow(
     alloc: Global,
     names: &Names,
-    system: &System,
+    actions: &[Text],
     transition: &Transition,
     out: &mut Vec<u8>,
 ) -> Result<(), AllocError>
     requires guard { IsBelow (length names.now) transition.now.guard }
-    requires action { transition.now.action < length system.now.actions }
+    requires action { transition.now.action < length actions.now }
     ensures { OnOk result (out.new.items ≡ out.old.items
-        ++ arrow_text names.now system.now.actions transition.now) }
+        ++ arrow_text names.now actions.now transition.now) }
 {
     out.extend_from_slice(b" -")?;
-    out.extend_from_slice(system.action_name(transition.action as usize))?;
+    out.extend_from_slice(name_of(actions, transition.action as usize))?;
     put_guard(alloc, names, &transition.guard, out)?;
     out.extend_from_slice(b"-> ")?;
     put_number(transition.target as u64, out)
@@ -98,30 +108,30 @@ fn transition_of(source: &Source, taken: Taken) -> &Transition
 fn put_step(
     alloc: Global,
     names: &Names,
-    system: &System,
+    actions: &[Text],
     source: &Source,
     depth: u32,
     taken: Taken,
     out: &mut Vec<u8>,
 ) -> Result<(), AllocError>
     requires guards { HaveGuards (length names.now) source.now.states.items }
-    requires labels { HasLabels (length system.now.actions) source.now.states.items }
+    requires labels { HasLabels (length actions.now) source.now.states.items }
     requires within { taken.index < length (departures_at source.now.states.items taken.state) }
     ensures { OnOk result (out.new.items ≡ out.old.items
-        ++ step_line names.now system.now.actions source.now.states.items depth taken) }
+        ++ step_line names.now actions.now source.now.states.items depth taken) }
 {
     put_indent(depth, out)?;
     put_number(taken.state as u64, out)?;
-    put_arrow(alloc, names, system, transition_of(source, taken), out)?;
+    put_arrow(alloc, names, actions, transition_of(source, taken), out)?;
     put_mark(taken.depends, out)
 }
 
-/// Whether a set has all actions of a system.
-fn has_all(system: &System, source: &Source, set: u32) -> bool
-    ensures { result ≡ all_permitted source.now.sets.items set (length system.now.actions) }
+/// Whether a set has all of these actions.
+fn has_all(actions: &[Text], source: &Source, set: u32) -> bool
+    ensures { result ≡ all_permitted source.now.sets.items set (length actions.now) }
 {
     let mut has = true;
-    for action in 0..system.actions() {
+    for action in 0..actions.len() {
         has = has && source.is_permitted(set, action as u32);
     }
     has
@@ -129,68 +139,68 @@ fn has_all(system: &System, source: &Source, set: u32) -> bool
 
 /// Appends the name of an action, if a set has it.
 fn put_action_if(
-    system: &System,
+    actions: &[Text],
     action: usize,
     is_permitted: bool,
     out: &mut Vec<u8>,
 ) -> Result<(), AllocError>
-    requires { action < length system.now.actions }
-    ensures { OnOk result (out.new.items ≡ out.old.items ++ action_if system.now.actions action is_permitted) }
+    requires { action < length actions.now }
+    ensures { OnOk result (out.new.items ≡ out.old.items ++ action_if actions.now action is_permitted) }
 {
     if is_permitted {
         out.push(b' ')?;
-        out.extend_from_slice(system.action_name(action))?;
+        out.extend_from_slice(name_of(actions, action))?;
     }
     Ok(())
 }
 
 /// Appends the names of the actions that a set has.
 fn put_permitted(
-    system: &System,
+    actions: &[Text],
     source: &Source,
     set: u32,
     out: &mut Vec<u8>,
 ) -> Result<(), AllocError>
     ensures { OnOk result (out.new.items ≡ out.old.items
-        ++ permitted_text system.now.actions source.now.sets.items set (length system.now.actions)) }
+        ++ permitted_text actions.now source.now.sets.items set (length actions.now)) }
 {
-    for action in 0..system.actions() {
+    for action in 0..actions.len() {
         let is_permitted = source.is_permitted(set, action as u32);
-        put_action_if(system, action, is_permitted, out)?;
+        put_action_if(actions, action, is_permitted, out)?;
     }
     Ok(())
 }
 
 /// Appends what was asked for: any step, or one of a set's actions.
 fn put_asked(
-    system: &System,
+    actions: &[Text],
     source: &Source,
     set: u32,
     out: &mut Vec<u8>,
 ) -> Result<(), AllocError>
     ensures { OnOk result (out.new.items ≡ out.old.items
-        ++ asked_text system.now.actions source.now.sets.items set) }
+        ++ asked_text actions.now source.now.sets.items set) }
 {
-    if has_all(system, source, set) {
+    if has_all(actions, source, set) {
         out.extend_from_slice(b" step")
     } else {
-        put_permitted(system, source, set, out)
+        put_permitted(actions, source, set, out)
     }
 }
 
 /// Appends that no step that was asked for is there.
 fn put_missing(
-    system: &System,
+    actions: &[Text],
     source: &Source,
     state: u32,
     set: u32,
     out: &mut Vec<u8>,
 ) -> Result<(), AllocError>
     ensures { OnOk result (out.new.items ≡ out.old.items
-        ++ missing_text system.now.actions source.now.sets.items state set) }
+        ++ missing_text actions.now source.now.sets.items state set) }
 {
     out.extend_from_slice(b"no")?;
-    put_asked(system, source, set, out)?;
+    put_asked(actions, source, set, out)?;
     out.extend_from_slice(b" from ")?;
     put_number(state as u64, out)
 }
@@ -205,20 +215,20 @@ fn put_unmoved(state: u32, out: &mut Vec<u8>) -> Result<(), AllocError>
 
 /// Appends what stands where nobody moves.
 fn put_standing(
-    system: &System,
+    actions: &[Text],
     source: &Source,
     state: u32,
     part: Part,
     out: &mut Vec<u8>,
 ) -> Result<(), AllocError>
     ensures { OnOk result (out.new.items ≡ out.old.items
-        ++ standing_text system.now.actions source.now.sets.items state part) }
+        ++ standing_text actions.now source.now.sets.items state part) }
 {
     match part {
         Part::True => out.extend_from_slice(b"true"),
         Part::False => out.extend_from_slice(b"false"),
         Part::SomeStep(set, _) | Part::EveryStep(set, _) => {
-            put_missing(system, source, state, set, out)
+            put_missing(actions, source, state, set, out)
         }
         Part::And(_, _) | Part::Or(_, _) | Part::Fixpoint { .. } | Part::Variable { .. } => {
             put_unmoved(state, out)
@@ -228,17 +238,17 @@ fn put_standing(
 
 /// Appends what stands at a pair where nobody moves, as a line.
 fn put_standing_line(
-    system: &System,
+    actions: &[Text],
     source: &Source,
     depth: u32,
     pair: (u32, u32),
     out: &mut Vec<u8>,
 ) -> Result<(), AllocError>
     ensures { OnOk result (out.new.items ≡ out.old.items
-        ++ standing_line system.now.actions source.now.sets.items source.now.parts.items depth pair) }
+        ++ standing_line actions.now source.now.sets.items source.now.parts.items depth pair) }
 {
     put_indent(depth, out)?;
-    put_standing(system, source, pair.0, source.resolved_part(pair.1), out)?;
+    put_standing(actions, source, pair.0, source.resolved_part(pair.1), out)?;
     out.extend_from_slice(b"\n")
 }
 
@@ -261,14 +271,14 @@ fn put_return(depth: u32, word: &[u8], state: u32, out: &mut Vec<u8>) -> Result<
 
 /// Appends how a visit ends, unless it goes on.
 fn put_end(
-    system: &System,
+    actions: &[Text],
     source: &Source,
     pairs: &IndexSet<(u32, u32)>,
     visits: &[Visit],
     visit: Visit,
     out: &mut Vec<u8>,
 ) -> Result<(), AllocError>
-    ensures { OnOk result (out.new.items ≡ out.old.items ++ end_text system.now.actions source.now.sets.items
+    ensures { OnOk result (out.new.items ≡ out.old.items ++ end_text actions.now source.now.sets.items
         source.now.parts.items pairs.now.keys visits.now visit.depth visit.vertex visit.end) }
 {
     match visit.end {
@@ -276,7 +286,7 @@ fn put_end(
         End::Loop(k) => put_return(visit.depth, b"loop to ", state_of(pairs, visits, k), out),
         End::Seen(k) => put_return(visit.depth, b"seen ", state_of(pairs, visits, k), out),
         End::Stands => put_standing_line(
-            system,
+            actions,
             source,
             visit.depth,
             pair_of(pairs, visit.vertex),
@@ -319,21 +329,21 @@ fn step_to(
 fn put_step_if(
     alloc: Global,
     names: &Names,
-    system: &System,
+    actions: &[Text],
     source: &Source,
     depth: u32,
     step: Option<Taken>,
     out: &mut Vec<u8>,
 ) -> Result<(), AllocError>
     requires guards { HaveGuards (length names.now) source.now.states.items }
-    requires labels { HasLabels (length system.now.actions) source.now.states.items }
+    requires labels { HasLabels (length actions.now) source.now.states.items }
     requires within { IfSome step (λ taken.
         taken.index < length (departures_at source.now.states.items taken.state)) }
     ensures { OnOk result (out.new.items ≡ out.old.items
-        ++ step_text names.now system.now.actions source.now.states.items depth step) }
+        ++ step_text names.now actions.now source.now.states.items depth step) }
 {
     match step {
-        Some(taken) => put_step(alloc, names, system, source, depth, taken, out),
+        Some(taken) => put_step(alloc, names, actions, source, depth, taken, out),
         None => Ok(()),
     }
 }
@@ -342,7 +352,7 @@ fn put_step_if(
 fn put_visit(
     alloc: Global,
     names: &Names,
-    system: &System,
+    actions: &[Text],
     source: &Source,
     pairs: &IndexSet<(u32, u32)>,
     known: &[Tri],
@@ -351,21 +361,21 @@ fn put_visit(
     out: &mut Vec<u8>,
 ) -> Result<(), AllocError>
     requires guards { HaveGuards (length names.now) source.now.states.items }
-    requires labels { HasLabels (length system.now.actions) source.now.states.items }
+    requires labels { HasLabels (length actions.now) source.now.states.items }
     requires known { length known.now ≡ length names.now }
-    ensures { OnOk result (out.new.items ≡ out.old.items ++ visit_text (family_of names.now system.now.actions known.now
+    ensures { OnOk result (out.new.items ≡ out.old.items ++ visit_text (family_of names.now actions.now known.now
         source.now.states.items source.now.sets.items source.now.parts.items pairs.now.keys) visits.now visit) }
 {
     let step = step_to(source, pairs, known, visits, visit);
-    put_step_if(alloc, names, system, source, visit.depth, step, out)?;
-    put_end(system, source, pairs, visits, visit, out)
+    put_step_if(alloc, names, actions, source, visit.depth, step, out)?;
+    put_end(actions, source, pairs, visits, visit, out)
 }
 
 /// Appends the lines of all visits.
 fn put_visits(
     alloc: Global,
     names: &Names,
-    system: &System,
+    actions: &[Text],
     source: &Source,
     pairs: &IndexSet<(u32, u32)>,
     known: &[Tri],
@@ -373,16 +383,16 @@ fn put_visits(
     out: &mut Vec<u8>,
 ) -> Result<(), AllocError>
     requires guards { HaveGuards (length names.now) source.now.states.items }
-    requires labels { HasLabels (length system.now.actions) source.now.states.items }
+    requires labels { HasLabels (length actions.now) source.now.states.items }
     requires known { length known.now ≡ length names.now }
     ensures { OnOk result (out.new.items ≡ out.old.items
-        ++ visits_text (family_of names.now system.now.actions known.now source.now.states.items
+        ++ visits_text (family_of names.now actions.now known.now source.now.states.items
         source.now.sets.items source.now.parts.items pairs.now.keys) visits.now (length visits.now)) }
 {
     for i in 0..visits.len() {
         let visit = visit_at(visits, i);
         put_visit(
-            alloc, names, system, source, pairs, known, visits, visit, out,
+            alloc, names, actions, source, pairs, known, visits, visit, out,
         )?;
     }
     Ok(())
@@ -419,7 +429,7 @@ fn put_cut(is_cut: bool, out: &mut Vec<u8>) -> Result<(), AllocError>
 fn put(
     alloc: Global,
     names: &Names,
-    system: &System,
+    actions: &[Text],
     source: &Source,
     pairs: &IndexSet<(u32, u32)>,
     known: &[Tri],
@@ -427,16 +437,16 @@ fn put(
     out: &mut Vec<u8>,
 ) -> Result<(), AllocError>
     requires guards { HaveGuards (length names.now) source.now.states.items }
-    requires labels { HasLabels (length system.now.actions) source.now.states.items }
+    requires labels { HasLabels (length actions.now) source.now.states.items }
     requires known { length known.now ≡ length names.now }
     ensures { OnOk result (out.new.items ≡ out.old.items
-        ++ trace_text (family_of names.now system.now.actions known.now source.now.states.items
+        ++ trace_text (family_of names.now actions.now known.now source.now.states.items
         source.now.sets.items source.now.parts.items pairs.now.keys) trace.now.visits.items trace.now.is_cut) }
 {
     put_visits(
         alloc,
         names,
-        system,
+        actions,
         source,
         pairs,
         known,
@@ -459,7 +469,7 @@ fn put(
 pub fn put_trace(
     alloc: Global,
     names: &Names,
-    system: &System,
+    actions: &[Text],
     source: &Source,
     pairs: &IndexSet<(u32, u32)>,
     known: &[Tri],
@@ -467,15 +477,17 @@ pub fn put_trace(
     out: &mut Vec<u8>,
 ) -> Result<(), AllocError>
     requires guards { HaveGuards (length names.now) source.now.states.items }
-    requires labels { HasLabels (length system.now.actions) source.now.states.items }
+    requires labels { HasLabels (length actions.now) source.now.states.items }
     requires known { length known.now ≡ length names.now }
     ensures ok { OnOk result (out.new.items ≡ out.old.items
-        ++ trace_text (family_of names.now system.now.actions known.now source.now.states.items
+        ++ trace_text (family_of names.now actions.now known.now source.now.states.items
         source.now.sets.items source.now.parts.items pairs.now.keys) trace.now.visits.items trace.now.is_cut) }
     ensures err { OnErr result (out.new.items ≡ out.old.items) }
 {
     let mut text = Vec::new(alloc);
-    put(alloc, names, system, source, pairs, known, trace, &mut text)?;
+    put(
+        alloc, names, actions, source, pairs, known, trace, &mut text,
+    )?;
     out.extend_from_slice(&text)?;
     Ok(())
 }

@@ -54,6 +54,8 @@ fn texts_of(alloc: Global, diagram: &str, game: &str) -> Result<Texts, AllocErro
         entries: Vec::new(alloc),
         vertices: Vec::new(alloc),
         system: Vec::new(alloc),
+        requirements: Vec::new(alloc),
+        behaviour: None,
     })
 }
 
@@ -80,7 +82,7 @@ pub(super) fn ending<T: Threads + Wait + Sync>(
                 rt,
                 alloc,
                 family,
-                &known.callings,
+                &known.context,
                 &mut reader,
                 &mut writer,
                 1,

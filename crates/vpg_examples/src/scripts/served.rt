@@ -12,7 +12,7 @@ use vpg_serving::{RunFault, ServeFault, Server, answer_script};
 struct Refuser;
 
 impl Server for Refuser {
-    ghost use Rattle.std.specs.Prelude.{[]};
+    ghost use Rattle.std.specs.Prelude.{[], None};
     ghost use Rattle.vpg_report.specs.Run.{Between, begun, calling};
     ghost use Rattle.vpg_texts.specs.Scene.{Scene as OfScene};
 
@@ -20,7 +20,7 @@ impl Server for Refuser {
 
     ghost State = { Between };
 
-    ghost answering = { λ scene _. calling scene };
+    ghost answering = { λ scene _. calling None scene };
 
     ghost scene = { λ _. record { game = []; lines = []; names = []; identifiers = [] } };
 

@@ -42,6 +42,8 @@ fn texts(alloc: Global, row: &Row<'_>) -> Result<Texts, AllocError> {
         entries: Vec::new(alloc),
         vertices: Vec::new(alloc),
         system,
+        requirements: Vec::new(alloc),
+        behaviour: None,
     })
 }
 
@@ -142,7 +144,15 @@ fn of_texts(alloc: Global, row: &Row<'_>) -> Result<Vec<u8>, Fault> {
     }
 }
 
-/// Returns the text for a row.
+/// What looks wrong in the family of two texts.
+fn warned(alloc: Global, row: &Row<'_>) -> Result<Vec<u8>, Fault> {
+    match texts(alloc, row) {
+        Ok(texts) => linted(alloc, PATHS, &texts),
+        Err(_) => Err(Fault::Memory),
+    }
+}
+
+/// What is written for a row.
 fn answer(alloc: Global, row: &Row<'_>) -> Result<Vec<u8>, Fault> {
     let diagram = row.diagram.as_bytes();
     let game = row.game.as_bytes();
@@ -150,7 +160,7 @@ fn answer(alloc: Global, row: &Row<'_>) -> Result<Vec<u8>, Fault> {
         "draw" => drawn(alloc, Subject::Game, diagram, game),
         "draw-features" => drawn(alloc, Subject::Features, diagram, game),
         "draw-system" => system_drawn(alloc, diagram, game),
-        "lint" => linted(alloc, PATHS, diagram, game),
+        "lint" => warned(alloc, row),
         _ => of_texts(alloc, row),
     }
 }

@@ -4,7 +4,9 @@ use crate::said::Said;
 use std::alloc::Global;
 use std::fs;
 use std::test::*;
-use vpg_family::{Fault, GamePaths, ModelPaths, Paths, checked, explained, line_of, read_texts};
+use vpg_family::{
+    Fault, GamePaths, ModelPaths, Paths, checked, explained, line_of, linted, read_texts,
+};
 
 /// The files of a system, requirements and a diagram.
 const PATHS: Paths<'static> = Paths {
@@ -246,7 +248,52 @@ modelled_requirements: the game of the system and these requirements has more th
     },
 ];
 
-/// Writes the line that reports a fault, and the message about it.
+/// Systems and requirements that look wrong, and what is warned of.
+static WARNED: [Row; 3] = [
+    Row {
+        diagram: DIAGRAM,
+        system: "\
+des (0, 4, 4)
+(0, \"log [f & !f]\", 1)
+(1, serve, 0)
+ (0, \"pay [g]\", 2)
+(3, x, 0)
+",
+        requirements: "live = can serv;\nsafe = after pay (can x);\n",
+        told: "\
+modelled_system:5:1: warning: state 3 cannot be reached from the first state
+modelled_system:2:11: warning: this guard is true in no product
+modelled_system:2:1: warning: `log` is named by no requirement
+modelled_system:3:1: warning: `serve` is named by no requirement
+modelled_requirements:1:12: warning: `serv` is the action of no transition; is `serve` meant?
+warnings 5
+",
+    },
+    Row {
+        diagram: DIAGRAM,
+        system: "des (1, 2, 3)\n(1, \"a [f]\", 1)\n(1, \"send(d1, true) [g]\", 1)\n",
+        requirements: "[!a]can send(d1,true) && <\"send(d1,true)\">true",
+        told: "\
+modelled_system:1:1: warning: state 0 cannot be reached from the first state
+modelled_system:1:1: warning: state 2 cannot be reached from the first state
+modelled_requirements:1:27: warning: `send(d1,true)` is the action of no transition; is `send(d1, true)` meant?
+warnings 3
+",
+    },
+    Row {
+        diagram: DIAGRAM,
+        system: SYSTEM,
+        requirements: LIVE,
+        told: "\
+modelled_diagram:3:12: warning: `g` is named by no guard
+modelled_system:2:1: warning: `a` is named by no requirement
+modelled_system:3:1: warning: `b` is named by no requirement
+warnings 3
+",
+    },
+];
+
+/// Writes the line that tells of a fault, and what is said of it.
 fn put_fault(rt: &HostRuntime, fault: &Fault, said: &mut Said) {
     said.put_made(line_of(said.alloc, fault));
     said.put_made(explained(rt, said.alloc, PATHS, None, fault));
@@ -256,6 +303,14 @@ fn put_fault(rt: &HostRuntime, fault: &Fault, said: &mut Said) {
 fn put_files(rt: &HostRuntime, said: &mut Said) {
     match read_texts(rt, said.alloc, PATHS) {
         Ok(texts) => said.put_answer(checked(said.alloc, &texts)),
+        Err(fault) => put_fault(rt, &fault, said),
+    }
+}
+
+/// Writes what is warned of the family, or what is told of its files.
+fn put_warned(rt: &HostRuntime, said: &mut Said) {
+    match read_texts(rt, said.alloc, PATHS) {
+        Ok(texts) => said.put_answer(linted(said.alloc, PATHS, &texts)),
         Err(fault) => put_fault(rt, &fault, said),
     }
 }
@@ -284,7 +339,26 @@ fn first_wrong(rt: &HostRuntime, alloc: Global) -> Option<&'static str> {
     None
 }
 
-/// The messages about files that are not there, one after the other.
+/// Whether what is warned of is that of the row.
+fn is_warned_of(rt: &HostRuntime, alloc: Global, row: &Row) -> bool {
+    let mut said = Said::new(alloc);
+    if are_written(rt, row) {
+        put_warned(rt, &mut said);
+    }
+    said.text() == row.told
+}
+
+/// What is to be warned of in the first row that doesn't hold.
+fn first_unwarned(rt: &HostRuntime, alloc: Global) -> Option<&'static str> {
+    for row in &WARNED {
+        if !is_warned_of(rt, alloc, row) {
+            return Some(row.told);
+        }
+    }
+    None
+}
+
+/// What is told of files that are not there, one after the other.
 const GONE: &str = "\
 vpgdesk: requirements unreadable
 modelled_requirements: there is no such file, or it cannot be read
@@ -309,11 +383,13 @@ fn put_gone(rt: &HostRuntime, said: &mut Said) -> bool {
 }
 
 #[test]
-fn systems_and_requirements_are_refused(rt: HostRuntime) -> Result<(), Fail> {
+fn systems_and_requirements_are_refused_or_warned_of(rt: HostRuntime) -> Result<(), Fail> {
     let wrong = first_wrong(&rt, rt.alloc());
+    let unwarned = first_unwarned(&rt, rt.alloc());
     let mut gone = Said::new(rt.alloc());
     let were_there = put_gone(&rt, &mut gone);
     assert_eq!(rt; wrong, None);
+    assert_eq!(rt; unwarned, None);
     assert!(rt; were_there);
     assert_eq!(rt; gone.text(), GONE);
     Ok(())

@@ -23,3 +23,9 @@ returns-in-Offer c = rw c.in-Offer.is c.offers.ensures
 
 pub returns-in-Why : goal.returns-in-Why
 returns-in-Why c = rw c.in-Why.is c.vertex.ensures
+
+pub returns-in-Trace : goal.returns-in-Trace
+returns-in-Trace c = rw c.in-Trace.is c.trace.ensures
+
+pub trace-requires-clause-system : goal.trace-requires-clause-system
+trace-requires-clause-system c = rw c.in-Trace.is at c.requires.system

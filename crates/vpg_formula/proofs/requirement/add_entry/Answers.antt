@@ -33,14 +33,14 @@ returns-clause-goes c all g =
     (goes_more c.args.items.now.negated item.negated c.first_place-items.result (entries_of es) (item.entry.name, item.entry.formula.marks.items) name all words (texts c.in_ok-formula.formula.now) (texts c.in_ok-item.rest.now) g few head made c.first_place-items.ensures.some))
 
 pub returns-in_err-formula-clause-at : goal.returns-in_err-formula-clause-at
-returns-in_err-formula-clause-at c all r =
+returns-in_err-formula-clause-at c all first r =
     let p = err_from_is_err_and c.from_residual.result c.from_residual.ensures.1 in
     let es = c.args.items.now.entries.items in
     let at = rw c.deref.ensures.value at c.in_err-formula.ensures.at in
-    rw (p.1, p.2) (head_at c.args.items.now.negated (entries_of es) (length es) c.args.name.now all (texts c.args.words.now) c.in_err-formula.field-0.0 r (sym (entries_count es)) at)
+    rw (p.1, p.2) (head_at c.args.items.now.negated (entries_of es) (length es) c.args.name.now all (texts c.args.words.now) c.in_err-formula.field-0.0 first r (sym (entries_count es)) at)
 
 pub returns-in_err-item-clause-at : goal.returns-in_err-item-clause-at
-returns-in_err-item-clause-at c all r =
+returns-in_err-item-clause-at c all first r =
     let p = err_from_is_err_and c.from_residual-in_err-item.result c.from_residual-in_err-item.ensures.1 in
     let es = c.args.items.now.entries.items in
     let head = rw c.deref.ensures.value at c.in_ok-formula.ensures.head in

@@ -21,7 +21,7 @@ loop-next-init c =
 pub returns-in_err-rest-clause-at : goal.returns-in_err-rest-clause-at
 returns-in_err-rest-clause-at c =
     let p = err_from_is_err_and c.from_residual.result c.from_residual.ensures.1 in
-    rw (p.1, p.2) (c.in_err-rest.ensures.at (texts c.args.words.now) (rw c.in-Some.is at c.loop-next.invariant.read))
+    rw (p.1, p.2) (c.in_err-rest.ensures.at (texts c.args.words.now) c.requires (rw c.in-Some.is at c.loop-next.invariant.read))
 
 pub returns-clause-negated : goal.returns-clause-negated
 returns-clause-negated c = c.loop-next.invariant.read.place

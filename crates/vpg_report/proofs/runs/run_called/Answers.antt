@@ -8,4 +8,4 @@ use Rattle.vpg_report.proofs.runs.run_called.Goals as goal
 pub returns-in_default-clause-output : goal.returns-in_default-clause-output
 returns-in_default-clause-output g c =
     let input = g.R.Source.remaining c.args.reader.now in
-    ([], [], begun, prepend_known [] input, went_nothing c.args.manner (answering_called (called_in (arc_value c.args.game) (arc_value c.args.diagram) c.args.callings.now) c.args.lifters) begun input (g.W.Sink.contents c.args.writer.now))
+    ([], [], begun, prepend_known [] input, went_nothing c.args.manner (answering_called (called_in (arc_value c.args.game) (arc_value c.args.diagram) c.args.context.now) c.args.lifters) begun input (g.W.Sink.contents c.args.writer.now))

@@ -5,14 +5,14 @@ use Rattle.vpg_serving.specs.Manners.{MannerOutcome}
 use Rattle.vpg_serving.proofs.MannerLemmas.{went_nothing}
 use Rattle.vpg_report.specs.Engine.{EngineState, between_of, scene_at}
 use Rattle.vpg_report.specs.Server.{IsOpenRefusal}
-use Rattle.vpg_report.specs.Run.{answering_called, begun, called_in}
+use Rattle.vpg_report.specs.Run.{answering_called, begun, called_at, called_in}
 use Rattle.vpg_report.proofs.Results.{outcome_as}
 use Rattle.vpg_report.proofs.runs.run_there.Goals as goal
 
 pub returns-in-Err-Memory-clause-output : goal.returns-in-Err-Memory-clause-output
 returns-in-Err-Memory-clause-output g c =
     let input = g.R.Source.remaining c.args.reader.now in
-    ([], [], begun, prepend_known [] input, went_nothing c.args.manner (answering_called (called_in (arc_value c.args.game) (arc_value c.args.diagram) c.args.callings.now) c.args.lifters) begun input (g.W.Sink.contents c.args.writer.now))
+    ([], [], begun, prepend_known [] input, went_nothing c.args.manner (answering_called (called_in (arc_value c.args.game) (arc_value c.args.diagram) c.args.context.now) c.args.lifters) begun input (g.W.Sink.contents c.args.writer.now))
 
 pub returns-clause-output : goal.returns-clause-output
 returns-clause-output g c =
@@ -20,6 +20,6 @@ returns-clause-output g c =
     let left = g.R.Source.remaining c.answer_script_as-result.new.reader in
     let before = g.W.Sink.contents c.args.writer.now in
     let after = g.W.Sink.contents c.answer_script_as-result.new.writer in
-    outcome_as c.args.manner (answering_called (called_in (arc_value c.args.game) (arc_value c.args.diagram) c.args.callings.now) c.args.lifters) (IsOpenRefusal (arc_value c.args.game) (arc_value c.args.diagram)) begun input left before after
+    outcome_as c.args.manner (answering_called (called_in (arc_value c.args.game) (arc_value c.args.diagram) c.args.context.now) c.args.lifters) (IsOpenRefusal (arc_value c.args.game) (arc_value c.args.diagram)) begun input left before after
     c.answer_script_as-result.result
-    (subst (λ (e : EngineState). MannerOutcome c.args.manner (answering_called (record { scene = scene_at e; callings = c.args.callings.now }) c.args.lifters) (between_of e) input left before after c.answer_script_as-result.result) c.in-Ok.ensures.opened c.answer_script_as-result.ensures.output)
+    (subst (λ (e : EngineState). MannerOutcome c.args.manner (answering_called (called_at (scene_at e) c.args.context.now) c.args.lifters) (between_of e) input left before after c.answer_script_as-result.result) c.in-Ok.ensures.opened c.answer_script_as-result.ensures.output)

@@ -1,11 +1,11 @@
 use Rattle.std.proofs.Common.{ap₂}
-use Rattle.vpg_trace.specs.Answering.{behaviour_of, head_line}
+use Rattle.vpg_trace.specs.Answering.{head_line}
 use Rattle.vpg_trace.proofs.Told.{on_ok, walk_told}
 use Rattle.vpg_trace.proofs.answering.put_won.Goals as goal
 
 pub returns : goal.returns
 returns c =
     on_ok c.put_walk.result _ _
-    (walk_told c.args.order.now (behaviour_of c.args.system.now.actions c.args.source.now.states.items c.args.source.now.sets.items c.args.source.now.parts.items c.args.pairs.now.keys) c.args.vertex c.args.out.now.items
+    (walk_told c.args.order.now c.args.behaviour.now c.args.vertex c.args.out.now.items
     c.put_walk.new.out.items c.args.mover c.args.moves.now c.deref.result.now.known (head_line c.other_table.result c.identifier.result) c.put_head.new.out.items (rw c.deref.ensures c.games.ensures.known)
     (ap₂ head_line c.other_table.ensures c.identifier.ensures) c.in_ok-put_head.ensures) c.put_walk.ensures

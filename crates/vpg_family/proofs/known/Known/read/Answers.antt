@@ -1,8 +1,10 @@
 use Rattle.std.proofs.Common.{◌∙◌, ap}
 use Rattle.vpg_formula.specs.EntryCode.{earlier_of}
-use Rattle.vpg_game.specs.Game.{vertex_ids}
+use Rattle.vpg_diagram.specs.DiagramText.{NamedDiagram}
+use Rattle.vpg_game.specs.Game.{NamedGame, vertex_ids}
 use Rattle.vpg_names.specs.Spelled.{Told}
 use Rattle.vpg_family.specs.Called.{callings_of}
+use Rattle.vpg_family.proofs.Models.{spelled_there}
 use Rattle.vpg_family.proofs.known.Known.read.Goals as goal
 
 pub returns-in-Ok-callings_of-clause-called : goal.returns-in-Ok-callings_of-clause-called
@@ -12,3 +14,7 @@ returns-in-Ok-callings_of-clause-called c = record {
   callings_are = c.in-Ok-callings_of.ensures
       ∙ (λ i. callings_of c.in-Ok-read.names.names (vertex_ids (c.deref-4.ensures i).vertices) (earlier_of (c.deref-5.ensures.value i)) (c.deref-6.ensures.value i));
 }
+
+pub returns-in-Ok-callings_of-clause-only : goal.returns-in-Ok-callings_of-clause-only
+returns-in-Ok-callings_of-clause-only c = λ (d : NamedDiagram) (g : NamedGame) h.
+    c.in-Ok.ensures.only d g (spelled_there c.args.texts.now.diagram.items c.args.texts.now.game.items c.deref.result.now c.deref-2.result.now d g c.deref.ensures.value c.deref-2.ensures.value h)

@@ -1,0 +1,48 @@
+-- Two traces are one text.
+use Rattle.std.proofs.Common.{◌≡◌, ℕ, Option, Some, None, List, sym, ap, ap₂, ◌∙◌, inl, inr}
+use Rattle.std.specs.Prelude.{slice_index}
+use Rattle.vpg_guards.specs.declared.tri.Tri.{Tri}
+use Rattle.vpg_checking.specs.Behaviours.{Behaviour}
+use Rattle.vpg_trace.specs.Answering.{Page, TellsWon, TellsTrace, walk_text}
+use Rattle.vpg_verdict.specs.declared.which.Which.{Which}
+use Rattle.vpg_verdict.specs.declared.which.Which.TheVariants.{Hopeful, Dual}
+use Rattle.vpg_partial.specs.declared.decision.Decision.{Decision}
+use Rattle.vpg_texts.specs.Scene.{Scene}
+use Rattle.vpg_texts.proofs.Planned.{known_is_one}
+use Rattle.vpg_why.specs.Explained.{choices}
+use Rattle.vpg_why.specs.declared.question.Limits.{Limits}
+use Rattle.vpg_answers.specs.Answers.{HasDoubt, TellsTraced, page_in}
+use Rattle.vpg_answers.proofs.OneMoves.{moves_one}
+
+module _ (scene : Scene) (limits others : Limits) (vertex : ℕ) (decisions : List Decision) (hopeful dual : List ℕ) where
+  abbrev page : Page
+  page = page_in scene decisions hopeful dual
+
+  module _ (behaviour : Behaviour) where
+    won_one : (mover : Which) (one other : List ℕ) → TellsWon page behaviour limits mover vertex one → TellsWon page behaviour others mover vertex other →
+        ¬ (HasDoubt one) → ¬ (HasDoubt other) → one ≡ other
+    won_one mover one other (inl a) (inl b) sure also =
+        a.text_is
+        ∙ ap₂ (λ (known : List Tri) (moves : List (Option ℕ)). walk_text page known behaviour mover vertex moves)
+        (known_is_one scene.lines (choices decisions) a.known b.known a.is_known b.is_known)
+        (moves_one scene limits others mover vertex decisions a.moves b.moves a.win b.win)
+        ∙ sym b.text_is
+    won_one mover one other (inl a) (inr b) sure also = absurd (also (inr (inr (inl b.1))))
+    won_one mover one other (inr a) b sure also = absurd (sure (inr (inr (inl a.1))))
+
+    trace_one : (one other : List ℕ) → TellsTrace page behaviour limits vertex one → TellsTrace page behaviour others vertex other →
+        ¬ (HasDoubt one) → ¬ (HasDoubt other) → one ≡ other
+    trace_one one other (inl a) (inl b) sure also = won_one Dual one other a.1 b.1 sure also
+    trace_one one other (inl a) (inr (inl b)) sure also = absurd (b.0 a.0)
+    trace_one one other (inl a) (inr (inr b)) sure also = absurd (b.0 a.0)
+    trace_one one other (inr (inl a)) (inl b) sure also = absurd (a.0 b.0)
+    trace_one one other (inr (inl a)) (inr (inl b)) sure also = won_one Hopeful one other a.2 b.2 sure also
+    trace_one one other (inr (inl a)) (inr (inr b)) sure also = absurd (b.1 a.1)
+    trace_one one other (inr (inr a)) (inl b) sure also = absurd (a.0 b.0)
+    trace_one one other (inr (inr a)) (inr (inl b)) sure also = absurd (a.1 b.1)
+    trace_one one other (inr (inr a)) (inr (inr b)) sure also = a.2 ∙ sym b.2
+
+  pub traced_one : (behaviour : Option Behaviour) (one other : List ℕ) → TellsTraced behaviour scene limits vertex decisions hopeful dual one → TellsTraced behaviour scene others vertex decisions hopeful dual other →
+      ¬ (HasDoubt one) → ¬ (HasDoubt other) → one ≡ other
+  traced_one None one other a b sure also = absurd a
+  traced_one (Some behaviour) one other a b sure also = trace_one behaviour one other a b sure also

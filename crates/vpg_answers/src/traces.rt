@@ -1,0 +1,34 @@
+//! Traces of how a verdict comes about, as steps of the system.
+ghost use Rattle.std.specs.Prelude.{◌<◌, OnOk, length};
+ghost use Rattle.vpg_answers.specs.Answers.{Appends, IsOver, TellsTraced};
+ghost use Rattle.vpg_diagram.specs.FeatureDiagram.{feature_count};
+ghost use Rattle.vpg_texts.specs.Scene.{scene_of};
+
+use std::alloc::{AllocError, Global};
+use vpg_checking::Behaviour;
+use vpg_measure::Order;
+use vpg_trace::put_answer;
+use vpg_why::Limits;
+
+/// How the page's verdict at the vertex comes about, as steps of the system that the game was made of.
+pub(crate) fn trace(
+    alloc: Global,
+    order: &Order,
+    behaviour: &Option<Behaviour>,
+    vertex: u32,
+    limits: Limits,
+    out: &mut Vec<u8>,
+) -> Result<(), AllocError>
+    requires vertex { vertex < length order.now.game.vertices }
+    requires system { IsOver (feature_count order.now.diagram.lines) behaviour.now }
+    ensures { OnOk result (Appends
+        (TellsTraced behaviour.now (scene_of order.now.game order.now.diagram) limits vertex order.now.decisions
+        order.now.hopeful order.now.dual) out.old.items out.new.items) }
+{
+    // What every order keeps, for the proof.
+    let _order = order.game();
+    match behaviour {
+        Some(behaviour) => put_answer(alloc, order, behaviour, vertex, limits, out),
+        None => unreachable!(),
+    }
+}

@@ -1,0 +1,41 @@
+-- Where a formula stops. This project's own.
+use Rattle.std.specs.Prelude.{◌≡◌, ℕ, ◌+◌, List, [], ◌∷◌, ◌++◌, length, Bool, true, false, codes, bytes_eq}
+use Rattle.vpg_formula.specs.Written.{Phrase}
+use Rattle.vpg_formula.specs.FormulaGrammar.{IsFormula}
+
+-- these words, and some behind them, are a formula with so many open parts at most
+pub record CanGoOn (d : ℕ) (ws : List (List ℕ)) : Type 0 where
+  pub more : List (List ℕ)
+  pub phrase : Phrase
+  pub formula : IsFormula d (ws ++ more) phrase
+
+-- whether a formula ends in front of these words: an entry's in front of `;`, one alone at the text's end
+abbrev pub ends_formula : Bool → List (List ℕ) → Bool
+ends_formula true [] = false
+ends_formula true (w ∷ ws) = bytes_eq w (codes ";")
+ends_formula false [] = true
+ends_formula false (w ∷ ws) = false
+
+-- Behind so many words, which can go on to a formula, stands one with which none goes on, however many parts may be
+-- open, or nothing; and if a formula ends there, those words are none.
+pub record IsStuckAt (in_entry : Bool) (ws : List (List ℕ)) (k : ℕ) : Type 0 where
+  pub front : List (List ℕ)
+  pub rest : List (List ℕ)
+  pub parts : ws ≡ front ++ rest
+  pub count : k ≡ length front
+  pub goes_on : CanGoOn 64 front
+  pub stuck : (w : List ℕ) (behind : List (List ℕ)) → rest ≡ w ∷ behind → (more : ℕ) →
+      CanGoOn (64 + more) (front ++ w ∷ []) → ⊥
+  pub unfinished : ends_formula in_entry rest ≡ true → (p : Phrase) → IsFormula 64 front p → ⊥
+
+-- Behind so many words, which can go on to a formula with 64 open parts, stands one with which only formulas go on that
+-- have more, and one with 65.
+pub record IsTooDeepIn (ws : List (List ℕ)) (k : ℕ) : Type 0 where
+  pub front : List (List ℕ)
+  pub word : List ℕ
+  pub behind : List (List ℕ)
+  pub parts : ws ≡ front ++ word ∷ behind
+  pub count : k ≡ length front
+  pub goes_on : CanGoOn 64 front
+  pub stuck : CanGoOn 64 (front ++ word ∷ []) → ⊥
+  pub deeper : CanGoOn 65 (front ++ word ∷ [])

@@ -1,0 +1,4 @@
+pub mod Numbers
+pub mod States
+pub mod Guards
+pub mod Actions
