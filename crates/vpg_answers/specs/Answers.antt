@@ -1,4 +1,4 @@
--- What answers say of a page. This project's own.
+-- The meaning of answers about a page. This project's own.
 use Rattle.std.specs.Prelude.{◌≡◌, ◌≢◌, ℕ, ◌<◌, ⊤, ◌⊎◌, Bool, true, false, Option, Some, None, List, [], ◌++◌, codes, length, slice_index, IsTrue}
 use Rattle.vpg_guards.specs.declared.tri.Tri.{Tri}
 use Rattle.vpg_diagram.specs.FeatureDiagram.{IsDiagram}
@@ -210,7 +210,7 @@ TellsMoves scene limits mover vertex decisions table text =
 
 -- ---- traces
 
--- what a trace is of: the scene, and a page with these decisions and tables
+-- the page of a trace: the scene, with these decisions and tables
 abbrev pub page_in : Scene → List Decision → (hopeful dual : List ℕ) → Page
 page_in scene decisions hopeful dual = record {
   game = scene.game;
@@ -222,7 +222,7 @@ page_in scene decisions hopeful dual = record {
   dual = dual;
 }
 
--- How the verdict comes about, as steps of the system that the game was made of. Without one nothing is told.
+-- The trace of the verdict, as steps of the system that the game was made of. Without one there is no answer.
 abbrev pub TellsTraced : Option Behaviour → Scene → Limits → (vertex : ℕ) → List Decision →
     (hopeful dual text : List ℕ) → Type 0
 TellsTraced None scene limits vertex decisions hopeful dual text = ⊥
@@ -231,7 +231,7 @@ TellsTraced (Some behaviour) scene limits vertex decisions hopeful dual text =
 
 -- ---- any
 
--- what is asked of a vertex
+-- the answer to a question about a vertex
 abbrev pub TellsOfVertex : Option Behaviour → Scene → Limits → VertexQuestion → (vertex : ℕ) → List Decision →
     (hopeful dual text : List ℕ) → Type 0
 TellsOfVertex behaviour scene limits questions.Why vertex decisions hopeful dual text =
@@ -269,7 +269,7 @@ Tells behaviour scene limits (queries.OfChoice feature value) decisions hopeful 
 Tells behaviour scene limits (queries.OfPage question) decisions hopeful dual text =
     TellsOfPage scene limits question decisions text
 
--- The text answers what is asked within these limits, of the page with these decisions and tables: decisions of a
+-- The text answers the query within these limits, for the page with these decisions and tables: decisions on a
 -- diagram's features. Traces are of the system that the game was made of.
 pub record IsAnswer (behaviour : Option Behaviour) (scene : Scene) (limits : Limits) (query : Query)
     (decisions : List Decision) (hopeful dual text : List ℕ) : Type 0 where
@@ -281,7 +281,7 @@ pub record IsAnswer (behaviour : Option Behaviour) (scene : Scene) (limits : Lim
 abbrev pub Appends : (List ℕ → Type 0) → (before after : List ℕ) → Type 0
 Appends Holds before after = (text : List ℕ) × (Holds text × (after ≡ before ++ text))
 
--- the game was made of a system over so many features
+-- the game was made of a system over this many features
 abbrev pub IsOver : ℕ → Option Behaviour → Type 0
 IsOver features None = ⊥
 IsOver features (Some behaviour) = behaviour.features ≡ features
@@ -291,7 +291,7 @@ abbrev pub HasItsSystem : ℕ → Option Behaviour → VertexQuestion → Type 0
 HasItsSystem features behaviour questions.Trace = IsOver features behaviour
 HasItsSystem features behaviour _ = ⊤
 
--- the vertex or the feature that is asked of is one of so many, and a trace is of a system
+-- the vertex or the feature of the query is below these counts, and a trace is of a system
 abbrev pub IsWithin : Option Behaviour → (vertices features : ℕ) → Query → Type 0
 IsWithin behaviour vertices features (queries.OfVertex question vertex) =
     (vertex < vertices) × HasItsSystem features behaviour question

@@ -1,4 +1,4 @@
--- What holds of answers, as a statement.
+-- The law of answers, as a statement.
 use Rattle.std.specs.Prelude.{◌≡◌, ℕ, Option, List}
 use Rattle.vpg_checking.specs.Behaviours.{Behaviour}
 use Rattle.vpg_partial.specs.declared.decision.Decision.{Decision}

@@ -97,7 +97,7 @@ fn told(
 /// then.
 ///
 /// A trace needs the system that the order's game was made of, over the features of its diagram; no other query does.
-/// The order is taken, since to let it go costs the prover time: it is done here alone.
+/// The function takes the order, since dropping it costs the prover time: it is dropped only here.
 pub fn answer(
     alloc: Global,
     order: Order,

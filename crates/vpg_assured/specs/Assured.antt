@@ -1,5 +1,5 @@
--- What a run says of requirements, where its game is that of the texts of a system and of requirements. This project's
--- own.
+-- The meaning of a run's answers for requirements, if its game is that of the texts of a system and of requirements.
+-- This project's own.
 use Rattle.std.specs.Prelude.{◌≡◌, ◌⊎◌, ℕ, ◌<◌, Bool, Option, List, length, slice_index, IsTrue}
 use Rattle.vpg_verdict.specs.declared.verdict.Verdict.{Verdict}
 use Rattle.vpg_diagram.specs.DiagramText.{NamedDiagram}
@@ -38,7 +38,7 @@ SpeaksOfEntries scene system entries roots page command text =
     ((verdicts : List Verdict) × AreTrue scene page verdicts ×
     AreTrueOfEntries scene system entries roots page verdicts × SaysVerdicts scene command verdicts text)
 
--- Each request is answered as by a run, and by what is so of the entries on the page at that point.
+-- Each request is answered as by a run, with verdicts that are true of the entries on the page at that point.
 abbrev pub speaking : Option Behaviour → Scene → ℕ → NamedSystem → List written.Entry → List ℕ → Machine Between
 speaking behaviour scene lifters system entries roots old request text new =
     answering behaviour scene lifters old request text new ×

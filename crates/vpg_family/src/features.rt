@@ -117,7 +117,7 @@ fn warn_of_unnamed(
     Ok(())
 }
 
-/// Warns of a diagram, and of how guards use it.
+/// Warns of a diagram, and of its use by guards.
 fn warn_of_diagram(
     alloc: Global,
     text: &[u8],
@@ -133,7 +133,7 @@ fn warn_of_diagram(
     warn_of_unnamed(named, &parents, &declared, warnings)
 }
 
-/// For each feature whether a guard of a game names it.
+/// Returns for each feature whether a guard of a game names it.
 pub(crate) fn named_in_game(alloc: Global, game: &GuardedGame) -> Result<Vec<bool>, AllocError> {
     let mut named = Vec::new(alloc);
     for f in 0..512u16 {
@@ -154,7 +154,7 @@ fn note_named(alloc: Global, guard: &Guard, named: &mut [bool]) -> Result<(), Al
     Ok(())
 }
 
-/// For each feature whether a guard of a system names it.
+/// Returns for each feature whether a guard of a system names it.
 pub(crate) fn named_in_system(alloc: Global, system: &System) -> Result<Vec<bool>, AllocError> {
     let mut named = vec![in alloc; false; system.features()]?;
     for transition in system.transitions() {
@@ -163,9 +163,9 @@ pub(crate) fn named_in_system(alloc: Global, system: &System) -> Result<Vec<bool
     Ok(named)
 }
 
-/// What looks wrong in a diagram that was read from a text, and in how guards use it, that name these features: that
-/// the diagram has no product, or that propagation alone finds none; features that are in no product, as far as
-/// propagation shows it; and features without children that no guard names.
+/// Returns the warnings of a diagram that was read from a text, and of its use by guards, which name these features.
+/// Reasons are: the diagram has no product, or propagation alone finds none; features in no product, as far as
+/// propagation shows it; features without children that no guard names.
 pub fn warnings_of_diagram(
     alloc: Global,
     text: &[u8],

@@ -74,9 +74,9 @@ pub struct Texts {
     pub vertices: Vec<usize>,
     /// The text of the system. It is empty if the game has a file.
     pub system: Vec<u8>,
-    /// The text of the requirements. It is empty where the game has a file.
+    /// The text of the requirements. It is empty if the game has a file.
     pub requirements: Vec<u8>,
-    /// What the game was made of. It is nothing where the game has a file.
+    /// The system that the game was made of. It is nothing if the game has a file.
     pub behaviour: Option<Behaviour>,
 }
 

@@ -136,8 +136,8 @@ fn callings_of(
     Ok(callings)
 }
 
-/// What lines of a script may speak of beside the family: the names by which they call its vertices, and what its game
-/// was made of, if it was made of a system and requirements.
+/// The context of a script's lines beside the family: the names that they may give its vertices, and the system that
+/// its game was made of, if there is one.
 #[derive(Drop)]
 pub struct Context {
     pub callings: Callings,
@@ -145,7 +145,7 @@ pub struct Context {
 }
 
 impl Context {
-    /// No names, and no system.
+    /// Returns a context without names, and without a system.
     pub fn none(alloc: Global) -> Context
         ensures callings { result.callings ≡ [] }
         ensures behaviour { result.behaviour ≡ None }
@@ -157,7 +157,7 @@ impl Context {
     }
 }
 
-/// A family, the names that its game's text gives vertices, and what lines may speak of beside it.
+/// A family, the names that its game's text gives vertices, and the context of lines.
 pub struct Known {
     pub family: Family,
     pub names: VertexNames,
@@ -185,7 +185,7 @@ impl Known {
             (earlier_of texts.now.entries.items) texts.now.vertices.items known.context.callings) }
         ensures features { IfOk result (λ known.
             (arc_value known.family.game).features ≡ feature_count (arc_value known.family.diagram).lines) }
-        // What is spelled so is read.
+        // All that the texts spell is read.
         ensures only { IfOk result (λ known. (diagram : NamedDiagram) (game : NamedGame) →
             SpellsFamily texts.now.diagram.items texts.now.game.items diagram game →
             (arc_value known.family.diagram ≡ diagram) × (arc_value known.family.game ≡ game)) }
@@ -222,7 +222,7 @@ pub fn read_known<R: Files + AllocGlobal>(
     // Each requirement's name stands for its vertex, if a system and requirements stand in place of the game.
     ensures called { IfOk result (λ known. IsCalledFamily paths.entry.game (arc_value known.family.diagram)
         (arc_value known.family.game) known.context.callings) }
-    // What its game was made of is kept then, and is nothing else.
+    // The system that its game was made of is kept, and nothing else.
     ensures made { IfOk result (λ known. IsFamilyMadeOf paths.entry.game (arc_value known.family.diagram)
         (arc_value known.family.game) known.context.behaviour) }
     ensures features { IfOk result (λ known.

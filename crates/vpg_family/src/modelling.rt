@@ -45,7 +45,7 @@ fn told_of(alloc: Global, requirements: &[u8], fault: CheckingFault) -> Fault
     }
 }
 
-/// The text of the game of a system and its requirements, these, the vertex of each, and what the game was made of.
+/// The text of the game of a system and its requirements, these, the vertex of each, and the system.
 #[derive(Drop)]
 pub(crate) struct Modelled {
     pub(crate) game: Vec<u8>,

@@ -18,7 +18,7 @@ use vpg_partial::{Decision, Partial};
 use vpg_system::{System, SystemFault};
 use vpg_system_draw::{draw_system, reachable};
 
-/// The system over the features of a diagram that a text spells.
+/// Returns the system over the features of a diagram that a text spells.
 pub(crate) fn read_system(alloc: Global, text: &[u8], diagram: &Diagram) -> Result<System, Fault>
     ensures found { IfOk result (IsTextOf diagram.now.names text.now) }
     ensures features { IfOk result (λ system. system.features ≡ feature_count diagram.now.lines) }

@@ -37,7 +37,7 @@ pub struct Warning {
     pub sort: Sort,
     /// The offset of its place in the text.
     pub at: usize,
-    /// The feature, the vertex, the state or the action that it is of, or the length of a word; 0 where it is of none.
+    /// The feature, the vertex, the state or the action of the warning, or the length of a word; 0 if it has none.
     pub index: u32,
 }
 

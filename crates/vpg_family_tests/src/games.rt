@@ -6,7 +6,7 @@ use vpg_model::{Built, Source, build};
 use vpg_parts::{FALSE_PLACE, Kind, Part, Permitted, TRUE_PLACE};
 use vpg_system::System;
 
-/// The vertices, a line each: owner, priority and edges.
+/// Returns the vertices, a line each: owner, priority and edges.
 fn text(alloc: Global, built: &Built) -> Result<String, Fail> {
     let mut lines = String::new(alloc);
     for v in 0..built.game.vertices() as u32 {
@@ -27,7 +27,7 @@ fn text(alloc: Global, built: &Built) -> Result<String, Fail> {
     Ok(lines)
 }
 
-/// The system of this text, over the features `f` and `g`.
+/// Returns the system of this text, over the features `f` and `g`.
 fn system_of(alloc: Global, text: &[u8]) -> Result<System, AllocError> {
     let mut names = Names::new(alloc)?;
     let Ok(_) = names.add(alloc, b"f") else {
@@ -42,7 +42,7 @@ fn system_of(alloc: Global, text: &[u8]) -> Result<System, AllocError> {
     }
 }
 
-/// The sets of the first of two actions, and of the second.
+/// Returns the sets of the first of two actions, and of the second.
 fn sets(alloc: Global) -> Result<Vec<Permitted>, AllocError> {
     let mut sets = Vec::new(alloc);
     sets.push(Permitted {

@@ -59,8 +59,8 @@ settled_text settled n = numbered (if settled then codes "settled" else codes "u
 
 -- ---- what commands ask
 
--- What is refused without a call: a name that the diagram lacks, a token or a harvest that isn't held, a vertex that
--- the game lacks, a trace where there is no system.
+-- A reason to refuse a line without a call. The diagram lacks a name, the game lacks a vertex, a token or a harvest
+-- isn't held, or a trace has no system.
 pub data Own : Type 0 where
   NoFeature : Own
   NoToken : Own
@@ -68,7 +68,7 @@ pub data Own : Type 0 where
   NoVertex : Own
   NoSystem : Own
 
--- the word for such a reason
+-- the word for a reason to refuse a line without a call
 abbrev pub own_text : Own → List ℕ
 own_text NoFeature = codes "UnknownFeature"
 own_text NoToken = codes "NoToken"

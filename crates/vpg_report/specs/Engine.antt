@@ -61,7 +61,7 @@ abbrev pub deciding : Bool → List ℕ → script.Command
 deciding true name = script.Select name
 deciding false name = script.Exclude name
 
--- what an inquiry names that game or diagram lack, or that there is no system
+-- the reason for a name that game or diagram lack, or that there is no system
 abbrev pub own_of : Missing → Own
 own_of Vertex = NoVertex
 own_of Feature = NoFeature

@@ -3,7 +3,7 @@ use Rattle.std.specs.Prelude.{Result, Ok, Err, ⊤}
 use Rattle.vpg_serving.specs.declared.fault.RunFault.{RunFault}
 use Rattle.vpg_serving.specs.declared.fault.RunFault.TheVariants as stops
 
--- This holds of each run that opened an office. A result of Open doesn't show that it did, and Memory may have come
+-- This holds of each run that opened an office: of each except one that ends in Open, or in Memory, which may have come
 -- before.
 abbrev pub Opens : {A : Type 0} → Result A RunFault → Type 0 → Type 0
 Opens (Err (stops.Open fault)) P = ⊤

@@ -1,4 +1,4 @@
--- What a run of a script does to the book of an office's desk, what the engine holds, and what it writes.
+-- How a run of a script changes the book of an office's desk and what the engine holds, and what it writes.
 use Rattle.std.specs.Prelude.{◌≡◌, ℕ, ◌+◌, Option, List, [], ◌++◌, length}
 use Rattle.vpg_desk.specs.History.{Event, IsLegalFrom, book_after}
 use Rattle.vpg_desk.specs.Desk.{family_of}
@@ -17,8 +17,8 @@ use Rattle.vpg_script.specs.Script.{Request}
 use Rattle.vpg_texts.specs.Scene.{Scene, scene_of}
 use Rattle.vpg_report.specs.Requests.{Serves}
 
--- Where the game was made of this, a request makes calls, each with the reply that the book gives at that point, is
--- answered with this text, and leaves the book after them.
+-- If the game was made of this, a request makes calls, each with the reply that the book gives at that point. It is
+-- answered with this text, and leaves the book after the calls.
 abbrev pub calling : Option Behaviour → Scene → Machine Between
 calling behaviour scene old request text new =
     (calls : List Event) ×
@@ -26,7 +26,8 @@ calling behaviour scene old request text new =
     IsLegalFrom (family_of (setting_in scene)) old.book calls
     × (new.book ≡ book_after (family_of (setting_in scene)) old.book calls) × (new.calls ≡ old.calls + length calls))
 
--- The same, and what is committed or kept was made by at most the line's number of sweeps, each by this many lifters.
+-- As `calling`, and what is committed or kept was made by at most the line's number of sweeps, each by this many
+-- lifters.
 abbrev pub answering : Option Behaviour → Scene → ℕ → Machine Between
 answering behaviour scene lifters old request text new =
     (so : calling behaviour scene old request text new) ×
@@ -38,7 +39,7 @@ answering behaviour scene lifters old request text new =
 abbrev pub as_meant : {S : Type 0} → (Request → Request) → Machine S → Machine S
 as_meant meaning serves old request text new = serves old (meaning request) text new
 
--- a scene, the names by which lines call its vertices, and what its game was made of
+-- a scene, the names that lines may give its vertices, and the system that its game was made of
 pub record Called : Type 0 where
   pub scene : Scene
   pub callings : List Calling

@@ -1,4 +1,4 @@
--- What a server answers, also where the page is asked about, by places; and how an office isn't opened.
+-- The answers of a server, also to questions about the page, by places; and why an office isn't opened.
 use Rattle.std.specs.Prelude.{◌≡◌, ℕ, ◌+◌, Option, List, Result, Ok, Err}
 use Rattle.vpg_diagram.specs.DiagramText.{NamedDiagram}
 use Rattle.vpg_game.specs.Game.{NamedGame}

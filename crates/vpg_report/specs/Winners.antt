@@ -1,4 +1,4 @@
--- Who wins, by what a run writes. This project's own.
+-- The winners, by the text that a run writes. This project's own.
 use Rattle.std.specs.Prelude.{◌≡◌, ◌⊎◌, ℕ, ◌<◌, Bool, Option, List, ◌++◌, length, map, Some, flat_map, slice_index, decimal, ⊤}
 use Rattle.std.specs.List.{range_with_len}
 use Rattle.vpg_diagram.specs.DiagramText.{NamedDiagram}

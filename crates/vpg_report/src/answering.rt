@@ -76,8 +76,8 @@ fn answer<L: Terms, T: Threads + Wait + Sync>(
     }
 }
 
-/// An engine that is asked about the page too, and what lines may speak of beside the family. It can't be let go, as
-/// the engine.
+/// An engine that also answers questions about the page, with the context of lines. It can't be dropped, as the engine
+/// can't.
 pub(crate) struct Answering<'c, L: Terms> {
     pub(crate) engine: Engine<L>,
     pub(crate) context: &'c Context,

@@ -56,8 +56,8 @@ fn answered<T: Threads + Wait + Sync>(
     }
 }
 
-/// The picture of a family, of which these are the texts, on the page that a script leaves, and how the script ends.
-/// Its lines speak of what the context has too.
+/// Returns the picture of the family of these texts on the page that a script leaves, and the script's end. Its lines
+/// are read in this context.
 #[tactic(auto, using(crate::proofs::Draws::drawn))]
 pub fn drawn_after<T: Threads + Wait + Sync>(
     rt: &T,
@@ -87,8 +87,8 @@ pub fn drawn_after<T: Threads + Wait + Sync>(
     }
 }
 
-/// The picture of the system of a family, of which these are the texts, on the page that a script leaves, and how the
-/// script ends. Its lines speak of what the context has too.
+/// Returns the picture of the system of the family of these texts on the page that a script leaves, and the script's
+/// end. Its lines are read in this context.
 #[tactic(auto, using(crate::proofs::Draws::system_drawn))]
 pub fn system_drawn_after<T: Threads + Wait + Sync>(
     rt: &T,

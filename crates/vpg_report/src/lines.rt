@@ -13,7 +13,7 @@ use vpg_guards::Names;
 use vpg_serving::ServeFault;
 use vpg_texts::{blank_name, blank_number};
 
-/// What a line names that the game, or the diagram, lacks; or that there is no system, where it needs one.
+/// A kind of name in a line that the game, or the diagram, lacks; or the system that a line needs and doesn't have.
 #[derive(Clone, Copy, Debug, Error)]
 pub enum Missing {
     #[error("NoVertex")]

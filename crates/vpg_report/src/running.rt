@@ -26,8 +26,8 @@ fn not_opened(alloc: Global, diagram: &Diagram, fault: OpenFault) -> Fault
     }
 }
 
-/// Carries a script out at an office of the family, in a manner. Its lines speak of what the context has too: they call
-/// vertices by its names, and ask for traces of what the game was made of.
+/// Carries a script out at an office of the family, in a manner. Its lines are read in this context: they may give
+/// vertices its names, and ask for traces of its system.
 pub fn run_script<T: Threads + Wait + Sync, R: Source, W: Sink>(
     rt: &T,
     alloc: Global,
@@ -42,8 +42,8 @@ pub fn run_script<T: Threads + Wait + Sync, R: Source, W: Sink>(
     requires lifters { (1 ≤ lifters) × (lifters ≤ 64) }
     requires features { (arc_value family.game).features ≡ feature_count (arc_value family.diagram).lines }
 
-    // What is written are the answers to the script's lines by an office on the family, by what the names of vertices in
-    // them stand for, and the result tells how they end.
+    // An office on the family writes the answers to the script's lines, with the vertices that their names mean, and
+    // the result is their end.
     ensures output { IsRun manner (arc_value family.diagram) (arc_value family.game) context.now lifters
         (R.remaining reader.old) (R.remaining reader.new) (W.contents writer.old) (W.contents writer.new) result }
 

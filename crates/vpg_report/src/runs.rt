@@ -91,7 +91,7 @@ pub fn run_as<T: Threads + Wait + Sync, R: Source, W: Sink>(
     requires lifters { (1 ≤ lifters) × (lifters ≤ 64) }
     requires features { (arc_value game).features ≡ feature_count (arc_value diagram).lines }
 
-    // What is written are the answers to the lines read, as `run` has them, and the result tells how they end.
+    // The answers to the lines read are written, as `run` writes them, and the result is their end.
     ensures output { OutcomeAs manner (answering None (scene_of (arc_value game) (arc_value diagram)) lifters)
         (IsOpenRefusal (arc_value game) (arc_value diagram)) begun (R.remaining reader.old) (R.remaining reader.new)
         (W.contents writer.old) (W.contents writer.new) result }
@@ -113,10 +113,10 @@ pub fn run_as<T: Threads + Wait + Sync, R: Source, W: Sink>(
     )
 }
 
-/// The same where lines call vertices by names, and where the game was made of a system. A line is answered as the one
-/// in which the identifier of each vertex stands in place of its name; a vertex whose name stands for none is refused
-/// `NoVertex`. A trace is of the system that the game was made of; without one over the diagram's features it is
-/// refused `NoSystem`.
+/// Runs a script as `run_as` does, in a context: lines may name vertices, and the game may be made of a system. A line
+/// is answered as if the identifier of each vertex stood in place of its name; a vertex with a name that none has is
+/// refused `NoVertex`. A trace is of the system that the game was made of; without one over the diagram's features it
+/// is refused `NoSystem`.
 pub fn run_called<T: Threads + Wait + Sync, R: Source, W: Sink>(
     rt: &T,
     alloc: Global,
@@ -132,8 +132,8 @@ pub fn run_called<T: Threads + Wait + Sync, R: Source, W: Sink>(
     requires lifters { (1 ≤ lifters) × (lifters ≤ 64) }
     requires features { (arc_value game).features ≡ feature_count (arc_value diagram).lines }
 
-    // What is written are the answers to the lines read, by what their names stand for and what the game was made of,
-    // and the result tells how they end.
+    // The answers to the lines read are written, with the vertices that their names mean and the system that the game
+    // was made of, and the result is their end.
     ensures output { OutcomeAs manner
         (answering_called (called_in (arc_value game) (arc_value diagram) context.now) lifters)
         (IsOpenRefusal (arc_value game) (arc_value diagram)) begun (R.remaining reader.old) (R.remaining reader.new)

@@ -81,7 +81,7 @@ pub enum VertexQuestion {
     Moves(Which),
     /// A picture of the vertices that can be reached from it.
     Draw,
-    /// How its verdict comes about, as steps of the system.
+    /// The trace of its verdict, as steps of the system.
     Trace,
 }
 

@@ -30,7 +30,7 @@ pub record Step (transitions : List Transition) (s w : ℕ) : Type 0 where
   pub comes : transition.source ≡ s
   pub leads : transition.target ≡ w
 
--- Marked is each state that transitions lead to from the first one, whatever their guards, and no other.
+-- Exactly those states are marked that transitions lead to from the first one, whatever their guards.
 pub record AreReachedByAny (system : NamedSystem) (reached : List Bool) : Type 0 where
   pub count : length reached ≡ system.states
   pub each : (s : ℕ) → slice_index_or reached s false ≡ true ↔ Leads (Step system.transitions) system.first s

@@ -27,7 +27,7 @@ rows_of known count transitions = fold (with_target known) (replicate count []) 
 abbrev pub with_any_target : List (List ℕ) → Transition → List (List ℕ)
 with_any_target rows t = slice_set rows t.source (slice_index_or rows t.source [] ++ t.target ∷ [])
 
--- for each of so many states where the transitions lead
+-- for each of this many states the targets of its transitions
 abbrev pub all_rows_of : ℕ → List Transition → List (List ℕ)
 all_rows_of count transitions = fold with_any_target (replicate count []) transitions
 

@@ -91,7 +91,7 @@ fn rows_of(alloc: Global, system: &System, known: &[Tri]) -> Result<Vec<Row>, Al
     Ok(rows)
 }
 
-/// For each state where the transitions from it lead.
+/// Returns for each state the targets of its transitions.
 fn all_rows_of(alloc: Global, system: &System) -> Result<Vec<Row>, AllocError>
     ensures { IfOk result (λ rows. rows.items ≡ all_rows_of system.now.states system.now.transitions) }
 {
@@ -103,7 +103,7 @@ fn all_rows_of(alloc: Global, system: &System) -> Result<Vec<Row>, AllocError>
     Ok(rows)
 }
 
-/// Marks a state that is not marked yet, and lets it wait.
+/// Marks a state that is not marked yet, and puts it among those that wait.
 fn note(marks: &mut Vec<bool>, waiting: &mut Vec<u32>, s: u32) -> Result<(), AllocError>
     requires { s < length marks.old.items }
     ensures { OnOk result (AreNoted (λ w. w ≡ s) marks.old.items waiting.old.items marks.new.items
@@ -177,11 +177,11 @@ pub fn reachable(alloc: Global, system: &System, known: &Partial) -> Result<Vec<
     Ok(marks)
 }
 
-/// Tells of each state whether it can be reached from the first one over transitions, whatever their guards are.
+/// Returns for each state whether it can be reached from the first one over transitions, whatever their guards are.
 pub fn reachable_by_any(alloc: Global, system: &System) -> Result<Vec<bool>, AllocError>
     ensures { IfOk result (λ reached. AreReachedByAny system.now reached.items) }
 {
-    // `transitions` tells what every system has.
+    // The contract of `transitions` states the invariant of every system.
     let _transitions = system.transitions();
     let rows = all_rows_of(alloc, system)?;
     let mut reached = vec![in alloc; false; rows.len()]?;

@@ -66,13 +66,13 @@ is_of_fact word = bytes_eq word (codes "lost") || bytes_eq word (codes "won")
 abbrev pub is_of_vertex : List ℕ → Bool
 is_of_vertex word = is_of_lift word || (is_of_verdict word || is_of_fact word)
 
--- Whether a line is a step of `trace V`, by what stands behind its first word, which is a state and no vertex: a dash.
+-- Whether a line is a step of `trace V`, by the text after its first word, which is a state and no vertex: a dash.
 abbrev pub is_step : List ℕ → Bool
 is_step [] = false
 is_step (b ∷ rest) = b == 45
 
--- What stands beside a line. The second and the third word of a line about a move are vertices, the second one of those
--- above, and the first one of a line of `show` or `changed`; none is one of a step.
+-- The names beside a line. The second and the third word of a line about a move are vertices, and the second one of the
+-- lines above. In a line of `show` or `changed` the first word is one; a step has none.
 abbrev pub labels_of : (ids : List ℕ) (names : List (List ℕ)) → List ℕ → List ℕ
 labels_of ids names line =
     if is_of_move (first_word line)

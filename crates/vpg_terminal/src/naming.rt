@@ -198,7 +198,7 @@ fn is_of_vertex(word: &[u8]) -> bool
     is_of_lift(word) || (is_of_verdict(word) || is_of_fact(word))
 }
 
-/// Whether this stands behind the first word of a step.
+/// Whether this text stands after the first word of a step.
 fn is_step(rest: &[u8]) -> bool
     ensures { result ≡ is_step rest.now }
 {
@@ -208,7 +208,7 @@ fn is_step(rest: &[u8]) -> bool
     }
 }
 
-/// Appends what stands beside a line.
+/// Appends the names beside a line.
 fn put_labels(
     game: &GuardedGame,
     names: &VertexNames,

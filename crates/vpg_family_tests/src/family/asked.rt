@@ -144,7 +144,7 @@ fn of_texts(alloc: Global, row: &Row<'_>) -> Result<Vec<u8>, Fault> {
     }
 }
 
-/// What looks wrong in the family of two texts.
+/// Returns the warnings of the family of two texts.
 fn warned(alloc: Global, row: &Row<'_>) -> Result<Vec<u8>, Fault> {
     match texts(alloc, row) {
         Ok(texts) => linted(alloc, PATHS, &texts),
@@ -152,7 +152,7 @@ fn warned(alloc: Global, row: &Row<'_>) -> Result<Vec<u8>, Fault> {
     }
 }
 
-/// What is written for a row.
+/// Returns the text for a row.
 fn answer(alloc: Global, row: &Row<'_>) -> Result<Vec<u8>, Fault> {
     let diagram = row.diagram.as_bytes();
     let game = row.game.as_bytes();

@@ -248,7 +248,7 @@ modelled_requirements: the game of the system and these requirements has more th
     },
 ];
 
-/// Systems and requirements that look wrong, and what is warned of.
+/// Systems and requirements with warnings, and these.
 static WARNED: [Row; 3] = [
     Row {
         diagram: DIAGRAM,
@@ -293,7 +293,7 @@ warnings 3
     },
 ];
 
-/// Writes the line that tells of a fault, and what is said of it.
+/// Writes the line that reports a fault, and the message about it.
 fn put_fault(rt: &HostRuntime, fault: &Fault, said: &mut Said) {
     said.put_made(line_of(said.alloc, fault));
     said.put_made(explained(rt, said.alloc, PATHS, None, fault));
@@ -307,7 +307,7 @@ fn put_files(rt: &HostRuntime, said: &mut Said) {
     }
 }
 
-/// Writes what is warned of the family, or what is told of its files.
+/// Writes the warnings of the family, or the message about its files.
 fn put_warned(rt: &HostRuntime, said: &mut Said) {
     match read_texts(rt, said.alloc, PATHS) {
         Ok(texts) => said.put_answer(linted(said.alloc, PATHS, &texts)),
@@ -339,7 +339,7 @@ fn first_wrong(rt: &HostRuntime, alloc: Global) -> Option<&'static str> {
     None
 }
 
-/// Whether what is warned of is that of the row.
+/// Whether the warnings are those of the row.
 fn is_warned_of(rt: &HostRuntime, alloc: Global, row: &Row) -> bool {
     let mut said = Said::new(alloc);
     if are_written(rt, row) {
@@ -348,7 +348,7 @@ fn is_warned_of(rt: &HostRuntime, alloc: Global, row: &Row) -> bool {
     said.text() == row.told
 }
 
-/// What is to be warned of in the first row that doesn't hold.
+/// Returns the wanted warnings of the first row that doesn't hold.
 fn first_unwarned(rt: &HostRuntime, alloc: Global) -> Option<&'static str> {
     for row in &WARNED {
         if !is_warned_of(rt, alloc, row) {
@@ -358,7 +358,7 @@ fn first_unwarned(rt: &HostRuntime, alloc: Global) -> Option<&'static str> {
     None
 }
 
-/// What is told of files that are not there, one after the other.
+/// The messages about files that are not there, one after the other.
 const GONE: &str = "\
 vpgdesk: requirements unreadable
 modelled_requirements: there is no such file, or it cannot be read
