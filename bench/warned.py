@@ -15,7 +15,7 @@ import tempfile
 
 import oracle
 import requirements
-from formulas import read_requirements, without_blanks, words_of
+from formulas import RequirementsReader, read_requirements, without_blanks
 
 MOST_TRIED = 6
 MOST_TOLD = 10
@@ -46,15 +46,26 @@ def names(leaf, action):
     return leaf[2] == action if leaf[1] else without_blanks(leaf[2]) == without_blanks(action)
 
 
-def places_of(text, labels):
-    """Where words stand that name these, one behind the other: the last possible places, from behind."""
-    places, words = [], [(word, at) for word, at in words_of(text)]
-    for leaf in reversed(labels):
-        written = f'"{leaf[2]}"' if leaf[1] else leaf[2]
-        while words and words[-1][0] != written:
-            words.pop()
-        places.append((words.pop()[1], written))
-    return places[::-1]
+class Placed(RequirementsReader):
+    """Reads requirements, and notes where the words stand that are actions."""
+
+    def __init__(self, text):
+        super().__init__(text)
+        self.places = []
+
+    def regular_operand(self):
+        word, at = self.peek(), self.place()
+        operand = super().regular_operand()
+        if operand[0] == "action" and word not in ("(", "!"):
+            self.places.append(at)
+        return operand
+
+
+def places_of(text):
+    """Where the actions stand, in order."""
+    reader = Placed(text)
+    reader.whole()
+    return reader.places
 
 
 # ---- states and guards
@@ -185,7 +196,7 @@ def requirements_warnings(file, texts):
     labels = [leaf for _, formula in read_requirements(requirements_text) for leaf in leaves((0, formula))
               if leaf[0] == "action"]
     told = []
-    for leaf, (at, written) in zip(labels, places_of(requirements_text, labels)):
+    for leaf, at in zip(labels, places_of(requirements_text)):
         if not any(names(leaf, name) for name in system.actions()):
             told.append((place(requirements_text, at), f"`{shown(leaf[2])}` is the action of no transition"))
     return sort_lines(file, "NoAction", told), len(told)

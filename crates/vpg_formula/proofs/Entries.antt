@@ -11,7 +11,7 @@ use Rattle.vpg_formula.specs.EntryReading.{if_known, body_at, entry_behind, new_
 use Rattle.vpg_formula.specs.declared.uses.Standing.TheVariants.{Unknown}
 use Rattle.vpg_formula.proofs.Series.{bind_some, some, some_is, word_behind, word_next}
 use Rattle.vpg_formula.proofs.Regulars.{if_last_is}
-use Rattle.vpg_formula.proofs.Phrases.{EndsFormula, phrase_found, formula_again, formula_found, formula_reread}
+use Rattle.vpg_formula.proofs.Phrases.{EndsFormula, phrase_found, formula_again}
 use Rattle.std.proofs.lemmas.List.{append-nil}
 
 abbrev Words : Type 0

@@ -1,10 +1,9 @@
 -- The steps of reading whole texts, as the code takes them.
-use Rattle.std.proofs.Common.{◌≡◌, ℕ, zero, suc, ◌+◌, ◌-◌, ◌<◌, ◌≤◌, Bool, true, false, cond, List, [], ◌∷◌, ◌++◌, map, reverse, length, get_or, take, drop, Option, Some, None, Ok, Err, refl, sym, ap, subst, ◌∙◌, arith, append_assoc}
+use Rattle.std.proofs.Common.{◌≡◌, ℕ, zero, suc, ◌+◌, ◌-◌, ◌<◌, ◌≤◌, Bool, true, false, cond, List, [], ◌∷◌, ◌++◌, map, reverse, length, get_or, take, drop, Option, Some, None, Err, refl, sym, ap, ◌∙◌, arith, append_assoc}
 use Rattle.std.specs.Prelude.{codes, bytes_eq, not, ◌&&◌, ◌||◌, is_some, option_map}
 use Rattle.std.proofs.lemmas.List.{append-nil, at_drop_more, at_drop_all, take_more, take_all, reverse-append, length-append}
-use Rattle.vpg_formula.specs.Written.{Phrase, Written, is_variable}
+use Rattle.vpg_formula.specs.Written.{Phrase, is_variable}
 use Rattle.vpg_formula.specs.Marks.{written_marks, phrase_marks}
-use Rattle.vpg_formula.specs.Standings as standings
 use Rattle.vpg_formula.specs.Standings.{is_among, standing_in, standing_under, is_like, has}
 use Rattle.vpg_formula.specs.FormulaGrammar.{a_formula}
 use Rattle.vpg_formula.specs.Words.{words_of}

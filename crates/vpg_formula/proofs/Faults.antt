@@ -1,7 +1,7 @@
 -- Where words are no requirements, and where the text is.
-use Rattle.std.proofs.Common.{◌≡◌, ℕ, zero, suc, ◌+◌, ◌-◌, ◌<◌, ◌≤◌, ◌⊎◌, inl, inr, Bool, true, false, cond, List, [], ◌∷◌, ◌++◌, map, length, get_or, Option, Some, None, refl, sym, ap, subst, ◌∙◌, arith, append_assoc}
-use Rattle.std.specs.Prelude.{codes, nat_lt, not, ◌&&◌, ◌||◌, is_some, Result, Ok, Err, IfOk, IfErr}
-use Rattle.std.proofs.lemmas.Bool.{cases_Bool, lt-ltb, ltb-true}
+use Rattle.std.proofs.Common.{◌≡◌, ℕ, zero, suc, ◌+◌, ◌-◌, ◌<◌, ◌≤◌, Bool, true, false, cond, List, [], ◌∷◌, ◌++◌, length, get_or, Option, Some, None, refl, sym, ap, subst, ◌∙◌, arith, append_assoc}
+use Rattle.std.specs.Prelude.{codes, not, ◌&&◌, ◌||◌, is_some, Result, Ok, Err, IfOk, IfErr}
+use Rattle.std.proofs.lemmas.Bool.{lt-ltb}
 use Rattle.std.proofs.lemmas.List.{append-nil, length-append}
 use Rattle.vpg_formula.specs.Words.{words_of}
 use Rattle.vpg_formula.specs.Written.{Phrase, Written, is_variable}
@@ -12,13 +12,11 @@ use Rattle.vpg_formula.specs.Reading.{◌>>=◌, after_word}
 use Rattle.vpg_formula.specs.EntryReading.{body_at, item_behind}
 use Rattle.vpg_formula.specs.EntryCode.{IsHead, IsItem}
 use Rattle.vpg_formula.specs.Faults.{entry_names, IsTwiceAt, IsTooManyAt, FormulaAt, alone, in_entry, AreKnownTo, IsSyntaxAt, no_name, no_sign, no_formula, IsTooDeepAt, IsUnknownAt, IsNegatedIn, IsNegatedAt, IsPlace, IsAt}
-use Rattle.vpg_formula.specs.Stops.{IsStuckAt, IsTooDeepIn}
 use Rattle.vpg_formula.specs.Naming.{mentions, first_unknown}
-use Rattle.vpg_formula.specs.FaultCode.{ArePlaces, place_left, fault_at, IsLeft, IsStopped, HaltsAt, BodyAt, IsHeadless, nameless, signless, HeadAt, NegatedIn, NegatedAt, first_of, AreReadTo}
+use Rattle.vpg_formula.specs.FaultCode.{ArePlaces, place_left, fault_at, IsLeft, HaltsAt, BodyAt, nameless, signless, HeadAt, NegatedIn, NegatedAt, first_of, AreReadTo}
 use Rattle.vpg_formula.specs.declared.stop.Halt.{Halt}
 use Rattle.vpg_formula.specs.declared.stop.Halt.TheVariants as halts
 use Rattle.vpg_formula.specs.declared.uses.Standing.TheVariants.{Unknown, Negated}
-use Rattle.vpg_formula.specs.Places.{place_of}
 use Rattle.vpg_formula.proofs.Series.{bind_some, some, some_is, word_behind, word_next}
 use Rattle.vpg_formula.proofs.Entries.{body_found}
 

@@ -1,19 +1,17 @@
 -- Reading formulas word by word, with a list of what is still to come, gets on just where the reader does.
-use Rattle.std.proofs.Common.{◌≡◌, ℕ, zero, suc, ◌-◌, ◌<◌, ◌≤◌, ◌⊎◌, inl, inr, Bool, true, false, cond, List, [], ◌∷◌, ◌++◌, length, Option, Some, None, refl, sym, ap, subst, ◌∙◌, arith, append_assoc}
-use Rattle.std.specs.Prelude.{codes, bytes_eq, not, ◌&&◌, ◌||◌, is_some}
-use Rattle.std.proofs.lemmas.List.{length-append}
-use Rattle.vpg_formula.specs.Regular.{Regular, every_action, no_action, action, other_than, both_of, either_of, repeated, repeated_once, is_action, Label, label_of, labelled, word_formula, complement_of, all_of, any_of, sequence_of, choice_of}
+use Rattle.std.proofs.Common.{◌≡◌, ℕ, zero, suc, ◌≤◌, Bool, true, false, cond, List, [], ◌∷◌, ◌++◌, length, Option, Some, None, refl, sym, ap, ◌∙◌, arith, append_assoc}
+use Rattle.std.specs.Prelude.{codes}
+use Rattle.vpg_formula.specs.Regular.{Regular, is_action}
 use Rattle.vpg_formula.specs.Written.{Prefix, again_and_again, after, Fixpoint, Written, deadlock_free, binding, Modality, closing, along, is_variable, Head, leaf, deadlock, of_action, parenthesis, in_front, modality, again, after_action, binder, other, head_of, Phrase, whole, behind, joined, conjunction, disjunction, implication, conjunction_of, disjunction_of, implication_of}
-use Rattle.vpg_formula.specs.FormulaGrammar.{an_operand, a_formula, IsFormula}
-use Rattle.vpg_formula.specs.Reading.{Read, ◌>>=◌, after_word, choice, more, series_at, starts_operand, is_plus, stars_at, starred_with, all_of_with, any_of_with, repetition_with, sequence_with, choice_with, inverted_with, enclosed_with, word_at, operand_with, nothing_read, operand_at, if_action, action_at, whole_if, put_behind, bound_with, binding_with, part_behind, part_with, conjunction_with, disjunction_with, implied_with, implication_with, no_phrase, phrase_at}
-use Rattle.vpg_formula.specs.Needs.{Closer, shut, bracket, closer, Need, part, ands, ors, implied, variable, exactly, closes, operand, acting, alls, anys, stars, dots, pluses, unacting, formula_needs, regular_needs, action_needs, Turn, goes, skips, stuck, deep, if_open, front_needs, act_needs, enclosed_needs, modal_needs, again_needs, after_needs, binder_needs, path_needs, group_needs, part_turn, word_turn, operand_turn, if_acting, is_star, turn_of, may_end, Step, on, over, no_word, no_room, step_by, step, Way, done, halted, too_deep, way_by, all_may_end, way}
-use Rattle.vpg_formula.proofs.Series.{bind_some, some, some_is, word_behind, Finds}
-use Rattle.vpg_formula.proofs.Regulars.{choice_found, operand_found}
+use Rattle.vpg_formula.specs.FormulaGrammar.{an_operand, a_formula}
+use Rattle.vpg_formula.specs.Reading.{Read, ◌>>=◌, after_word, choice, more, series_at, starts_operand, choice_with, enclosed_with, nothing_read, operand_at, action_at, whole_if, put_behind, bound_with, binding_with, part_behind, part_with, conjunction_with, disjunction_with, implied_with, implication_with, no_phrase, phrase_at}
+use Rattle.vpg_formula.specs.Needs.{shut, bracket, Need, part, ands, ors, implied, variable, exactly, acting, formula_needs, regular_needs, Turn, goes, stuck, if_open, enclosed_needs, modal_needs, again_needs, after_needs, binder_needs, part_turn, step_by, step, Way, way_by, way}
+use Rattle.vpg_formula.proofs.Series.{some, word_behind}
 use Rattle.vpg_formula.proofs.Phrases.{EndsFormula, EndsOperand, phrase_found}
-use Rattle.vpg_formula.specs.FormulaGrammar.{IsPhrase, Conjunction}
+use Rattle.vpg_formula.specs.FormulaGrammar.{IsPhrase}
 use Rattle.vpg_formula.proofs.Series.{series_found}
-use Rattle.vpg_formula.proofs.Ways.{Words, is_halted, Sim, Agrees, sim_at, Any, Shorter, found_shorter, IsSign, IsExact, sign_none, sign_goes, sign_deep, exact_none, exact_some, exactly_is, way_turn, IsActing, enclosed_sim, Unplussed}
-use Rattle.vpg_formula.proofs.RegularWays.{Operands, operands_agree, choice_agrees}
+use Rattle.vpg_formula.proofs.Ways.{Words, is_halted, Sim, Agrees, sim_at, Any, Shorter, found_shorter, IsSign, sign_none, sign_goes, sign_deep, exact_none, exact_some, exactly_is, way_turn, IsActing, enclosed_sim, Unplussed}
+use Rattle.vpg_formula.proofs.RegularWays.{operands_agree, choice_agrees}
 
 -- what is read of a formula is no action formula that goes on
 abbrev pub plainly : Phrase → Bool

@@ -8,10 +8,10 @@ use Rattle.std.proofs.lemmas.List.Folds.{list_any-append}
 use Rattle.vpg_features.proofs.Held.{eq_bytes}
 use Rattle.vpg_formula.specs.Regular.{Regular, word_formula}
 use Rattle.vpg_formula.specs.RegularGrammar.{Form, Operand, word, inverted, enclosed, Series, one, more as next, Starred, plain as unstarred, star, plus, AllOf, AnyOf, Repetition, Sequence, Choice, Nothing, IsOperand, IsRegular}
-use Rattle.vpg_formula.specs.Written.{Prefix, negated, some_path, every_path, always, never, possibly, inevitably, again_and_again, after, Fixpoint, Modality, diamond, box, closing, along, is_variable, Written, constant, named, can, will, prefixed, conjunction, disjunction, implication, binding, Head, leaf, deadlock, of_action, parenthesis, in_front, modality, again, after_action, binder, other, head_of, Phrase, whole, joined}
+use Rattle.vpg_formula.specs.Written.{Prefix, negated, some_path, every_path, always, never, possibly, inevitably, again_and_again, after, Modality, diamond, box, closing, along, is_variable, Written, constant, named, can, will, prefixed, conjunction, disjunction, implication, Head, leaf, deadlock, of_action, parenthesis, in_front, modality, again, after_action, binder, other, head_of, Phrase, whole, joined}
 use Rattle.vpg_formula.specs.FormulaGrammar.{PhraseForm, IsAction, Part, at_leaf, at_deadlock, at_action as acting, at_parenthesis, at_front, at_modality, at_again, at_after, at_binder, Conjunction, Disjunction, Implication, plain, implies, NoPath, NoPhrase, Extent, an_operand, a_formula, IsPhrase}
 use Rattle.vpg_formula.specs.Standings.{Bound, Context, negated_in, inside, behind_prefix, is_among, standing_under, standing_in, standing_of, uses, is_like}
-use Rattle.vpg_formula.specs.Naming.{Region, in_formula, at_variable, in_path, at_action, in_action, Open, a_parenthesis, a_fixpoint, Spot, region_behind_head, closed_in, closed, behind, is_bound, known_at}
+use Rattle.vpg_formula.specs.Naming.{Region, in_formula, in_path, at_action, in_action, Open, a_parenthesis, a_fixpoint, Spot, region_behind_head, closed_in, closed, behind, is_bound, known_at}
 use Rattle.vpg_formula.specs.Heads.{view_head}
 use Rattle.vpg_formula.specs.declared.head.Head as heads
 use Rattle.vpg_formula.specs.declared.head.Head.TheVariants as views
@@ -22,7 +22,7 @@ use Rattle.vpg_formula.specs.declared.head.Front.TheVariants as fronts
 use Rattle.vpg_formula.specs.declared.head.Bracket.TheVariants as brackets
 use Rattle.vpg_formula.specs.declared.head.Binder.TheVariants as binders
 use Rattle.vpg_formula.specs.declared.uses.Standing.{Standing}
-use Rattle.vpg_formula.specs.declared.uses.Standing.TheVariants.{Known, Unknown, Negated}
+use Rattle.vpg_formula.specs.declared.uses.Standing.TheVariants.{Known, Unknown}
 use Rattle.vpg_formula.proofs.Series.{some, some_is}
 
 abbrev Words : Type 0

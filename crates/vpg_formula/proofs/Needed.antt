@@ -1,11 +1,11 @@
 -- What is still to come of a formula, word by word.
-use Rattle.std.proofs.Common.{◌≡◌, ℕ, zero, suc, ◌+◌, ◌⊎◌, inl, inr, Bool, true, false, cond, List, [], ◌∷◌, ◌++◌, map, length, refl, sym, ap, subst, ◌∙◌, append_assoc}
+use Rattle.std.proofs.Common.{◌≡◌, ℕ, zero, suc, ◌⊎◌, inl, inr, Bool, true, false, cond, List, [], ◌∷◌, ◌++◌, length, refl, sym, ap, subst, ◌∙◌}
 use Rattle.std.specs.Prelude.{codes, bytes_eq, not, ◌&&◌, ◌||◌, is_some}
 use Rattle.vpg_features.proofs.Held.{eq_bytes, same_bytes, both_true}
 use Rattle.vpg_formula.specs.Regular.{word_formula}
-use Rattle.vpg_formula.specs.Written.{Modality, diamond, box, closing, is_variable, Head, leaf, deadlock, of_action, parenthesis, in_front, modality, again, after_action, binder, other, head_of}
+use Rattle.vpg_formula.specs.Written.{diamond, box, is_variable, Head, leaf, deadlock, of_action, parenthesis, in_front, modality, again, after_action, binder, other, head_of}
 use Rattle.vpg_formula.specs.Reading.{starts_operand}
-use Rattle.vpg_formula.specs.Needs.{Closer, shut, bracket, closer, Need, part, ands, ors, implied, variable, exactly, closes, operand, acting, alls, anys, stars, dots, pluses, unacting, formula_needs, Turn, goes, skips, stuck, deep, if_open, front_needs, act_needs, enclosed_needs, modal_needs, again_needs, after_needs, binder_needs, path_needs, group_needs, part_turn, word_turn, operand_turn, if_acting, is_star, turn_of, may_end, Step, on, over, no_word, no_room, step_by, step, Way, done, halted, too_deep, way_by, all_may_end, way}
+use Rattle.vpg_formula.specs.Needs.{Closer, shut, bracket, closer, Need, part, ands, ors, implied, variable, exactly, closes, operand, acting, alls, anys, stars, dots, pluses, unacting, formula_needs, Turn, goes, skips, stuck, deep, if_open, front_needs, act_needs, enclosed_needs, modal_needs, again_needs, after_needs, binder_needs, path_needs, group_needs, part_turn, word_turn, operand_turn, if_acting, is_star, turn_of, may_end, Step, on, over, no_word, no_room, step_by, step, done, halted, way_by, all_may_end, way}
 
 abbrev Words : Type 0
 Words = List (List ℕ)

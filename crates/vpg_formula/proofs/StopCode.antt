@@ -1,24 +1,23 @@
 -- Where the words of a formula stop, as the code finds it.
-use Rattle.std.proofs.Common.{◌≡◌, ℕ, zero, suc, ◌+◌, ◌<◌, ◌≤◌, ◌⊎◌, inl, inr, Bool, true, false, cond, List, [], ◌∷◌, ◌++◌, map, length, Option, Some, None, refl, sym, ap, subst, ◌∙◌, arith}
+use Rattle.std.proofs.Common.{◌≡◌, ℕ, suc, ◌+◌, ◌≤◌, Bool, true, false, cond, List, [], ◌∷◌, ◌++◌, map, length, Option, Some, None, refl, sym, ap, subst, ◌∙◌, arith}
 use Rattle.std.specs.Prelude.{codes, bytes_eq, nat_le, not, ◌||◌, ◌==◌}
 use Rattle.std.specs.Borrow.{Bor}
 use Rattle.vpg_formula.specs.ReadCode.{texts}
 use Rattle.vpg_formula.proofs.RegularCode.{texts_length}
 use Rattle.std.specs.List.{list_any}
-use Rattle.std.proofs.lemmas.Bool.{cases_Bool, leb-true}
+use Rattle.std.proofs.lemmas.Bool.{leb-true}
 use Rattle.std.proofs.lemmas.List.{length-append}
 use Rattle.vpg_formula.specs.Written.{Phrase}
 use Rattle.vpg_formula.specs.FormulaGrammar.{a_formula, IsFormula}
 use Rattle.vpg_formula.specs.Standings.{nothing_around, uses, is_like, has}
 use Rattle.vpg_formula.specs.Reading.{after_word, phrase_at}
-use Rattle.vpg_formula.specs.EntryReading.{if_known, body_at}
+use Rattle.vpg_formula.specs.EntryReading.{if_known}
 use Rattle.vpg_formula.specs.EntryCode.{IsBody}
-use Rattle.vpg_formula.specs.Naming.{Spot, at_first, known_at, behind, Mention, mention, mentions_from, mentions, first_unknown}
+use Rattle.vpg_formula.specs.Naming.{Spot, at_first, known_at, behind, Mention, mention, mentions_from, first_unknown}
 use Rattle.vpg_formula.specs.NamingCode.{left_mentions}
-use Rattle.vpg_formula.specs.Needs as needs
 use Rattle.vpg_formula.specs.Needs.{formula_way}
 use Rattle.vpg_formula.specs.NeedsCode.{way_of}
-use Rattle.vpg_formula.specs.Stops.{ends_formula, IsStuckAt, IsTooDeepIn}
+use Rattle.vpg_formula.specs.Stops.{ends_formula, IsStuckAt}
 use Rattle.vpg_formula.specs.Faults.{AreKnownTo}
 use Rattle.vpg_formula.specs.FaultCode.{IsLeft, IsStopped, BodyAt, WayAt}
 use Rattle.vpg_formula.specs.declared.mark.Mark.{Mark}
@@ -27,12 +26,11 @@ use Rattle.vpg_formula.specs.declared.needs.Way.TheVariants as ways
 use Rattle.vpg_formula.specs.declared.stop.Halt.{Halt}
 use Rattle.vpg_formula.specs.declared.stop.Halt.TheVariants as halts
 use Rattle.vpg_formula.specs.declared.uses.Standing.{Standing}
-use Rattle.vpg_formula.specs.declared.uses.Standing.TheVariants.{Known, Unknown, Negated}
+use Rattle.vpg_formula.specs.declared.uses.Standing.TheVariants.{Unknown}
 use Rattle.vpg_formula.proofs.Series.{bind_some, some, some_is}
-use Rattle.vpg_formula.proofs.Naming.{is_told}
 use Rattle.vpg_formula.proofs.NamingCode.{Told, told_rest, formula_flags, known_of}
 use Rattle.vpg_formula.proofs.Phrases.{phrase_found}
-use Rattle.vpg_formula.proofs.Stopping.{Left, halted_at, deep_at, behind_formula, never_done}
+use Rattle.vpg_formula.proofs.Stopping.{halted_at, deep_at, behind_formula, never_done}
 
 abbrev Words : Type 0
 Words = List (List ℕ)

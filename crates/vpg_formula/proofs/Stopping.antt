@@ -1,16 +1,16 @@
 -- Where a formula stops: the words in front can go on to a formula, and with the word there no formula goes on.
-use Rattle.std.proofs.Common.{◌≡◌, ℕ, zero, suc, ◌+◌, ◌<◌, ◌≤◌, ◌⊎◌, inl, inr, Bool, true, false, cond, List, [], ◌∷◌, ◌++◌, length, Option, Some, None, refl, sym, ap, ap₂, subst, ◌∙◌, arith, append_assoc}
-use Rattle.std.specs.Prelude.{codes, bytes_eq}
+use Rattle.std.proofs.Common.{◌≡◌, ℕ, zero, suc, ◌+◌, ◌⊎◌, inl, inr, Bool, true, false, cond, List, [], ◌∷◌, ◌++◌, length, Option, Some, None, refl, sym, ap, ap₂, subst, ◌∙◌, arith, append_assoc}
+use Rattle.std.specs.Prelude.{codes}
 use Rattle.std.proofs.lemmas.List.{append-nil, length-append}
 use Rattle.vpg_features.proofs.Held.{eq_bytes}
 use Rattle.vpg_formula.specs.Written.{Phrase}
 use Rattle.vpg_formula.specs.FormulaGrammar.{a_formula, IsFormula}
-use Rattle.vpg_formula.specs.Reading.{after_word, starts_operand, phrase_at}
+use Rattle.vpg_formula.specs.Reading.{starts_operand, phrase_at}
 use Rattle.vpg_formula.specs.Needs.{Need, Step, on, over, no_word, no_room, step, Way, done, halted, too_deep, way_by, all_may_end, way, formula_needs, formula_way}
 use Rattle.vpg_formula.specs.Stops.{CanGoOn, IsStuckAt, IsTooDeepIn, ends_formula}
 use Rattle.vpg_formula.proofs.Phrases.{EndsFormula, phrase_found, formula_again}
-use Rattle.vpg_formula.proofs.Needed.{fit, fill, filled, sum, deeper_all, IsHalt, local, taken, RaisedStep, raised_step, step_fits, StopsAt, Reach, reach}
-use Rattle.vpg_formula.proofs.Ways.{is_halted, Sim, Agrees}
+use Rattle.vpg_formula.proofs.Needed.{fill, filled, sum, deeper_all, IsHalt, local, taken, RaisedStep, raised_step, step_fits, StopsAt, Reach, reach}
+use Rattle.vpg_formula.proofs.Ways.{is_halted, Sim}
 use Rattle.vpg_formula.proofs.FormulaWays.{plainly, Whole, phrases_agree}
 
 abbrev Words : Type 0

@@ -1,5 +1,5 @@
 -- What the code keeps of places in a text: how many words are left, as the places of the specs.
-use Rattle.std.specs.Prelude.{◌≡◌, ℕ, suc, ◌+◌, ◌-◌, ◌<◌, ◌≤◌, List, [], ◌++◌, length, ◌∷◌, codes, Bool, true, false, not, if◌then◌else◌, nat_lt, slice_index_or, Option, Some, None, is_some}
+use Rattle.std.specs.Prelude.{◌≡◌, ℕ, suc, ◌+◌, ◌-◌, ◌<◌, ◌≤◌, List, [], ◌++◌, length, codes, Bool, true, false, not, if◌then◌else◌, nat_lt, slice_index_or, Option, Some, None, is_some}
 use Rattle.vpg_formula.specs.Words.{words_of}
 use Rattle.vpg_formula.specs.Places.{place_of}
 use Rattle.vpg_formula.specs.Written.{is_variable}

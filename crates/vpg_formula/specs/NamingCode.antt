@@ -1,6 +1,5 @@
 -- What the code keeps of names in a formula, as the words of the specs.
-use Rattle.std.specs.Prelude.{◌≡◌, ℕ, suc, List, [], ◌∷◌, length, map, reverse, Bool, false, if◌then◌else◌, nat_le, slice_get, Option, Some, None, Result, Ok, Err}
-use Rattle.std.specs.Borrow.{Bor}
+use Rattle.std.specs.Prelude.{◌≡◌, ℕ, suc, List, [], ◌∷◌, length, map, reverse, if◌then◌else◌, nat_le, slice_get, Option, Some, None, Result, Ok, Err}
 use Rattle.vpg_formula.specs.Heads.{modality_of}
 use Rattle.vpg_formula.specs.Naming as spec
 use Rattle.vpg_formula.specs.Naming.{Mention, mention, known_at, behind}

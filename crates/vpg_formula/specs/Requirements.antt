@@ -1,5 +1,5 @@
 -- Which texts are requirements: one formula, or entries `NAME = FORMULA;`. This project's own.
-use Rattle.std.specs.Prelude.{◌≡◌, ℕ, zero, suc, List, [], ◌∷◌, ◌++◌, map, Bool, true, false, not, ◌&&◌, codes, bytes_eq}
+use Rattle.std.specs.Prelude.{◌≡◌, ℕ, suc, List, [], ◌∷◌, ◌++◌, map, Bool, true, false, not, ◌&&◌, codes, bytes_eq}
 use Rattle.vpg_formula.specs.Words.{words_of}
 use Rattle.vpg_formula.specs.Written.{Phrase, Written, is_variable}
 use Rattle.vpg_formula.specs.FormulaGrammar.{IsFormula}

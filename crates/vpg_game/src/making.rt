@@ -48,7 +48,9 @@ fn joined(
     ensures found { IfOk result (λ edges. AllHeld ids.now.keys successors.items) }
     ensures err { IfErr result (IsJoiningFault ids.now.keys successors.items) }
 {
-    let mut edges = Vec::new(alloc);
+    let Ok(mut edges) = Vec::with_capacity(alloc, successors.len()) else {
+        return Err(GameFault::Memory);
+    };
     for successor in successors {
         let Successor { id, guard } = successor;
         let Some(to) = ids.get_index_of(&id) else {

@@ -4,6 +4,7 @@ ghost use Rattle.vpg_guards.specs.Formula.{IsBelow};
 ghost use Rattle.vpg_guards.specs.View.{formula_of};
 ghost use Rattle.vpg_model.specs.Forms.{HasLabels};
 ghost use Rattle.vpg_model.specs.Pairs.{HaveGuards, departures_at};
+ghost use Rattle.vpg_parts.specs.Sets.{is_permitted};
 ghost use Rattle.vpg_trace.specs.Taking.{departure_at};
 ghost use Rattle.vpg_trace.specs.Texts.{action_if, all_permitted, arrow_text, asked_text, cut_text, end_text, family_of, guard_part, indent, mark_text, missing_text, permitted_text, return_line, standing_line, standing_text, state_of, step_from, step_line, step_text, steps_in, trace_text, unmoved_text, visit_text, visits_text};
 
@@ -126,13 +127,26 @@ fn put_step(
     put_mark(taken.depends, out)
 }
 
+/// Whether a set has an action.
+fn is_in(source: &Source, set: u32, action: usize) -> bool
+    ensures { result ≡ is_permitted source.now.sets.items set action }
+{
+    match source.sets.get(set as usize) {
+        Some(permitted) => match permitted.actions.get(action) {
+            Some(is) => *is,
+            None => false,
+        },
+        None => false,
+    }
+}
+
 /// Whether a set has all of these actions.
 fn has_all(actions: &[Text], source: &Source, set: u32) -> bool
     ensures { result ≡ all_permitted source.now.sets.items set (length actions.now) }
 {
     let mut has = true;
     for action in 0..actions.len() {
-        has = has && source.is_permitted(set, action as u32);
+        has = has && is_in(source, set, action);
     }
     has
 }
@@ -165,7 +179,7 @@ fn put_permitted(
         ++ permitted_text actions.now source.now.sets.items set (length actions.now)) }
 {
     for action in 0..actions.len() {
-        let is_permitted = source.is_permitted(set, action as u32);
+        let is_permitted = is_in(source, set, action);
         put_action_if(actions, action, is_permitted, out)?;
     }
     Ok(())

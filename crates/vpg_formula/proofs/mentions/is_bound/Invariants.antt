@@ -1,7 +1,6 @@
 use Rattle.std.proofs.Common.{◌≡◌, map, drop}
 use Rattle.vpg_formula.specs.Naming.{is_bound}
 use Rattle.vpg_formula.specs.NamingCode.{open_of, opens}
-use Rattle.vpg_formula.proofs.NamingCode.{bound_reversed}
 use Rattle.vpg_formula.proofs.mentions.is_bound.Given as goal
 
 abbrev pub invariant-loop-part : goal.invariant-loop-part

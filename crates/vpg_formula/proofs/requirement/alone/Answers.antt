@@ -1,4 +1,4 @@
-use Rattle.std.proofs.Common.{◌≡◌, List, ℕ, [], false, ap, subst, ◌∙◌}
+use Rattle.std.proofs.Common.{List, ℕ, false, length, ap, subst, ◌∙◌}
 use Rattle.std.proofs.lemmas.Result.{err_from_is_err_and}
 use Rattle.vpg_formula.specs.ReadCode.{texts}
 use Rattle.vpg_formula.specs.EntryCode.{earlier_of}
@@ -14,5 +14,5 @@ returns-in_err-marks-clause-at c =
 
 pub returns-then-not-is_empty-clause-at : goal.returns-then-not-is_empty-clause-at
 returns-then-not-is_empty-clause-at c =
-    subst (λ (names : List (List ℕ)). IsLeft (texts c.args.words.now) _ (IsStopped names (texts c.args.words.now) (IsStuckAt false (texts c.args.words.now)))) (ap earlier_of (c.deref.ensures.value ∙ c.new-entries.ensures.items))
+    subst (λ (names : List (List ℕ)). IsLeft (texts c.args.words.now) (length c.in_ok-marks.rest.now) (IsStopped names (texts c.args.words.now) (IsStuckAt false (texts c.args.words.now)))) (ap earlier_of (c.deref.ensures.value ∙ c.new-entries.ensures.items))
     (alone_behind (earlier_of c.deref.result.now) (texts c.args.words.now) c.in_ok-marks.rest.now _ _ c.is_empty.result c.in_ok-marks.ensures.body c.is_empty.ensures c.if-not-is_empty.true)

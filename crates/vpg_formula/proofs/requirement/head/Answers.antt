@@ -1,4 +1,4 @@
-use Rattle.std.proofs.Common.{◌≡◌, ◌-◌, length, refl, sym, ◌∙◌, arith}
+use Rattle.std.proofs.Common.{◌-◌, length, refl, sym, ◌∙◌, arith}
 use Rattle.vpg_formula.specs.ReadCode.{texts}
 use Rattle.vpg_formula.specs.EntryCode.{earlier_of}
 use Rattle.vpg_formula.specs.declared.stop.Halt.TheVariants as halts

@@ -1,6 +1,4 @@
-use Rattle.std.proofs.Common.{sym, ap, ◌∙◌}
 use Rattle.vpg_formula.specs.ReadCode.{texts}
-use Rattle.vpg_formula.specs.NeedsCode.{way_of}
 use Rattle.vpg_formula.proofs.StopCode.{none_done}
 use Rattle.vpg_formula.proofs.requirement.stop.Goals as goal
 
