@@ -1,4 +1,4 @@
-//! What lines ask of the page, by places in the game and the diagram.
+//! Questions about the page, by places in the game and the diagram.
 ghost use Rattle.std.specs.Prelude.{◌≡◌, ◌<◌, length, IfOk, IfSome};
 ghost use Rattle.vpg_answers.specs.Answers.{IsWithin};
 ghost use Rattle.vpg_features.specs.Names.{index_of};
@@ -24,7 +24,7 @@ fn feature_at(names: &Names, name: &[u8]) -> Option<u16>
     names.get(name)
 }
 
-/// Whether there is a system over so many features.
+/// Whether there is a system over this many features.
 fn is_over(features: usize, behaviour: &Option<Behaviour>) -> bool
     ensures { result ≡ is_over features behaviour.now }
 {
@@ -34,7 +34,7 @@ fn is_over(features: usize, behaviour: &Option<Behaviour>) -> bool
     }
 }
 
-/// Whether what a question needs beside the family is there: a trace needs a system.
+/// Whether a question has all that it needs beside the family: a trace needs a system.
 fn is_answerable(features: usize, behaviour: &Option<Behaviour>, question: VertexQuestion) -> bool
     ensures { result ≡ is_answerable features behaviour.now question }
 {
@@ -44,7 +44,7 @@ fn is_answerable(features: usize, behaviour: &Option<Behaviour>, question: Verte
     }
 }
 
-/// What is asked of a vertex, or what it needs that isn't there.
+/// Returns a question about a vertex as a query, or the kind of thing that is missing.
 fn query_of_vertex(
     behaviour: &Option<Behaviour>,
     game: &GuardedGame,
@@ -65,7 +65,7 @@ fn query_of_vertex(
     }
 }
 
-/// What an inquiry asks, or what it needs that isn't there.
+/// Returns an inquiry as a query by places, or the kind of thing that is missing.
 pub(crate) fn query_of(
     behaviour: &Option<Behaviour>,
     game: &GuardedGame,

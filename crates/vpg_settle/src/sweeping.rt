@@ -1,4 +1,4 @@
-//! Sweeps: what the lines `settle` and `harvest` make of an order.
+//! Sweeps: the work of the lines `settle` and `harvest` on an order.
 ghost use Rattle.std.specs.Prelude.{◌≡◌, ◌+◌, ◌<◌, ◌≤◌, ℕ, sum, IfOk, IfErr, IfSome, IsTrue, Some};
 ghost use Rattle.vpg_measure.specs.Lifts.{after_rounds};
 ghost use Rattle.vpg_measure.specs.Orders.{IsSameOrder, IsHarvest, IsSettledOrder, IsSettledHarvest, order_table, harvest_table, order_levels, order_arena};
@@ -13,24 +13,24 @@ use vpg_guess::{Groundwork, harvest_by_bounds, harvest_by_bounds_at_once};
 use vpg_measure::{Harvest, Order, Table};
 use vpg_verdict::Which;
 
-/// A line with so small a number asks for sweeps alone.
+/// The greatest number of a line that asks for sweeps alone.
 pub const FEW_SWEEPS: u64 = 4;
 
 /// The sweeps that come before a guess at tables of zeros: a simple game is settled by them. A guess at others begins
 /// with a round of lifts itself.
 pub const FIRST_SWEEPS: u64 = 1;
 
-/// How many edges and vertices a guess at both tables may look at, in all its parts together.
+/// The number of edges and vertices that a guess at both tables may look at, in all its parts together.
 pub const BUDGET: u64 = 1 << 27;
 
-/// From so many sweeps on, the sweeps behind a guess end where the tables exceed those that the line began with, in
-/// sum, by the line's number: nobody waits for a million sweeps.
+/// The number of a line from which on its sweeps after a guess may end early. They end if the tables exceed those that
+/// the line began with, in sum, by the line's number: nobody waits for a million sweeps.
 pub const MANY_SWEEPS: u64 = 1_000_000;
 
-/// How many sweeps there are behind a guess before that is asked.
+/// The number of sweeps after a guess before that is checked.
 pub const LAST_SWEEPS: u64 = 16;
 
-/// A settled order as it stands.
+/// Returns a settled order as it stands.
 fn as_it_stands(order: Order) -> Harvest
     requires { IsSettledOrder order }
     ensures swept { (sweeps : ℕ) → IsSweptOrder order sweeps result }
@@ -41,7 +41,7 @@ fn as_it_stands(order: Order) -> Harvest
     harvest.noted()
 }
 
-/// The order after this many rounds of one lifter at most. It takes no memory.
+/// Returns the order after at most this many rounds of one lifter. It takes no memory.
 fn by_rounds(order: Order, rounds: u64) -> Harvest
     ensures swept { IsSweptOrder order rounds result }
     ensures tables { (which : Which) →
@@ -54,14 +54,14 @@ fn by_rounds(order: Order, rounds: u64) -> Harvest
     harvest
 }
 
-/// What sweeps made of an order, and how many there were.
+/// The harvest of the sweeps of an order, and how many there were.
 #[derive(Drop)]
 pub struct SweptHarvest {
     pub harvest: Harvest,
     pub sweeps: u64,
 }
 
-/// The order after one sweep. Here alone a sweep is known to be one, by so many lifters.
+/// Returns the order after one sweep. Only here is a sweep known to be one, by this many lifters.
 fn sweep<G: Gate + Sync, T: Threads + Wait + Sync>(
     rt: &T,
     alloc: Global,
@@ -78,8 +78,8 @@ fn sweep<G: Gate + Sync, T: Threads + Wait + Sync>(
     sweep_along(rt, alloc, order, lifters, gate, predecessors)
 }
 
-/// Sweeps an order until a sweep settles it, and so many times at most. The order that they left comes back where none
-/// settled it.
+/// Sweeps an order until a sweep settles it, and at most this many times. If none settles it, the order that they left
+/// comes back.
 pub fn sweep_often<G: Gate + Sync, T: Threads + Wait + Sync>(
     rt: &T,
     alloc: Global,
@@ -112,7 +112,7 @@ pub fn sweep_often<G: Gate + Sync, T: Threads + Wait + Sync>(
     Err(order)
 }
 
-/// The order after this many sweeps at most.
+/// Returns the order after at most this many sweeps.
 fn by_sweeps<G: Gate + Sync, T: Threads + Wait + Sync>(
     rt: &T,
     alloc: Global,
@@ -138,7 +138,7 @@ fn by_sweeps<G: Gate + Sync, T: Threads + Wait + Sync>(
     }
 }
 
-/// The sum of a table's values, where it can be counted.
+/// Returns the sum of a table's values, if it can be counted.
 fn sum_of(table: &Table) -> Option<u128>
     ensures { IfSome result (λ total. total ≡ sum table.now) }
 {
@@ -149,8 +149,8 @@ fn sum_of(table: &Table) -> Option<u128>
     Some(total)
 }
 
-/// The sum that tables have to reach before a line's sweeps may end early. None where there are few of them: they are
-/// all made.
+/// Returns the sum that tables have to reach before a line's sweeps may end early. None if there are few of them: they
+/// are all made.
 fn goal_of(order: &Order, sweeps: u64) -> Option<u128>
     ensures { IfSome result (λ goal. sum order.now.hopeful + sum order.now.dual + sweeps ≤ goal) }
 {
@@ -175,7 +175,7 @@ fn is_reached(harvest: &Harvest, goal: u128) -> bool
     }
 }
 
-/// Whether a harvest is settled, or reached the goal behind enough sweeps.
+/// Whether a harvest is settled, or reached the goal after enough sweeps.
 fn is_enough(harvest: &Harvest, done: u64, goal: u128) -> bool
     ensures settled { IsSettledHarvest harvest.now → IsTrue result }
     ensures enough { IsTrue result → (¬ IsSettledHarvest harvest.now) →
@@ -187,7 +187,7 @@ fn is_enough(harvest: &Harvest, done: u64, goal: u128) -> bool
     LAST_SWEEPS <= done && is_reached(harvest, goal)
 }
 
-/// The order after this many sweeps at most: they end where one settles it, or where its tables reach the goal behind
+/// Returns the order after at most this many sweeps: they end if one settles it, or if its tables reach the goal after
 /// some sweeps.
 fn by_sweeps_to<G: Gate + Sync, T: Threads + Wait + Sync>(
     rt: &T,
@@ -220,7 +220,7 @@ fn by_sweeps_to<G: Gate + Sync, T: Threads + Wait + Sync>(
     }
 }
 
-/// The same where there is a goal, and else all sweeps. Lifters hint at what to lift next.
+/// Sweeps as `by_sweeps_to` does if there is a goal, and else makes all sweeps. Lifters hint at what to lift next.
 fn by_hints<G: Gate + Sync, T: Threads + Wait + Sync>(
     rt: &T,
     alloc: Global,
@@ -242,7 +242,7 @@ fn by_hints<G: Gate + Sync, T: Threads + Wait + Sync>(
     }
 }
 
-/// The order raised by certified guesses: by two threads, one for each table, where there are several lifters.
+/// Returns the order raised by certified guesses: by two threads, one for each table, if there are several lifters.
 fn raise_tables<T: Threads + Wait + Sync>(
     rt: &T,
     alloc: Global,
@@ -261,7 +261,8 @@ fn raise_tables<T: Threads + Wait + Sync>(
     }
 }
 
-/// The same. Out of memory it comes back. Here alone a raise is known to be one of guesses.
+/// Raises an order as `raise_tables` does. Out of memory the order comes back. Only here is a raise known to be one of
+/// guesses.
 fn guess<T: Threads + Wait + Sync>(
     rt: &T,
     alloc: Global,
@@ -277,7 +278,7 @@ fn guess<T: Threads + Wait + Sync>(
     raise_tables(rt, alloc, order, lifters, kept)
 }
 
-/// The order raised by guesses, and swept from there where they don't settle it. Out of memory it is swept alone.
+/// Returns the order raised by guesses, and swept from there if they don't settle it. Out of memory it is swept alone.
 fn by_guesses<G: Gate + Sync, T: Threads + Wait + Sync>(
     rt: &T,
     alloc: Global,
@@ -305,21 +306,23 @@ fn by_guesses<G: Gate + Sync, T: Threads + Wait + Sync>(
     }
 }
 
-/// Whether a table has a value above zero: then its page was settled before, mostly, and a change is what is left.
+/// Whether a table has a value above zero. Usually its page was settled before then, and only the last change is left
+/// to work out.
 fn has_risen(table: &Table) -> bool {
     table.values().iter().any(|value| *value != 0)
 }
 
-/// The order swept this many times at most, by this many lifters at once, unless it is settled as it stands. Its tables
-/// are raised by guesses before the sweeps; or behind a first one where they are of zeros, and it doesn't settle them.
-/// That one goes without hints: one lifter's then raises what a round raises. It never fails: where a board, a hint or
-/// a guess finds no memory, the sweeps go on without. The lifters call the gate.
+/// Sweeps an order at most this many times, by this many lifters at once, unless it is settled as it stands. Before the
+/// sweeps its tables are raised by guesses. If they are of zeros, a first sweep comes before that, and may settle them;
+/// it goes without hints, so one lifter's raises what a round raises. It never fails: if there is no memory for a
+/// board, a hint or a guess, the sweeps go on without. The lifters call the gate.
 ///
-/// A guess has one budget for both tables; when it is spent, what is known until then is certified and raised. With two
-/// lifters or more each table has a thread and half of the budget. Sweeps follow, up to the number. From `MANY_SWEEPS`
-/// on they end, settled or not, where the tables exceed the order's in sum by the number.
+/// A guess has one budget for both tables; when it is used up, the tables known by then are certified and raised. With
+/// two lifters or more each table has a thread and half of the budget. Sweeps follow, up to the number. From
+/// `MANY_SWEEPS` on they end, settled or not, if the tables exceed the order's in sum by the number.
 ///
-/// What guesses make of the game alone is kept for the next order of the same game. With nothing kept a guess makes it.
+/// What guesses derive from the game alone is kept for the next order of the same game. With nothing kept a guess makes
+/// it.
 pub fn swept<G: Gate + Sync, T: Threads + Wait + Sync>(
     rt: &T,
     alloc: Global,
@@ -332,11 +335,11 @@ pub fn swept<G: Gate + Sync, T: Threads + Wait + Sync>(
     requires lifters { (1 ≤ lifters) × (lifters ≤ 64) }
     ensures swept { IsSweptOrder order sweeps result.harvest }
 
-    // At most so many sweeps, each by this many lifters, and certified guesses made the harvest.
+    // At most this many sweeps, each by this many lifters, and certified guesses made the harvest.
     ensures few { result.sweeps ≤ sweeps }
     ensures made { Settles lifters result.sweeps order result.harvest }
 
-    // No sweep raises nothing.
+    // Without sweeps nothing is raised.
     ensures none { sweeps ≡ 0 → (which : Which) → harvest_table which result.harvest ≡ order_table which order }
 
     // A settled order is not swept.
