@@ -1,7 +1,7 @@
 //! What every run of a board keeps, and that its atomic steps are the steps of runs: each law is the contract of a
 //! function that does nothing.
 
-ghost use Rattle.std.specs.Prelude.{◌≡◌, ◌<◌, ◌-◌, ℕ, List, [], ◌∷◌, true};
+ghost use Rattle.std.specs.Prelude.{◌≡◌, ◌≢◌, ◌<◌, ◌≤◌, ◌+◌, ◌-◌, ℕ, List, [], ◌∷◌, true};
 ghost use mathlib.Core.Option.{some};
 ghost use lib.ListN.{get_elem?};
 ghost use Rattle.atomic_table.specs.Table.{State, opening};
@@ -10,7 +10,9 @@ ghost use Rattle.vpg_board.specs.declared.lifter.Lifter.{Lifter};
 ghost use Rattle.vpg_board.specs.Lifters.{opener};
 ghost use Rattle.vpg_board.specs.Places.{places, values};
 ghost use Rattle.vpg_board.specs.Run.{Move, load, raise, claim, split, join, ran, IsRun, IsBoardRun};
-ghost use Rattle.vpg_board.specs.Rule.{MeasuresKept, ClaimsCounted, ClaimsKept};
+ghost use Rattle.vpg_board.specs.Rule.{MeasuresKept, ClaimsCounted, ClaimsKept, times};
+ghost use Rattle.vpg_board.specs.Taken.{IsOnBoard};
+ghost use Rattle.vpg_board.specs.Joins.{IsOfRun};
 ghost use Rattle.vpg_board.specs.Steps.{IsBoard, Leads, after_load, after_raise, after_claim, after_split, after_join};
 
 /// Any steps of any lifters keep the measures: no word falls under what a seat has seen, and each stays below every
@@ -27,10 +29,24 @@ pub fn every_run_keeps_the_counts()
 {}
 
 /// Where lifters claim until they found none left, and the opening one alone splits, 63 times, none has more empty
-/// claims than it stands for.
+/// claims than it stands for: so a seat has at most one for itself. This holds of such runs alone. In a run where
+/// lifters go on claiming after their first empty claim, one may have any number of them; seats never go on.
 pub fn every_board_run_keeps_the_claims()
     ensures run { (order : OrderView) (run : List Move) → IsBoardRun order run → IsRun order run }
     ensures claims { (order : OrderView) (run : List Move) → IsBoardRun order run → ClaimsKept order (ran order run) }
+{}
+
+/// What a seat knows comes from one run, and all its joins are steps of that run. So what both seats of a join knew is
+/// what lifters of that board knew before it. `Board::close` adds the words to this run.
+pub fn joined_seats_are_of_one_run()
+    ensures { (v : Lifter) → IsOnBoard v → (run : List Move) × IsOfRun v.order run v }
+{}
+
+/// Two lifters of one board have no claim in common.
+pub fn two_lifters_claim_apart()
+    ensures { (order : OrderView) (run : List Move) (i j : ℕ) (v w : Lifter) → IsBoardRun order run →
+        get_elem? (ran order run).lifters i ≡ some v → get_elem? (ran order run).lifters j ≡ some w → j ≢ i →
+        (n : ℕ) → times n v.claims + times n w.claims ≤ 1 }
 {}
 
 /// An atomic load of a measure is the step `load`: whatever board the words and seats show, they show the board after
