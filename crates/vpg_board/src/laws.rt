@@ -1,7 +1,7 @@
 //! The invariants of every run of a board, and the law that its atomic steps are the steps of runs. Each function does
 //! nothing: its contract is the law.
 
-ghost use Rattle.std.specs.Prelude.{◌≡◌, ◌<◌, ◌-◌, ℕ, List, [], ◌∷◌, true};
+ghost use Rattle.std.specs.Prelude.{◌≡◌, ◌≢◌, ◌<◌, ◌≤◌, ◌+◌, ◌-◌, ℕ, List, [], ◌∷◌, true};
 ghost use mathlib.Core.Option.{some};
 ghost use lib.ListN.{get_elem?};
 ghost use Rattle.atomic_table.specs.Table.{State, opening};
@@ -10,7 +10,9 @@ ghost use Rattle.vpg_board.specs.declared.lifter.Lifter.{Lifter};
 ghost use Rattle.vpg_board.specs.Lifters.{opener};
 ghost use Rattle.vpg_board.specs.Places.{places, values};
 ghost use Rattle.vpg_board.specs.Run.{Move, load, raise, claim, split, join, ran, IsRun, IsBoardRun};
-ghost use Rattle.vpg_board.specs.Rule.{MeasuresKept, ClaimsCounted, ClaimsKept};
+ghost use Rattle.vpg_board.specs.Rule.{MeasuresKept, ClaimsCounted, ClaimsKept, times};
+ghost use Rattle.vpg_board.specs.Taken.{IsOnBoard};
+ghost use Rattle.vpg_board.specs.Joins.{IsOfRun};
 ghost use Rattle.vpg_board.specs.Steps.{IsBoard, Leads, after_load, after_raise, after_claim, after_split, after_join};
 
 /// Any steps of any lifters keep the measures: no word falls below a value that a seat has seen, and each stays below

@@ -19,4 +19,6 @@ pub struct Lifter {
     pub stands: u64,
     /// Whether it is the opening one, or merged that.
     pub opening: bool,
+    /// Its joins, the last one first, and those of the lifters that it took in.
+    pub joins: LinkedList<Joined>,
 }

@@ -39,7 +39,7 @@ fn is_answerable(features: usize, behaviour: &Option<Behaviour>, question: Verte
     ensures { result ≡ is_answerable features behaviour.now question }
 {
     match question {
-        VertexQuestion::Trace => is_over(features, behaviour),
+        VertexQuestion::Trace => is_over(diagram.names().len(), behaviour),
         _ => true,
     }
 }
@@ -56,12 +56,13 @@ fn query_of_vertex(
         (OfVertex question (vertex_shown named.entry))) result }
     ensures within { IfOk result (IsWithin behaviour.now (length game.now.vertices) (length diagram.now.names)) }
 {
-    if !is_answerable(diagram.names().len(), behaviour, question) {
-        return Err(Missing::System);
-    }
-    match vertex_at(game, named) {
-        Some(vertex) => Ok(Query::OfVertex { question, vertex }),
-        None => Err(Missing::Vertex),
+    if is_answerable(behaviour, diagram, question) {
+        match vertex_at(game, named) {
+            Some(vertex) => Ok(Query::OfVertex { question, vertex }),
+            None => Err(Missing::Vertex),
+        }
+    } else {
+        Err(Missing::System)
     }
 }
 
