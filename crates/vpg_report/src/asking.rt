@@ -1,4 +1,4 @@
-//! Questions about the page, by places in the game and the diagram.
+//! What lines ask of the page, by places in the game and the diagram.
 ghost use Rattle.std.specs.Prelude.{◌≡◌, ◌<◌, length, IfOk, IfSome};
 ghost use Rattle.vpg_answers.specs.Answers.{IsWithin};
 ghost use Rattle.vpg_features.specs.Names.{index_of};
@@ -24,7 +24,7 @@ fn feature_at(names: &Names, name: &[u8]) -> Option<u16>
     names.get(name)
 }
 
-/// Whether there is a system over this many features.
+/// Whether there is a system over so many features.
 fn is_over(features: usize, behaviour: &Option<Behaviour>) -> bool
     ensures { result ≡ is_over features behaviour.now }
 {
@@ -34,9 +34,9 @@ fn is_over(features: usize, behaviour: &Option<Behaviour>) -> bool
     }
 }
 
-/// Whether a question has all that it needs beside the family: a trace needs a system.
-fn is_answerable(features: usize, behaviour: &Option<Behaviour>, question: VertexQuestion) -> bool
-    ensures { result ≡ is_answerable features behaviour.now question }
+/// Whether what a question needs beside the family is there: a trace needs a system.
+fn is_answerable(behaviour: &Option<Behaviour>, diagram: &Diagram, question: VertexQuestion) -> bool
+    ensures { result ≡ is_answerable (length diagram.now.names) behaviour.now question }
 {
     match question {
         VertexQuestion::Trace => is_over(diagram.names().len(), behaviour),
@@ -44,7 +44,8 @@ fn is_answerable(features: usize, behaviour: &Option<Behaviour>, question: Verte
     }
 }
 
-/// Returns a question about a vertex as a query, or the kind of thing that is missing.
+/// What is asked of a vertex, or what it needs that isn't there.
+#[tactic(auto, using(crate::proofs::Inquired::has_system, crate::proofs::Inquired::not_asked, crate::proofs::Inquired::none_asked, crate::proofs::Inquired::one_asked))]
 fn query_of_vertex(
     behaviour: &Option<Behaviour>,
     game: &GuardedGame,
@@ -66,7 +67,7 @@ fn query_of_vertex(
     }
 }
 
-/// Returns an inquiry as a query by places, or the kind of thing that is missing.
+/// What an inquiry asks, or what it needs that isn't there.
 pub(crate) fn query_of(
     behaviour: &Option<Behaviour>,
     game: &GuardedGame,

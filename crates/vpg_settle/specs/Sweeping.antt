@@ -1,5 +1,7 @@
--- The harvests that sweeps make of an order. This project's own.
-use Rattle.std.specs.Prelude.{◌≡◌, ℕ, zero, suc, ◌+◌, ◌≤◌, ◌⊎◌, Option, Some, None, sum}
+-- What sweeps make of an order. This project's own.
+use Rattle.std.specs.Prelude.{◌≡◌, ℕ, zero, suc, ◌+◌, ◌<◌, ◌≤◌, ◌⊎◌, max, List, length, slice_index, Option, Some, None, sum}
+use Rattle.vpg_game.specs.declared.levels.Level.{Level}
+use Rattle.vpg_hope.specs.Arena.{Vertex, vertex_at}
 use Rattle.vpg_verdict.specs.declared.which.Which.{Which}
 use Rattle.vpg_measure.specs.Lifts.{IsBelowTable, IsProgressTable, lift_of}
 use Rattle.vpg_measure.specs.Orders.{OrderView, HarvestView, IsHarvest, IsSameOrder, IsOrderAgain, IsSettledHarvest, order_table, harvest_table, order_levels, order_arena}
@@ -11,8 +13,8 @@ pub record IsOfPage (one other : OrderView) : Type 0 where
   pub decisions : one.decisions ≡ other.decisions
   pub known : one.known ≡ other.known
 
--- A harvest of the order's page, on or above the order's tables. One that isn't settled exceeds them, in sum, by at
--- least the number of sweeps.
+-- A harvest of the order's page, on or above the order's tables. One that isn't settled exceeds them, in sum, by as
+-- many as there were sweeps.
 pub record IsSweptOrder (order : OrderView) (sweeps : ℕ) (harvest : HarvestView) : Type 0 where
   pub lawful : IsHarvest harvest
   pub page : IsOfPage harvest.order order
@@ -25,7 +27,7 @@ abbrev pub Reaches : Option ℕ → HarvestView → Type 0
 Reaches None harvest = ⊥
 Reaches (Some goal) harvest = goal ≤ sum harvest.hopeful + sum harvest.dual
 
--- As `IsSweptOrder`, except that a harvest which reaches the goal may exceed them by less.
+-- The same, but that a harvest which reaches the goal may exceed them by less.
 pub record IsSweptTo (order : OrderView) (sweeps : ℕ) (goal : Option ℕ) (harvest : HarvestView) : Type 0 where
   pub kept : IsSweptOrder order 0 harvest
   pub enough : ¬ IsSettledHarvest harvest → Reaches goal harvest ⊎
@@ -33,9 +35,16 @@ pub record IsSweptTo (order : OrderView) (sweeps : ℕ) (goal : Option ℕ) (har
 
 -- ---- how often an order was swept, and by how many lifters
 
--- One sweep by this many lifters made the harvest of the order. Tables don't show how many lifters there were, nor
--- whether it was one sweep or two. The machine may refuse each thread but the first, and each sweep raises as far as it
--- comes. So these two stay shut: they are known only from what was asked for.
+-- a sweep leaves each vertex on or above the lift of the order's table there
+pub record IsOneSweep (order : OrderView) (harvest : HarvestView) : Type 0 where
+  pub swept : IsSweptOrder order 1 harvest
+  pub lifted : (which : Which) (v : ℕ) → v < length order.game.vertices →
+      lift_of (order_levels which order) (order_table which order) (vertex_at (order_arena which order) v)
+      ≤ slice_index (harvest_table which harvest) v
+
+-- One sweep by this many lifters made the harvest of the order. Tables don't tell how many there were, nor whether it
+-- was one sweep or two: the machine may refuse each thread but the first, and each sweep raises as far as it comes. So
+-- these two stay shut: they are known of what was asked for alone.
 pub IsSweptBy : ℕ → OrderView → HarvestView → Type 0
 IsSweptBy lifters order harvest = IsOneSweep order harvest
 
@@ -49,7 +58,7 @@ pub swept_of : (lifters : ℕ) (order : OrderView) (harvest : HarvestView) → I
 unfolding IsSweptBy
 swept_of lifters order harvest swept = swept
 
--- Certified guesses, without a sweep, raised the order's tables to the harvest's.
+-- Certified guesses, and no sweep, raised the order's tables to the harvest's.
 pub IsGuessed : OrderView → HarvestView → Type 0
 IsGuessed order harvest = IsHarvest harvest × IsSameOrder harvest.order order
 
@@ -68,9 +77,10 @@ pub record IsLeft (order : OrderView) (harvest : HarvestView) : Type 0 where
   pub page : IsOfPage harvest.order order
   pub same : (which : Which) → harvest_table which harvest ≡ order_table which order
 
--- this holds of the order, or of it after certified guesses
-abbrev pub AfterGuess : (OrderView → HarvestView → Type 0) → OrderView → HarvestView → Type 0
-AfterGuess Makes order harvest =
+-- This many sweeps made the harvest so; or certified guesses settled it and there was no sweep; or it was made so after
+-- guesses.
+abbrev pub AfterGuess : ℕ → (OrderView → HarvestView → Type 0) → OrderView → HarvestView → Type 0
+AfterGuess sweeps Makes order harvest =
     Makes order harvest
     ⊎ ((raised : HarvestView) ×
     (IsGuessed order raised ×
@@ -87,14 +97,14 @@ AreSweeps lifters (suc n) order harvest =
     ((again : OrderView) ×
     ((¬ IsSettledHarvest first) × IsOrderAgain again first × AfterGuess n (AreSweeps lifters n) again harvest))))
 
--- These sweeps turned the first order into the last, and none of them settled it.
+-- These sweeps left the last order of the first one, and none of them settled it.
 abbrev pub Leave : ℕ → ℕ → OrderView → OrderView → Type 0
 Leave lifters zero order last = order ≡ last
 Leave lifters (suc n) order last =
     (first : HarvestView) × (again : OrderView) ×
     (IsSweptBy lifters order first × (¬ IsSettledHarvest first) × IsOrderAgain again first × Leave lifters n again last)
 
--- settling made the harvest of an order, by this many sweeps, with certified guesses before or between them
+-- what settling makes of an order, by this many sweeps: sweeps, and certified guesses before or between them
 abbrev pub Settles : ℕ → ℕ → OrderView → HarvestView → Type 0
 Settles lifters n order harvest = AfterGuess n (AreSweeps lifters n) order harvest
 

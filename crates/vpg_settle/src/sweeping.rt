@@ -1,5 +1,5 @@
-//! Sweeps: the work of the lines `settle` and `harvest` on an order.
-ghost use Rattle.std.specs.Prelude.{◌≡◌, ◌+◌, ◌<◌, ◌≤◌, ℕ, sum, IfOk, IfErr, IfSome, IsTrue, Some};
+//! Sweeps: what the lines `settle` and `harvest` make of an order.
+ghost use Rattle.std.specs.Prelude.{◌≡◌, ◌⊎◌, ◌+◌, ◌<◌, ◌≤◌, ℕ, sum, IfOk, IfErr, IfSome, IsTrue, Some};
 ghost use Rattle.vpg_measure.specs.Lifts.{after_rounds};
 ghost use Rattle.vpg_measure.specs.Orders.{IsSameOrder, IsHarvest, IsSettledOrder, IsSettledHarvest, order_table, harvest_table, order_levels, order_arena};
 ghost use Rattle.vpg_board.specs.Places.{vertices};
@@ -13,24 +13,24 @@ use vpg_guess::{Groundwork, harvest_by_bounds, harvest_by_bounds_at_once};
 use vpg_measure::{Harvest, Order, Table};
 use vpg_verdict::Which;
 
-/// The greatest number of a line that asks for sweeps alone.
+/// A line with so small a number asks for sweeps alone.
 pub const FEW_SWEEPS: u64 = 4;
 
 /// The sweeps that come before a guess at tables of zeros: a simple game is settled by them. A guess at others begins
 /// with a round of lifts itself.
 pub const FIRST_SWEEPS: u64 = 1;
 
-/// The number of edges and vertices that a guess at both tables may look at, in all its parts together.
+/// How many edges and vertices a guess at both tables may look at, in all its parts together.
 pub const BUDGET: u64 = 1 << 27;
 
-/// The number of a line from which on its sweeps after a guess may end early. They end if the tables exceed those that
-/// the line began with, in sum, by the line's number: nobody waits for a million sweeps.
+/// From so many sweeps on, the sweeps behind a guess end where the tables exceed those that the line began with, in
+/// sum, by the line's number: nobody waits for a million sweeps.
 pub const MANY_SWEEPS: u64 = 1_000_000;
 
-/// The number of sweeps after a guess before that is checked.
+/// How many sweeps there are behind a guess before that is asked.
 pub const LAST_SWEEPS: u64 = 16;
 
-/// Returns a settled order as it stands.
+/// A settled order as it stands.
 fn as_it_stands(order: Order) -> Harvest
     requires { IsSettledOrder order }
     ensures swept { (sweeps : ℕ) → IsSweptOrder order sweeps result }
@@ -42,7 +42,7 @@ fn as_it_stands(order: Order) -> Harvest
     harvest.noted()
 }
 
-/// Returns the order after at most this many rounds of one lifter. It takes no memory.
+/// The order after this many rounds of one lifter at most. It takes no memory.
 fn by_rounds(order: Order, rounds: u64) -> Harvest
     ensures swept { IsSweptOrder order rounds result }
     ensures tables { (which : Which) →
@@ -55,14 +55,14 @@ fn by_rounds(order: Order, rounds: u64) -> Harvest
     harvest
 }
 
-/// The harvest of the sweeps of an order, and how many there were.
+/// What sweeps made of an order, and how many there were.
 #[derive(Drop)]
 pub struct SweptHarvest {
     pub harvest: Harvest,
     pub sweeps: u64,
 }
 
-/// Returns the order after one sweep. Only here is a sweep known to be one, by this many lifters.
+/// The order after one sweep. Here alone a sweep is known to be one, by so many lifters.
 fn sweep<G: Gate + Sync, T: Threads + Wait + Sync>(
     rt: &T,
     alloc: Global,
@@ -79,8 +79,8 @@ fn sweep<G: Gate + Sync, T: Threads + Wait + Sync>(
     sweep_along(rt, alloc, order, lifters, gate, predecessors)
 }
 
-/// Sweeps an order until a sweep settles it, and at most this many times. If none settles it, the order that they left
-/// comes back.
+/// Sweeps an order until a sweep settles it, and so many times at most. The order that they left comes back where none
+/// settled it.
 pub fn sweep_often<G: Gate + Sync, T: Threads + Wait + Sync>(
     rt: &T,
     alloc: Global,
@@ -113,7 +113,7 @@ pub fn sweep_often<G: Gate + Sync, T: Threads + Wait + Sync>(
     Err(order)
 }
 
-/// Returns the order after at most this many sweeps.
+/// The order after this many sweeps at most.
 fn by_sweeps<G: Gate + Sync, T: Threads + Wait + Sync>(
     rt: &T,
     alloc: Global,
@@ -140,7 +140,7 @@ fn by_sweeps<G: Gate + Sync, T: Threads + Wait + Sync>(
     }
 }
 
-/// Returns the sum of a table's values, if it can be counted.
+/// The sum of a table's values, where it can be counted.
 fn sum_of(table: &Table) -> Option<u128>
     ensures { IfSome result (λ total. total ≡ sum table.now) }
 {
@@ -151,8 +151,8 @@ fn sum_of(table: &Table) -> Option<u128>
     Some(total)
 }
 
-/// Returns the sum that tables have to reach before a line's sweeps may end early. None if there are few of them: they
-/// are all made.
+/// The sum that tables have to reach before a line's sweeps may end early. None where there are few of them: they are
+/// all made.
 fn goal_of(order: &Order, sweeps: u64) -> Option<u128>
     ensures goal { IfSome result (λ goal. sum order.now.hopeful + sum order.now.dual + sweeps ≤ goal) }
     ensures many { IfSome result (λ _. 1000000 ≤ sweeps) }
@@ -178,7 +178,7 @@ fn is_reached(harvest: &Harvest, goal: u128) -> bool
     }
 }
 
-/// Whether a harvest is settled, or reached the goal after enough sweeps.
+/// Whether a harvest is settled, or reached the goal behind enough sweeps.
 fn is_enough(harvest: &Harvest, done: u64, goal: u128) -> bool
     ensures settled { IsSettledHarvest harvest.now → IsTrue result }
     ensures enough { IsTrue result → (¬ IsSettledHarvest harvest.now) →
@@ -191,7 +191,7 @@ fn is_enough(harvest: &Harvest, done: u64, goal: u128) -> bool
     LAST_SWEEPS <= done && is_reached(harvest, goal)
 }
 
-/// Returns the order after at most this many sweeps: they end if one settles it, or if its tables reach the goal after
+/// The order after this many sweeps at most: they end where one settles it, or where its tables reach the goal behind
 /// some sweeps.
 fn by_sweeps_to<G: Gate + Sync, T: Threads + Wait + Sync>(
     rt: &T,
@@ -225,7 +225,7 @@ fn by_sweeps_to<G: Gate + Sync, T: Threads + Wait + Sync>(
     }
 }
 
-/// Sweeps as `by_sweeps_to` does if there is a goal, and else makes all sweeps. Lifters hint at what to lift next.
+/// The same where there is a goal, and else all sweeps. Lifters hint at what to lift next.
 fn by_hints<G: Gate + Sync, T: Threads + Wait + Sync>(
     rt: &T,
     alloc: Global,
@@ -248,7 +248,7 @@ fn by_hints<G: Gate + Sync, T: Threads + Wait + Sync>(
     }
 }
 
-/// Returns the order raised by certified guesses: by two threads, one for each table, if there are several lifters.
+/// The order raised by certified guesses: by two threads, one for each table, where there are several lifters.
 fn raise_tables<T: Threads + Wait + Sync>(
     rt: &T,
     alloc: Global,
@@ -267,8 +267,7 @@ fn raise_tables<T: Threads + Wait + Sync>(
     }
 }
 
-/// Raises an order as `raise_tables` does. Out of memory the order comes back. Only here is a raise known to be one of
-/// guesses.
+/// The same. Out of memory it comes back. Here alone a raise is known to be one of guesses.
 fn guess<T: Threads + Wait + Sync>(
     rt: &T,
     alloc: Global,
@@ -284,7 +283,8 @@ fn guess<T: Threads + Wait + Sync>(
     raise_tables(rt, alloc, order, lifters, kept)
 }
 
-/// Returns the order raised by guesses, and swept from there if they don't settle it. Out of memory it is swept alone.
+/// The order raised by guesses, and swept from there where they don't settle it: this many times, or up to the goal.
+/// Out of memory it is swept alone.
 fn by_guesses<G: Gate + Sync, T: Threads + Wait + Sync>(
     rt: &T,
     alloc: Global,
@@ -313,23 +313,21 @@ fn by_guesses<G: Gate + Sync, T: Threads + Wait + Sync>(
     }
 }
 
-/// Whether a table has a value above zero. Usually its page was settled before then, and only the last change is left
-/// to work out.
+/// Whether a table has a value above zero: then its page was settled before, mostly, and a change is what is left.
 fn has_risen(table: &Table) -> bool {
     table.values().iter().any(|value| *value != 0)
 }
 
-/// Sweeps an order at most this many times, by this many lifters at once, unless it is settled as it stands. Before the
-/// sweeps its tables are raised by guesses. If they are of zeros, a first sweep comes before that, and may settle them;
-/// it goes without hints, so one lifter's raises what a round raises. It never fails: if there is no memory for a
-/// board, a hint or a guess, the sweeps go on without. The lifters call the gate.
+/// The order swept this many times at most, by this many lifters at once, unless it is settled as it stands. Its tables
+/// are raised by guesses before the sweeps; or behind a first one where they are of zeros, and it doesn't settle them.
+/// That one goes without hints: one lifter's then raises what a round raises. It never fails: where a board, a hint or
+/// a guess finds no memory, the sweeps go on without. The lifters call the gate.
 ///
-/// A guess has one budget for both tables; when it is used up, the tables known by then are certified and raised. With
-/// two lifters or more each table has a thread and half of the budget. Sweeps follow, up to the number. From
-/// `MANY_SWEEPS` on they end, settled or not, if the tables exceed the order's in sum by the number.
+/// A guess has one budget for both tables; when it is spent, what is known until then is certified and raised. With two
+/// lifters or more each table has a thread and half of the budget. Sweeps follow, up to the number. From `MANY_SWEEPS`
+/// on they end, settled or not, where the tables exceed the order's in sum by the number.
 ///
-/// What guesses derive from the game alone is kept for the next order of the same game. With nothing kept a guess makes
-/// it.
+/// What guesses make of the game alone is kept for the next order of the same game. With nothing kept a guess makes it.
 pub fn swept<G: Gate + Sync, T: Threads + Wait + Sync>(
     rt: &T,
     alloc: Global,
@@ -342,11 +340,18 @@ pub fn swept<G: Gate + Sync, T: Threads + Wait + Sync>(
     requires lifters { (1 ≤ lifters) × (lifters ≤ 64) }
     ensures swept { IsSweptOrder order sweeps result.harvest }
 
-    // At most this many sweeps, each by this many lifters, and certified guesses made the harvest.
+    // At most so many sweeps, each by this many lifters, and certified guesses made the harvest.
     ensures few { result.sweeps ≤ sweeps }
     ensures made { Settles lifters result.sweeps order result.harvest }
 
-    // Without sweeps nothing is raised.
+    // A harvest that isn't settled had all its sweeps; of 1,000,000 or more at least 17.
+    ensures ended { HasEnded sweeps result.sweeps result.harvest }
+
+    // Where so many rounds settle both tables the harvest is settled: up to 16, or up to any number below 1,000,000.
+    ensures rounds { (rounds : ℕ) → rounds ≤ sweeps → (rounds ≤ 16) ⊎ (sweeps < 1000000) →
+        RoundsSettleOrder rounds order → IsSettledHarvest result.harvest }
+
+    // No sweep raises nothing.
     ensures none { sweeps ≡ 0 → (which : Which) → harvest_table which result.harvest ≡ order_table which order }
 
     // A settled order is not swept.
