@@ -59,7 +59,10 @@ pub traced : {E : Type 0} (r : Result (Unit {0}) E) (order : OrderView) (told : 
     OnOk r (Appends (TellsTraced told (scene_of order.game order.diagram) limits vertex order.decisions order.hopeful order.dual) before after)
 traced (Ok done) order told behaviour limits vertex before after is (text, tells, appended) = (
   text,
-  (subst (λ (b : Option Behaviour). TellsTraced b (scene_of order.game order.diagram) limits vertex order.decisions order.hopeful order.dual text) (sym is)
-      (subst (λ (p : Page). TellsTrace p behaviour limits vertex text) (same_page order) tells), appended),
+  (
+    subst (λ (b : Option Behaviour). TellsTraced b (scene_of order.game order.diagram) limits vertex order.decisions order.hopeful order.dual text) (sym is)
+        (subst (λ (p : Page). TellsTrace p behaviour limits vertex text) (same_page order) tells),
+    appended,
+  ),
 )
 traced (Err e) order told behaviour limits vertex before after is tells = tt
