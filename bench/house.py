@@ -4,7 +4,7 @@
     python3 bench/house.py [COMMIT..]       at the top of the repository: of the files as they are and as they were
 
 A line of the table for each count, a column for each commit, the last for the files as they are. Documents are all .md
-files but docs/DEFINITIONS.md and docs/API.md, which scripts write. A sentence ends at `.`, `:`, `;`, `?` or `!` before
+files but docs/DEFINITIONS.md and docs/API.md, which scripts write, and bench/log, which is kept as it was written. A sentence ends at `.`, `:`, `;`, `?` or `!` before
 a capital letter; tables, code and headings are left out. Words of the dialect (none in code), and what to say instead:
 
     told, tell, tells       report, say, return, know       first table, second table   the hopeful table, the dual one
@@ -86,7 +86,7 @@ def defined_twice(texts):
 
 def is_document(path):
     """Whether a path is that of a document written by hand."""
-    return path.endswith(".md") and path not in GENERATED
+    return path.endswith(".md") and path not in GENERATED and not path.startswith("bench/log/")
 
 
 def comments(texts, folder):

@@ -1,17 +1,18 @@
 -- Two traces are one text.
-use Rattle.std.proofs.Common.{◌≡◌, ℕ, Option, Some, None, List, sym, ap, ap₂, ◌∙◌, inl, inr}
-use Rattle.std.specs.Prelude.{slice_index}
+use Rattle.std.proofs.Common.{◌≡◌, ℕ, Option, Some, None, List, Result, Ok, Err, refl, sym, subst, ap₂, ◌∙◌, inl, inr}
+use Rattle.std.specs.Prelude.{OnOk}
+use Rattle.vpg_measure.specs.Orders.{OrderView}
 use Rattle.vpg_guards.specs.declared.tri.Tri.{Tri}
 use Rattle.vpg_checking.specs.Behaviours.{Behaviour}
-use Rattle.vpg_trace.specs.Answering.{Page, TellsWon, TellsTrace, walk_text}
+use Rattle.vpg_trace.specs.Answering.{Appends as Wrote, Page, TellsWon, TellsTrace, page_of, walk_text}
 use Rattle.vpg_verdict.specs.declared.which.Which.{Which}
 use Rattle.vpg_verdict.specs.declared.which.Which.TheVariants.{Hopeful, Dual}
 use Rattle.vpg_partial.specs.declared.decision.Decision.{Decision}
-use Rattle.vpg_texts.specs.Scene.{Scene}
+use Rattle.vpg_texts.specs.Scene.{Scene, scene_of}
 use Rattle.vpg_texts.proofs.Planned.{known_is_one}
 use Rattle.vpg_why.specs.Explained.{choices}
 use Rattle.vpg_why.specs.declared.question.Limits.{Limits}
-use Rattle.vpg_answers.specs.Answers.{HasDoubt, TellsTraced, page_in}
+use Rattle.vpg_answers.specs.Answers.{Appends, HasDoubt, TellsTraced, page_in}
 use Rattle.vpg_answers.proofs.OneMoves.{moves_one}
 
 module _ (scene : Scene) (limits others : Limits) (vertex : ℕ) (decisions : List Decision) (hopeful dual : List ℕ) where
@@ -46,3 +47,22 @@ module _ (scene : Scene) (limits others : Limits) (vertex : ℕ) (decisions : Li
       ¬ (HasDoubt one) → ¬ (HasDoubt other) → one ≡ other
   traced_one None one other a b sure also = absurd a
   traced_one (Some behaviour) one other a b sure also = trace_one behaviour one other a b sure also
+
+-- ---- the page of an order
+
+pub same_page : (order : OrderView) → page_of order ≡ page_in (scene_of order.game order.diagram) order.decisions order.hopeful order.dual
+same_page order = refl
+
+-- what is told of the page of an order is told of its scene
+pub traced : {E : Type 0} (r : Result (Unit {0}) E) (order : OrderView) (told : Option Behaviour) (behaviour : Behaviour) (limits : Limits) (vertex : ℕ) (before after : List ℕ) → told ≡ Some behaviour →
+    OnOk r (Wrote (TellsTrace (page_of order) behaviour limits vertex) before after) →
+    OnOk r (Appends (TellsTraced told (scene_of order.game order.diagram) limits vertex order.decisions order.hopeful order.dual) before after)
+traced (Ok done) order told behaviour limits vertex before after is (text, tells, appended) = (
+  text,
+  (
+    subst (λ (b : Option Behaviour). TellsTraced b (scene_of order.game order.diagram) limits vertex order.decisions order.hopeful order.dual text) (sym is)
+        (subst (λ (p : Page). TellsTrace p behaviour limits vertex text) (same_page order) tells),
+    appended,
+  ),
+)
+traced (Err e) order told behaviour limits vertex before after is tells = tt

@@ -1,4 +1,4 @@
--- What answers say of a page. This project's own.
+-- The meaning of answers about a page. This project's own.
 use Rattle.std.specs.Prelude.{◌≡◌, ◌≢◌, ℕ, ◌<◌, ⊤, ◌⊎◌, Bool, true, false, Option, Some, None, List, [], ◌++◌, codes, length, slice_index, IsTrue}
 use Rattle.vpg_guards.specs.declared.tri.Tri.{Tri}
 use Rattle.vpg_diagram.specs.FeatureDiagram.{IsDiagram}
@@ -36,12 +36,12 @@ use Rattle.vpg_answers.specs.Parts.{TellsPart}
 use Rattle.vpg_answers.specs.Repairs.{AreSingles}
 use Rattle.vpg_answers.specs.Room.{RoundsSettle, SearchEnds}
 
--- the choices alone make it so, in the scene's game and diagram
+-- these choices alone are the question's reason, in the scene's game and diagram
 abbrev pub MakeSo : Scene → Question → List Literal → Type 0
 MakeSo scene question = SufficeIn scene.game scene.lines question
 
--- Some of the page's decisions that alone make it so, in its order; where `exact`, none of them can be left out, and
--- there is one such list.
+-- Some of the page's decisions that alone are the reason, in its order. If `exact`, none of them can be left out, and
+-- there is only one such list.
 abbrev pub IsReason : Scene → Question → List Decision → (listed : List Decision) → (exact : Bool) → Type 0
 IsReason scene question decisions listed exact = Explains (MakeSo scene question) decisions listed exact
 
@@ -50,7 +50,7 @@ IsReason scene question decisions listed exact = Explains (MakeSo scene question
 abbrev pub identifier_of : Scene → ℕ → ℕ
 identifier_of scene vertex = slice_index scene.identifiers vertex
 
--- The page's table has the top at the vertex, and these decisions make it so, exactly where the limits leave room; or
+-- The page's table has the top at the vertex, and these decisions are the reason, exactly if the limits leave room; or
 -- it hasn't.
 abbrev pub TellsVerdict : Scene → Limits → Which → (vertex : ℕ) → List Decision → (table text : List ℕ) → Type 0
 TellsVerdict scene limits which vertex decisions table text =
@@ -60,7 +60,7 @@ TellsVerdict scene limits which vertex decisions table text =
     × (RoundsSettle scene limits.rounds which → IsTrue exact)))
     ⊎ (¬ (slice_index table vertex ≡ top_for which scene.game) × (text ≡ other_line which (identifier_of scene vertex)))
 
--- both verdicts of a vertex
+-- the text of both verdicts of a vertex
 abbrev pub TellsVertex : Scene → Limits → (vertex : ℕ) → List Decision → (hopeful dual text : List ℕ) → Type 0
 TellsVertex scene limits vertex decisions hopeful dual text =
     (first : List ℕ) × (second : List ℕ) × TellsVerdict scene limits Hopeful vertex decisions hopeful first ×
@@ -68,13 +68,13 @@ TellsVertex scene limits vertex decisions hopeful dual text =
 
 -- ---- a feature
 
--- it is known so, by these decisions
+-- it is known to have this value, by these decisions
 abbrev pub TellsKnownBy : Scene → (feature : ℕ) → (value : Bool) → List Decision → (text : List ℕ) → Type 0
 TellsKnownBy scene feature value decisions text =
     (listed : List Decision) × IsReason scene (asks.Known feature value) decisions listed true ×
     (text ≡ known_line scene.names value feature listed)
 
--- the decisions don't make it known so
+-- the decisions don't make this value known
 abbrev pub IsNotKnown : Scene → (feature : ℕ) → (value : Bool) → List Decision → Type 0
 IsNotKnown scene feature value decisions = ¬ (MakeSo scene (asks.Known feature value) (choices decisions))
 
@@ -96,8 +96,8 @@ TellsChoice scene feature value decisions text =
 
 -- ---- a product
 
--- A product that is left and meets the aim (any one, or one in which the verdict's loser wins from the vertex), the
--- first one where the limits leave room.
+-- A product left that meets the aim (any one, or one in which the verdict's loser wins from the vertex), the first one
+-- if the limits leave room.
 abbrev pub TellsProduct : Scene → Limits → Aim → List Decision → (text : List ℕ) → Type 0
 TellsProduct scene limits aim decisions text =
     (set : List Bool) × (first : Bool) × IsRemaining scene.lines (choices decisions) set × MeetsIn scene.game aim set
@@ -112,12 +112,12 @@ TellsExample scene limits aim decisions text =
     ⊎ (NoneMeetsIn scene.game scene.lines aim (choices decisions) × (text ≡ none_line))
     ⊎ (¬ (SearchEnds scene limits aim) × (text ≡ unsettled_line))
 
--- what holds where no product that is left meets the aim: there is none at all, or the vertex is lost, or won
+-- the head of the line if no product left meets the aim: there is none at all, or the vertex is lost, or won
 abbrev pub lost_for : Scene → Aim → List ℕ
 lost_for scene aims.Any = codes "empty"
 lost_for scene (aims.Won which vertex) = lost_head which (identifier_of scene vertex)
 
--- These decisions of the page alone leave no such product, exactly where the limits leave room; or there is one; or the
+-- These decisions of the page alone leave no such product, exactly if the limits leave room; or there is one; or the
 -- limits leave no room.
 abbrev pub TellsLost : Scene → Limits → Aim → List Decision → (text : List ℕ) → Type 0
 TellsLost scene limits aim decisions text =
@@ -129,7 +129,7 @@ TellsLost scene limits aim decisions text =
 
 -- ---- offers
 
--- for each feature that isn't known, what it would make of the vertex to decide it in, and out
+-- for each feature that isn't known, the vertex's verdicts after deciding it in, and out
 abbrev pub TellsOffers : Scene → Limits → (vertex : ℕ) → List Decision → (text : List ℕ) → Type 0
 TellsOffers scene limits vertex decisions text =
     (known : List Tri) × (listed : List Offered) × IsKnownTable scene.lines (choices decisions) known ×
@@ -142,8 +142,8 @@ abbrev pub forced_word : Aim → List ℕ
 forced_word aims.Any = codes "forced"
 forced_word (aims.Won which vertex) = codes "needs"
 
--- What every product has that is left and meets the aim, where there is one; or there is none; or the limits leave no
--- room.
+-- The features that all products left have, or lack, that meet the aim, if there is one; or there is none; or the
+-- limits leave no room.
 abbrev pub TellsForced : Scene → Limits → Aim → List Decision → (text : List ℕ) → Type 0
 TellsForced scene limits aim decisions text =
     ((listed : List Literal) × (exact : Bool) × (set : List Bool) × IsRemaining scene.lines (choices decisions) set ×
@@ -166,7 +166,7 @@ TellsSingles scene limits vertex decisions text =
     AreSingles (IsHopelessBy scene vertex) exact [] decisions listed × (text ≡ singles_text scene.names listed exact)
     × (RoundsSettle scene limits.rounds Hopeful → IsTrue exact)
 
--- none can, where that is shown, and several together can, so that the oldest are kept
+-- none can, if that is shown, and several together can, so that the oldest are kept
 abbrev pub TellsSeveral : Scene → Limits → (vertex : ℕ) → List Decision → (text : List ℕ) → Type 0
 TellsSeveral scene limits vertex decisions text =
     (kept : List Decision) × (given : List Decision) × (exact : Bool) ×
@@ -181,7 +181,7 @@ TellsRetractions scene limits vertex decisions text =
     ⊎ (IsHopelessBy scene vertex [] × (text ≡ none_line))
     ⊎ (¬ (RoundsSettle scene limits.rounds Hopeful) × (text ≡ unsettled_line))
 
--- the page's table has the top at the vertex, and this can be retracted; or it hasn't
+-- the page's table has the top at the vertex, and these decisions can be retracted; or it hasn't
 abbrev pub TellsRepair : Scene → Limits → (vertex : ℕ) → List Decision → (hopeful text : List ℕ) → Type 0
 TellsRepair scene limits vertex decisions hopeful text =
     ((slice_index hopeful vertex ≡ top_for Hopeful scene.game) × TellsRetractions scene limits vertex decisions text)
@@ -190,7 +190,7 @@ TellsRepair scene limits vertex decisions hopeful text =
 
 -- ---- moves
 
--- Moves that win in each product that is left; or the limits leave no room.
+-- Moves that win in each product left; or the limits leave no room.
 abbrev pub TellsWinning : Scene → Limits → (mover : Which) → (vertex : ℕ) → List Decision → (text : List ℕ) → Type 0
 TellsWinning scene limits mover vertex decisions text =
     ((moves : List (Option ℕ)) × AreWinning scene.game scene.lines (choices decisions) mover vertex moves ×
@@ -198,8 +198,8 @@ TellsWinning scene limits mover vertex decisions text =
     ⊎ (¬ (ChoicesSettleInCaution limits.rounds scene.game scene.lines (choices decisions) mover)
     × (text ≡ unsettled_line))
 
--- The moves are Even's for the first table, Odd's for the second. The page's other table has the top at the vertex, so
--- that this player wins, and these moves do it; or it hasn't.
+-- The moves are Even's for the hopeful table, Odd's for the dual. The page's other table has the top at the vertex, so
+-- this player wins, by these moves; or it hasn't.
 abbrev pub TellsMoves : Scene → Limits → (mover : Which) → (vertex : ℕ) → List Decision → (table text : List ℕ) →
     Type 0
 TellsMoves scene limits mover vertex decisions table text =
@@ -210,7 +210,7 @@ TellsMoves scene limits mover vertex decisions table text =
 
 -- ---- traces
 
--- what a trace is of: the scene, and a page with these decisions and tables
+-- the page of a trace: the scene, with these decisions and tables
 abbrev pub page_in : Scene → List Decision → (hopeful dual : List ℕ) → Page
 page_in scene decisions hopeful dual = record {
   game = scene.game;
@@ -222,7 +222,7 @@ page_in scene decisions hopeful dual = record {
   dual = dual;
 }
 
--- How the verdict comes about, as steps of the system that the game was made of. Without one nothing is told.
+-- The trace of the verdict, as steps of the system that the game was made of. Without one there is no answer.
 abbrev pub TellsTraced : Option Behaviour → Scene → Limits → (vertex : ℕ) → List Decision →
     (hopeful dual text : List ℕ) → Type 0
 TellsTraced None scene limits vertex decisions hopeful dual text = ⊥
@@ -231,7 +231,7 @@ TellsTraced (Some behaviour) scene limits vertex decisions hopeful dual text =
 
 -- ---- any
 
--- what is asked of a vertex
+-- the answer to a question about a vertex
 abbrev pub TellsOfVertex : Option Behaviour → Scene → Limits → VertexQuestion → (vertex : ℕ) → List Decision →
     (hopeful dual text : List ℕ) → Type 0
 TellsOfVertex behaviour scene limits questions.Why vertex decisions hopeful dual text =
@@ -253,7 +253,8 @@ TellsOfVertex behaviour scene limits questions.Draw vertex decisions hopeful dua
 TellsOfVertex behaviour scene limits questions.Trace vertex decisions hopeful dual text =
     TellsTraced behaviour scene limits vertex decisions hopeful dual text
 
--- what is asked of the page as a whole: what each product has that is left, or which decisions leave none
+-- the answer to a question about the page as a whole: the features that all products left have or lack, or the
+-- decisions that leave none
 abbrev pub TellsOfPage : Scene → Limits → PageQuestion → List Decision → (text : List ℕ) → Type 0
 TellsOfPage scene limits whole.Forced decisions text = TellsForced scene limits aims.Any decisions text
 TellsOfPage scene limits whole.Empty decisions text = TellsLost scene limits aims.Any decisions text
@@ -268,7 +269,7 @@ Tells behaviour scene limits (queries.OfChoice feature value) decisions hopeful 
 Tells behaviour scene limits (queries.OfPage question) decisions hopeful dual text =
     TellsOfPage scene limits question decisions text
 
--- The text answers what is asked within these limits, of the page with these decisions and tables: decisions of a
+-- The text answers the query within these limits, for the page with these decisions and tables: decisions on a
 -- diagram's features. Traces are of the system that the game was made of.
 pub record IsAnswer (behaviour : Option Behaviour) (scene : Scene) (limits : Limits) (query : Query)
     (decisions : List Decision) (hopeful dual text : List ℕ) : Type 0 where
@@ -276,11 +277,11 @@ pub record IsAnswer (behaviour : Option Behaviour) (scene : Scene) (limits : Lim
   pub named : AreChoicesOf scene.lines (choices decisions)
   pub tells : Tells behaviour scene limits query decisions hopeful dual text
 
--- a text of which it holds was appended
+-- a text with the property was appended
 abbrev pub Appends : (List ℕ → Type 0) → (before after : List ℕ) → Type 0
 Appends Holds before after = (text : List ℕ) × (Holds text × (after ≡ before ++ text))
 
--- the game was made of a system over so many features
+-- the game was made of a system over this many features
 abbrev pub IsOver : ℕ → Option Behaviour → Type 0
 IsOver features None = ⊥
 IsOver features (Some behaviour) = behaviour.features ≡ features
@@ -290,7 +291,7 @@ abbrev pub HasItsSystem : ℕ → Option Behaviour → VertexQuestion → Type 0
 HasItsSystem features behaviour questions.Trace = IsOver features behaviour
 HasItsSystem features behaviour _ = ⊤
 
--- the vertex or the feature that is asked of is one of so many, and a trace is of a system
+-- the vertex or the feature of the query is below these counts, and a trace is of a system
 abbrev pub IsWithin : Option Behaviour → (vertices features : ℕ) → Query → Type 0
 IsWithin behaviour vertices features (queries.OfVertex question vertex) =
     (vertex < vertices) × HasItsSystem features behaviour question
@@ -298,9 +299,8 @@ IsWithin behaviour vertices features (queries.OfFeature feature) = feature < fea
 IsWithin behaviour vertices features (queries.OfChoice feature value) = feature < features
 IsWithin behaviour vertices features (queries.OfPage question) = ⊤
 
--- A limit was met: somewhere in the text a line says that fewer decisions may do, or at its end that there may be more
--- lines; or it tells of some product, or of none but that it is unsettled; or it is unsettled what some decision would
--- make.
+-- A limit was met. Some line says that fewer decisions may do, or the text's end says that there may be more lines. Or
+-- the text gives some product, or only says that it is unsettled; or it is unsettled what some decision would change.
 abbrev pub HasDoubt : List ℕ → Type 0
 HasDoubt text =
     ((before : List ℕ) × (behind : List ℕ) × (text ≡ before ++ codes " or fewer\n" ++ behind))

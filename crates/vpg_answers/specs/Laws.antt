@@ -1,4 +1,4 @@
--- What holds of answers, as a statement.
+-- The law of answers, as a statement.
 use Rattle.std.specs.Prelude.{◌≡◌, ℕ, Option, List}
 use Rattle.vpg_checking.specs.Behaviours.{Behaviour}
 use Rattle.vpg_partial.specs.declared.decision.Decision.{Decision}
@@ -7,7 +7,7 @@ use Rattle.vpg_why.specs.declared.question.Limits.{Limits}
 use Rattle.vpg_answers.specs.declared.query.Query.{Query}
 use Rattle.vpg_answers.specs.Answers.{IsAnswer, HasDoubt}
 
--- Two answers to one question about one page are the same text, where no limit was met: whatever the limits were.
+-- Two answers to one question about one page are the same text if no limit was met, whatever the limits were.
 abbrev pub AnswersAreOne : Type 0
 AnswersAreOne =
     (behaviour : Option Behaviour) (scene : Scene) (limits others : Limits) (query : Query) (decisions : List Decision)

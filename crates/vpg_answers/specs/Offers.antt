@@ -1,4 +1,4 @@
--- What each further decision would make of a vertex. This project's own.
+-- The verdicts of a vertex after each further decision. This project's own.
 use Rattle.std.specs.Prelude.{◌≡◌, ◌≢◌, ℕ, zero, suc, Bool, true, false, List, [], ◌∷◌, ◌++◌, map, slice_index_or}
 use Rattle.std.specs.List.{AllByRecursion}
 use Rattle.vpg_guards.specs.declared.tri.Tri.{Tri}
@@ -21,21 +21,21 @@ use Rattle.vpg_why.specs.declared.question.Shown.TheVariants as shown
 use Rattle.vpg_answers.specs.declared.offers.Offered.{Offered}
 use Rattle.vpg_answers.specs.Room.{RoundsSettle}
 
--- Whether these choices alone make the verdict so, as it was shown; and it was shown, where the limits leave room.
+-- Whether these choices alone are the verdict's reason, if it was shown; and it was shown if the limits leave room.
 pub record IsVerdictShown (scene : Scene) (limits : Limits) (vertex : ℕ) (choices : List Literal) (which : Which)
     (answer : Shown) : Type 0 where
   pub yes : answer ≡ shown.Yes → SufficeIn scene.game scene.lines (asks.Verdict which vertex) choices
   pub no : answer ≡ shown.No → SufficeIn scene.game scene.lines (asks.Verdict which vertex) choices → ⊥
   pub settled : RoundsSettle scene limits.rounds which → answer ≢ shown.Unsettled
 
--- the choices contradict one another, or make these verdicts
+-- the choices contradict one another, or give these verdicts
 abbrev pub IsOfferOf : Scene → Limits → (vertex : ℕ) → List Literal → Offer → Type 0
 IsOfferOf scene limits vertex choices offers.Conflict = HasConflictOf scene.lines choices
 IsOfferOf scene limits vertex choices (offers.Verdict hopeless sure) =
     ¬ (HasConflictOf scene.lines choices) × IsVerdictShown scene limits vertex choices Hopeful hopeless ×
     IsVerdictShown scene limits vertex choices Dual sure
 
--- what the page's decisions would make of the vertex together with this choice
+-- the offer of the page's decisions together with this choice, at the vertex
 abbrev pub IsOffered : Scene → Limits → (vertex : ℕ) → List Decision → Offered → Type 0
 IsOffered scene limits vertex decisions offered =
     IsOfferOf scene limits vertex (choices decisions ++ offered.choice ∷ []) offered.offer
@@ -50,7 +50,7 @@ abbrev pub open_choices : List Tri → ℕ → List Literal
 open_choices known zero = []
 open_choices known (suc n) = open_choices known n ++ both_if (is_value (slice_index_or known n Unknown) Unknown) n
 
--- The choices of the first n features that are open, in and then out, and what each would make of the vertex.
+-- The choices of the first n features that are open, in and then out, with the offer of each at the vertex.
 pub record AreOffers (scene : Scene) (limits : Limits) (vertex : ℕ) (decisions : List Decision) (known : List Tri)
     (n : ℕ) (listed : List Offered) : Type 0 where
   pub each : map (λ o. o.choice) listed ≡ open_choices known n

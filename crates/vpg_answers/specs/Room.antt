@@ -14,19 +14,19 @@ use Rattle.vpg_why.specs.declared.question.Aim.{Aim}
 use Rattle.vpg_why.specs.declared.question.Aim.TheVariants as aims
 use Rattle.vpg_why.specs.declared.question.Limits.{Limits}
 
--- whatever was chosen, so many rounds of lifts from zeros leave a progress table
+-- for any choices, this many rounds of lifts from zeros leave a progress table
 abbrev pub RoundsSettle : Scene → (rounds : ℕ) → Which → Type 0
 RoundsSettle scene rounds which = (choices : List Literal) (known : List Tri) → IsKnownTable scene.lines choices known →
     IsProgressTable (levels_for which scene.game) (arena_for (kleene known) which scene.game)
     (after_rounds (levels_for which scene.game) (arena_for (kleene known) which scene.game) rounds
     (replicate (length (arena_for (kleene known) which scene.game)) 0))
 
--- the tables that a search for such a product asks for are settled: none, where any product does
+-- the tables that a search for such a product needs are settled; it needs none if any product will do
 abbrev pub RoundsSettleFor : Scene → (rounds : ℕ) → Aim → Type 0
 RoundsSettleFor scene rounds aims.Any = ⊤
 RoundsSettleFor scene rounds (aims.Won which vertex) = RoundsSettle scene rounds which
 
--- and the trials suffice for each case that it may come to
+-- and the trials suffice for each case that the search may come to
 abbrev pub SearchEnds : Scene → Limits → Aim → Type 0
 SearchEnds scene limits aim =
     RoundsSettleFor scene limits.rounds aim × (most_trials (feature_count scene.lines + 1) ≤ limits.trials)

@@ -1,4 +1,4 @@
-//! Answering a query.
+//! Answers to queries.
 ghost use Rattle.std.specs.Prelude.{◌<◌, length, OnOk};
 ghost use Rattle.vpg_answers.specs.Answers.{Appends, HasItsSystem, IsAnswer, IsWithin, TellsOfPage, TellsOfVertex};
 ghost use Rattle.vpg_diagram.specs.FeatureDiagram.{feature_count};
@@ -13,7 +13,7 @@ use vpg_script::{PageQuestion, VertexQuestion};
 use vpg_verdict::Which;
 use vpg_why::{Aim, Limits};
 
-/// The text of an answer about a vertex.
+/// Appends the answer about a vertex.
 fn of_vertex(
     alloc: Global,
     order: &Order,
@@ -49,7 +49,7 @@ fn of_vertex(
     }
 }
 
-/// The text of an answer about the page as a whole.
+/// Appends the answer about the page as a whole.
 fn of_page(
     alloc: Global,
     order: &Order,
@@ -67,7 +67,7 @@ fn of_page(
     }
 }
 
-/// The text of an answer.
+/// Appends the answer to a query.
 fn told(
     alloc: Global,
     order: &Order,
@@ -81,7 +81,7 @@ fn told(
         (IsAnswer behaviour.now (scene_of order.now.game order.now.diagram) limits query order.now.decisions
         order.now.hopeful order.now.dual) out.old.items out.new.items) }
 {
-    // What every order keeps, for the proof.
+    // The invariant of every order, for the proof.
     let _order = order.game();
     match query {
         Query::OfVertex { question, vertex } => {
@@ -93,11 +93,11 @@ fn told(
     }
 }
 
-/// Appends the answer to what is asked of an order's page. The one error is want of memory; a part may have been
-/// appended then.
+/// Appends the answer to a query about an order's page. The one error is out of memory; a part may have been appended
+/// then.
 ///
 /// A trace needs the system that the order's game was made of, over the features of its diagram; no other query does.
-/// The order is taken, since to let it go costs the prover time: it is done here alone.
+/// The function takes the order, since dropping it costs the prover time: it is dropped only here.
 pub fn answer(
     alloc: Global,
     order: Order,

@@ -1,4 +1,4 @@
-//! Pictures of what matters at a vertex.
+//! Pictures of the part of a game that decides a vertex.
 ghost use Rattle.std.specs.Prelude.{◌≡◌, ◌<◌, OnOk, length, slice_index};
 ghost use Rattle.vpg_answers.specs.Answers.{Appends};
 ghost use Rattle.vpg_answers.specs.Parts.{DrawsWinning, IsPartDrawn, TellsPart};
@@ -25,7 +25,7 @@ use vpg_texts::verdicts_by;
 use vpg_verdict::Which;
 use vpg_why::{Limits, Moves, reachable, winning_moves};
 
-/// The player whose moves are asked for.
+/// Returns the player of the listed moves.
 fn player(mover: Which) -> Player
     ensures { result ≡ loser mover }
 {
@@ -35,8 +35,8 @@ fn player(mover: Which) -> Player
     }
 }
 
-/// The picture of what can be reached from the vertex, where the mover makes the listed moves, over what the decisions
-/// make of the game.
+/// Appends the picture of the vertices that can be reached from this one, if the mover makes the listed moves, over the
+/// games that the decisions leave.
 fn part_over(
     alloc: Global,
     game: &GuardedGame,
@@ -79,7 +79,7 @@ fn part_over(
     )
 }
 
-/// The picture of what can be reached from the vertex, where the mover makes the listed moves.
+/// Appends the picture of the vertices that can be reached from this one, if the mover makes the listed moves.
 fn drawn(
     alloc: Global,
     order: &Order,
@@ -108,8 +108,8 @@ fn drawn(
     )
 }
 
-/// The picture with the moves of a player, Even for the first table and Odd for the second, where the page says that
-/// this player wins.
+/// Appends the picture with the moves of a player, Even for the hopeful table and Odd for the dual, if the page says
+/// that this player wins.
 fn winning(
     alloc: Global,
     order: &Order,
@@ -132,8 +132,9 @@ fn winning(
     }
 }
 
-/// A picture of what matters at a vertex: where it is hopeless, what can be reached by Odd's moves that win in every
-/// product that is left; else where it is sure, by Even's; else whatever can be reached.
+/// Appends a picture of the part of the game that decides a vertex. If it is hopeless, these are the vertices reached
+/// by Odd's moves that win in every product left. Else if it is sure, they are those reached by Even's; else all that
+/// can be reached.
 pub(crate) fn part(
     alloc: Global,
     order: &Order,

@@ -10,8 +10,8 @@ use std::alloc::{AllocError, Global};
 use vpg_measure::Order;
 use vpg_why::{Aim, Found, Limits, find};
 
-/// A product that is left and meets the aim: in which Even wins from the vertex, for the first table, or Odd, for the
-/// second; or that there is none.
+/// Appends a product left that meets the aim, or that there is none. In such a product Even wins from the vertex, for
+/// the hopeful table, or Odd, for the dual.
 pub(crate) fn example(
     alloc: Global,
     order: &Order,

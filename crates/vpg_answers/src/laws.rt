@@ -1,7 +1,7 @@
 //! Laws of the definitions. Each function does nothing: its contract is the law.
 ghost use Rattle.vpg_answers.specs.Laws.{AnswersAreOne};
 
-/// An answer is a function of the page, where no limit was met.
+/// An answer is a function of the page, if no limit was met.
 pub fn answers_are_one()
     ensures { AnswersAreOne }
 {}

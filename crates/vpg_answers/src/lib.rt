@@ -1,22 +1,22 @@
 //! Answers about a page, as texts.
 //!
 //! `answer` takes the order of a page and a `Query`: why a feature is known, why one more decision contradicts the
-//! page, or a `VertexQuestion`. Those are: why the vertex has its verdicts, which product is left and won or lost at
-//! it, what each further decision would make of it, what every product has that is left and won at it, what to retract
-//! so that it is possible, why it is lost (or won) in every product that is left, by which moves Odd (or Even) wins
-//! from it in all of them, a picture of what can be reached from it, by such moves where there are some, and a trace of
-//! how its verdict comes about, as steps of the system that the game was made of. Or it is a
-//! `PageQuestion`: what every product has that is left, and which decisions leave none. The crate of scripts has these
-//! questions, since its lines spell them. This one asks the crates of reasons and of moves below, and appends the
-//! lines. The layer above answers lines of scripts by it; it changes nothing.
+//! page, or a `VertexQuestion`. It asks why a vertex has its verdicts, for a product left that is won or lost at it, or
+//! for its verdicts after each further decision. It asks for the features that all products left and won at it have or
+//! lack, or for decisions to retract so that it is possible. It asks why it is lost (or won) in every product left, or
+//! by which moves Odd (or Even) wins from it in all of them. It asks for a picture of all that can be reached from it,
+//! by such moves if there are some. Or it asks for a trace of its verdict, as steps of the system that the game was
+//! made of. A `PageQuestion` asks for features that all products left have or lack, or for decisions that leave none.
+//! The crate of scripts has these questions, since its lines spell them. This one asks the crates of reasons and of
+//! moves below, and appends the lines. The layer above answers lines of scripts by it; it changes nothing.
 //!
-//! An answer is a function of the page where no limit was met (`laws::answers_are_one`), and none is met where the
-//! limits leave room. Where one was, the text says so: ` or fewer`, decisions that suffice and of which some may be
-//! needless; ` or more`, lines to which others may belong; `some product`, one that need not be the first;
-//! `unsettled`, what was not shown.
+//! An answer is a function of the page if no limit was met (`laws::answers_are_one`), and none is met if the limits
+//! leave room. If one was, the text says so. ` or fewer` marks decisions that suffice, some perhaps needlessly; ` or
+//! more` lines to which others may belong; `some product` one that need not be the first; `unsettled` a fact that was
+//! not shown.
 //!
-//! The texts are defined in `specs/Texts`, what they say of a page in `specs/Answers`, `specs/Offers`, `specs/Repairs`
-//! and `specs/Parts`, when limits leave room in `specs/Room`. All are this project's own.
+//! The texts are defined in `specs/Texts`, their meaning for a page in `specs/Answers`, `specs/Offers`, `specs/Repairs`
+//! and `specs/Parts`, and the room of limits in `specs/Room`. All are this project's own.
 #![tactic(auto)]
 
 mod answering;

@@ -18,7 +18,7 @@ fn name_at(names: &Names, feature: u16) -> &[u8]
     names.name(feature).as_bytes()
 }
 
-/// A feature that is in, or out.
+/// Appends a feature that is in, or out.
 pub(crate) fn choice(names: &Names, l: Literal, out: &mut Vec<u8>) -> Result<(), AllocError>
     requires { l.feature < length names.now }
     ensures { OnOk result (out.new.items ≡ out.old.items ++ choice_text names.now l) }
@@ -38,7 +38,7 @@ pub(crate) fn literal(d: &Decision) -> Literal
     }
 }
 
-/// What some decisions choose.
+/// Appends the choices of some decisions.
 fn choices(names: &Names, ds: &[Decision], out: &mut Vec<u8>) -> Result<(), AllocError>
     requires { All (λ d. d.feature < length names.now) ds.now }
     ensures { OnOk result (out.new.items ≡ out.old.items ++ choices_text names.now (map literal_of ds.now)) }
@@ -58,7 +58,7 @@ fn doubt(exact: bool, out: &mut Vec<u8>) -> Result<(), AllocError>
     Ok(())
 }
 
-/// Decisions that make something so, up to the line's end.
+/// Appends decisions that are a reason, up to the line's end.
 pub(crate) fn reason(
     names: &Names,
     listed: &[Decision],
@@ -74,7 +74,7 @@ pub(crate) fn reason(
     Ok(())
 }
 
-/// The word of a verdict.
+/// Appends the word of a verdict.
 pub(crate) fn verdict_word(which: Which, out: &mut Vec<u8>) -> Result<(), AllocError>
     ensures { OnOk result (out.new.items ≡ out.old.items ++ verdict_word which) }
 {
@@ -85,7 +85,7 @@ pub(crate) fn verdict_word(which: Which, out: &mut Vec<u8>) -> Result<(), AllocE
     Ok(())
 }
 
-/// What a table says of a vertex without it.
+/// Appends the word of a table's vertex without the verdict.
 pub(crate) fn other_word(which: Which, out: &mut Vec<u8>) -> Result<(), AllocError>
     ensures { OnOk result (out.new.items ≡ out.old.items ++ other_word which) }
 {
@@ -96,7 +96,7 @@ pub(crate) fn other_word(which: Which, out: &mut Vec<u8>) -> Result<(), AllocErr
     Ok(())
 }
 
-/// A vertex with a verdict, and the decisions that make it so.
+/// Appends a vertex with a verdict, and the decisions that are its reason.
 pub(crate) fn verdict(
     names: &Names,
     which: Which,
@@ -113,7 +113,7 @@ pub(crate) fn verdict(
     reason(names, listed, exact, out)
 }
 
-/// A vertex without it.
+/// Appends a vertex without the verdict.
 pub(crate) fn other(which: Which, identifier: u32, out: &mut Vec<u8>) -> Result<(), AllocError>
     ensures { OnOk result (out.new.items ≡ out.old.items ++ other_line which identifier) }
 {
@@ -133,7 +133,7 @@ fn lost_word(which: Which, out: &mut Vec<u8>) -> Result<(), AllocError>
     Ok(())
 }
 
-/// A vertex that is lost in every product, or won.
+/// Appends a vertex that is lost in every product, or won.
 pub(crate) fn lost_head(which: Which, identifier: u32, out: &mut Vec<u8>) -> Result<(), AllocError>
     ensures { OnOk result (out.new.items ≡ out.old.items ++ lost_head which identifier) }
 {
@@ -152,7 +152,7 @@ fn known_word(value: bool, out: &mut Vec<u8>) -> Result<(), AllocError>
     Ok(())
 }
 
-/// A feature that is known, and the decisions that make it so.
+/// Appends a feature that is known, and the decisions that are the reason.
 pub(crate) fn known(
     names: &Names,
     feature: u16,
@@ -169,14 +169,14 @@ pub(crate) fn known(
     reason(names, listed, true, out)
 }
 
-/// A feature that is not known.
+/// Appends that a feature is not known.
 pub(crate) fn not_known(out: &mut Vec<u8>) -> Result<(), AllocError>
     ensures { OnOk result (out.new.items ≡ out.old.items ++ not_known_line) }
 {
     out.extend_from_slice(b"refused NotKnown\n")
 }
 
-/// One more decision, and those that contradict it.
+/// Appends one more decision, and those that contradict it.
 pub(crate) fn conflict(
     names: &Names,
     more: Literal,
@@ -192,7 +192,7 @@ pub(crate) fn conflict(
     reason(names, listed, true, out)
 }
 
-/// One that none contradict.
+/// Appends that no decision contradicts another one.
 pub(crate) fn no_conflict(out: &mut Vec<u8>) -> Result<(), AllocError>
     ensures { OnOk result (out.new.items ≡ out.old.items ++ no_conflict_line) }
 {
@@ -208,7 +208,7 @@ fn has(product: &[bool], feature: u16) -> bool
     }
 }
 
-/// The names of the features that a product has.
+/// Appends the names of the features that a product has.
 fn names_in(names: &Names, product: &[bool], out: &mut Vec<u8>) -> Result<(), AllocError>
     ensures { OnOk result (out.new.items ≡ out.old.items ++ names_in names.now product.now (length names.now)) }
 {
@@ -231,7 +231,7 @@ fn product_word(first: bool, out: &mut Vec<u8>) -> Result<(), AllocError>
     }
 }
 
-/// A product, and whether it was shown to be the first.
+/// Appends a product, and whether it was shown to be the first.
 pub(crate) fn product(
     names: &Names,
     product: &[bool],
@@ -245,21 +245,21 @@ pub(crate) fn product(
     out.extend_from_slice(b"\n")
 }
 
-/// That there is none.
+/// Appends that there is none.
 pub(crate) fn none(out: &mut Vec<u8>) -> Result<(), AllocError>
     ensures { OnOk result (out.new.items ≡ out.old.items ++ none_line) }
 {
     out.extend_from_slice(b"none\n")
 }
 
-/// That a limit was met.
+/// Appends that a limit was met.
 pub(crate) fn unsettled(out: &mut Vec<u8>) -> Result<(), AllocError>
     ensures { OnOk result (out.new.items ≡ out.old.items ++ unsettled_line) }
 {
     out.extend_from_slice(b"unsettled\n")
 }
 
-/// One choice behind a word.
+/// Appends one choice after a word.
 pub(crate) fn choice_line(
     word: &[u8],
     names: &Names,
@@ -283,7 +283,7 @@ fn more(exact: bool, out: &mut Vec<u8>) -> Result<(), AllocError>
     Ok(())
 }
 
-/// How many lines stand before this one, and whether it was shown that there are no others.
+/// Appends the number of the lines before this one, and whether it was shown that there are no others.
 pub(crate) fn total(
     word: &[u8],
     lines: usize,

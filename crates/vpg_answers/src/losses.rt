@@ -1,4 +1,4 @@
-//! Why no product that is left meets an aim: why a vertex is lost, or won, in each of them, or why none is left.
+//! Why no product left meets an aim: why a vertex is lost, or won, in each of them, or why none is left.
 ghost use Rattle.std.specs.Prelude.{◌≡◌, ◌<◌, ◌++◌, All, OnOk, length};
 ghost use Rattle.vpg_answers.specs.Answers.{Appends, TellsLost, lost_for};
 ghost use Rattle.vpg_answers.specs.Texts.{lost_line};
@@ -13,7 +13,7 @@ use vpg_measure::Order;
 use vpg_partial::Decision;
 use vpg_why::{Aim, Limits, WhyLost, why_lost};
 
-/// What holds then.
+/// Appends the head of the line about such a loss.
 fn head(order: &Order, aim: Aim, out: &mut Vec<u8>) -> Result<(), AllocError>
     requires { IsAim order.now.game aim }
     ensures { OnOk result
@@ -42,8 +42,8 @@ fn tell(
     lines::reason(names, listed, exact, out)
 }
 
-/// Which decisions leave no product that meets the aim: one in which Even wins from the vertex, for the first table, or
-/// Odd, for the second; or any. Or a product that is left and meets it.
+/// Appends the decisions that leave no product that meets the aim: one in which Even wins from the vertex, for the
+/// hopeful table, or Odd, for the dual; or any. Or appends a product left that meets it.
 pub(crate) fn loss(
     alloc: Global,
     order: &Order,

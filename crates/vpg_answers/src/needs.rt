@@ -1,4 +1,4 @@
-//! What every product has that is left and meets an aim: that is won at a vertex, or just any.
+//! The features that all products left have or lack that meet an aim: that are won at a vertex, or just any.
 ghost use Rattle.std.specs.Prelude.{◌≡◌, ◌<◌, ◌++◌, All, OnOk, flat_map, length};
 ghost use Rattle.vpg_answers.specs.Answers.{Appends, TellsForced, forced_word};
 ghost use Rattle.vpg_answers.specs.Texts.{choice_line, forced_text};
@@ -13,7 +13,7 @@ use vpg_guards::Names;
 use vpg_measure::Order;
 use vpg_why::{Aim, Demand, Limits, needs};
 
-/// The word that its lines begin with.
+/// Returns the first word of its lines.
 fn word_of(aim: Aim) -> &'static [u8]
     ensures { result.now ≡ forced_word aim }
 {
@@ -48,7 +48,8 @@ fn tell(
     lines::total(word, listed.len(), exact, out)
 }
 
-/// What every product has that is left and meets the aim, beyond what is known; or that there is no such product.
+/// Appends the features that all products left have or lack that meet the aim, without the known ones; or that there is
+/// no such product.
 pub(crate) fn forced(
     alloc: Global,
     order: &Order,

@@ -1,4 +1,4 @@
-//! What each further decision would make of a vertex.
+//! The verdicts of a vertex after each further decision.
 ghost use Rattle.std.specs.List.{AllByRecursion};
 ghost use Rattle.std.specs.Prelude.{◌≡◌, ◌<◌, ◌+◌, ◌++◌, All, IfOk, OnOk, flat_map, length};
 ghost use Rattle.vpg_answers.specs.Answers.{Appends, TellsOffers};
@@ -20,7 +20,7 @@ use vpg_texts::blank_number;
 use vpg_verdict::Which;
 use vpg_why::{Limits, Offer, Shown, look_ahead};
 
-/// One more decision, and what it would make of a vertex.
+/// One more decision, and its offer at a vertex.
 #[derive(Clone, Copy)]
 pub(crate) struct Offered {
     choice: Literal,
@@ -44,15 +44,14 @@ fn offer_of(
     Ok(Offered { choice, offer })
 }
 
-/// What the order's decisions make known.
+/// Returns the features that the order's decisions make known.
 fn known(order: &Order) -> &Partial
     ensures { IsKnownTable order.now.diagram.lines (choices order.now.decisions) result.now }
 {
     order.games().known()
 }
 
-/// What both choices of a feature would make of the vertex, behind what is listed already; nothing where the feature is
-/// known.
+/// Appends the offers of both choices of a feature to the list; none if the feature is known.
 fn list_open(
     alloc: Global,
     order: &Order,
@@ -86,7 +85,7 @@ fn list_open(
     Ok(())
 }
 
-/// What both choices of each feature that isn't known would make of the vertex.
+/// Returns the offers of both choices of each feature that isn't known.
 fn list(
     alloc: Global,
     order: &Order,
@@ -165,7 +164,7 @@ fn tell(names: &Names, listed: &[Offered], out: &mut Vec<u8>) -> Result<(), Allo
     out.extend_from_slice(b"\n")
 }
 
-/// What each further decision would make of the vertex.
+/// Appends the offer of each further decision at the vertex.
 pub(crate) fn offers(
     alloc: Global,
     order: &Order,

@@ -1,11 +1,11 @@
-//! What is asked of a page.
+//! Queries about a page.
 
 use vpg_script::{PageQuestion, VertexQuestion};
 
-/// What is asked of a page. Vertices and features stand by their places in the game and in the diagram.
+/// A query about a page. Vertices and features stand by their places in the game and in the diagram.
 #[derive(Clone, Copy)]
 pub enum Query {
-    /// Something of the vertex.
+    /// A question about the vertex.
     OfVertex {
         question: VertexQuestion,
         vertex: u32,
@@ -19,7 +19,7 @@ pub enum Query {
         feature: u16,
         value: bool,
     },
-    /// Something of the page as a whole.
+    /// A question about the page as a whole.
     OfPage {
         question: PageQuestion,
     },

@@ -1,4 +1,4 @@
-//! Why something is so, by decisions of the page.
+//! Reasons, by decisions of the page.
 ghost use Rattle.std.specs.Prelude.{◌≡◌, ◌<◌, length, slice_index, OnOk};
 ghost use Rattle.vpg_answers.specs.Answers.{Appends, TellsChoice, TellsFeature, TellsVerdict, TellsVertex};
 ghost use Rattle.vpg_diagram.specs.FeatureDiagram.{feature_count};
@@ -28,7 +28,7 @@ pub(crate) fn identifier(order: &Order, vertex: u32) -> u32
     order.game().id(vertex)
 }
 
-/// Why the vertex has the verdict of a table, or that it hasn't.
+/// Appends why the vertex has the verdict of a table, or that it hasn't.
 fn verdict(
     alloc: Global,
     order: &Order,
@@ -50,7 +50,7 @@ fn verdict(
     }
 }
 
-/// Why the vertex has its verdicts.
+/// Appends why the vertex has its verdicts.
 pub(crate) fn vertex(
     alloc: Global,
     order: &Order,
@@ -67,7 +67,7 @@ pub(crate) fn vertex(
     verdict(alloc, order, Which::Dual, vertex, limits, out)
 }
 
-/// Why the feature is known, or that it isn't.
+/// Appends why the feature is known, or that it isn't.
 pub(crate) fn feature(
     alloc: Global,
     order: &Order,
@@ -89,7 +89,7 @@ pub(crate) fn feature(
     }
 }
 
-/// Why one more decision contradicts the page, or that it doesn't.
+/// Appends why one more decision contradicts the page, or that it doesn't.
 pub(crate) fn choice(
     alloc: Global,
     order: &Order,

@@ -1,4 +1,4 @@
-//! What to retract so that a vertex is possible.
+//! The decisions to retract so that a vertex is possible.
 ghost use Rattle.std.specs.Prelude.{◌≡◌, ◌↔◌, ◌<◌, ◌+◌, ◌++◌, [], All, IfOk, IsTrue, OnOk, codes, drop, flat_map, length, slice_index, take};
 ghost use Rattle.vpg_answers.specs.Answers.{Appends, IsHopelessBy, TellsRepair, TellsRetractions};
 ghost use Rattle.vpg_answers.specs.Offers.{IsVerdictShown};
@@ -20,7 +20,7 @@ use vpg_partial::Decision;
 use vpg_verdict::Which;
 use vpg_why::{Limits, Remedy, Shown, repair, stays_without};
 
-/// Decisions each of which alone, once retracted, leaves a vertex possible.
+/// Decisions, each of which leaves a vertex possible if it alone is retracted.
 #[derive(Drop)]
 struct Alone {
     listed: Vec<Decision>,
@@ -113,7 +113,7 @@ fn tell_several(
     out.extend_from_slice(b"repairs 1\n")
 }
 
-/// Several decisions to retract together, where no single one was shown to do; or that nothing does.
+/// Appends several decisions to retract together, if no single one was shown to do; or that nothing does.
 fn several(
     alloc: Global,
     order: &Order,
@@ -141,7 +141,7 @@ fn several(
     }
 }
 
-/// What to retract, where the page has the vertex hopeless.
+/// Appends the decisions to retract, if the page has the vertex hopeless.
 fn retractions(
     alloc: Global,
     order: &Order,
@@ -162,7 +162,7 @@ fn retractions(
     tell_singles(names, &found.listed, found.exact, out)
 }
 
-/// What to retract so that the vertex is possible, or that it is so.
+/// Appends the decisions to retract so that the vertex is possible, or that it is so.
 pub(crate) fn repairs_at(
     alloc: Global,
     order: &Order,

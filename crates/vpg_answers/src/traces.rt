@@ -1,4 +1,4 @@
-//! Traces of how a verdict comes about, as steps of the system.
+//! Traces of verdicts, as steps of the system.
 ghost use Rattle.std.specs.Prelude.{◌<◌, OnOk, length};
 ghost use Rattle.vpg_answers.specs.Answers.{Appends, IsOver, TellsTraced};
 ghost use Rattle.vpg_diagram.specs.FeatureDiagram.{feature_count};
@@ -10,7 +10,7 @@ use vpg_measure::Order;
 use vpg_trace::put_answer;
 use vpg_why::Limits;
 
-/// How the page's verdict at the vertex comes about, as steps of the system that the game was made of.
+/// Appends the trace of the page's verdict at the vertex, as steps of the system that the game was made of.
 pub(crate) fn trace(
     alloc: Global,
     order: &Order,
@@ -25,7 +25,7 @@ pub(crate) fn trace(
         (TellsTraced behaviour.now (scene_of order.now.game order.now.diagram) limits vertex order.now.decisions
         order.now.hopeful order.now.dual) out.old.items out.new.items) }
 {
-    // What every order keeps, for the proof.
+    // The invariant of every order, for the proof.
     let _order = order.game();
     match behaviour {
         Some(behaviour) => put_answer(alloc, order, behaviour, vertex, limits, out),

@@ -1,4 +1,4 @@
-//! Moves that win in every product that is left.
+//! Moves that win in every product left.
 ghost use Rattle.std.specs.Prelude.{◌≡◌, ◌↔◌, ◌<◌, ◌++◌, All, IfSome, IsTrue, OnOk, count_by, is_some, length, slice_index};
 ghost use Rattle.vpg_answers.specs.Answers.{Appends, TellsMoves, TellsWinning};
 ghost use Rattle.vpg_answers.specs.Texts.{move_line, move_lines, moves_text, moves_word};
@@ -15,7 +15,7 @@ use vpg_texts::blank_number;
 use vpg_verdict::Which;
 use vpg_why::{Limits, Moves, winning_moves};
 
-/// What the lines of a player's moves begin with.
+/// Returns the first word of the lines of a player's moves.
 fn word_of(mover: Which) -> &'static [u8]
     ensures { result.now ≡ moves_word mover }
 {
@@ -25,7 +25,7 @@ fn word_of(mover: Which) -> &'static [u8]
     }
 }
 
-/// The table whose top says that the player wins.
+/// Returns the table with a top that says that the player wins.
 fn verdict_for(mover: Which) -> Which
     ensures { result ≡ other_table mover }
 {
@@ -44,7 +44,7 @@ pub(crate) fn has_top(order: &Order, which: Which, vertex: u32) -> bool
     order.table(which).get(vertex) == order.shape(which).top()
 }
 
-/// The move at a vertex, where there is one.
+/// Appends the move at a vertex, if there is one.
 fn move_line(
     word: &[u8],
     order: &Order,
@@ -68,7 +68,7 @@ fn move_line(
     }
 }
 
-/// The moves, in the order of the game.
+/// Appends the moves, in the order of the game.
 fn each(
     word: &[u8],
     order: &Order,
@@ -93,7 +93,7 @@ fn count(moves: &[Option<u32>]) -> usize
     moves.iter().filter(|m| m.is_some()).count()
 }
 
-/// The moves, and their number.
+/// Appends the moves, and their number.
 fn tell(
     word: &[u8],
     order: &Order,
@@ -112,7 +112,7 @@ fn tell(
     out.extend_from_slice(b"\n")
 }
 
-/// How a player wins, where the page says so: Even for the first table, Odd for the second.
+/// Appends moves by which a player wins, if the page says so: Even for the hopeful table, Odd for the dual.
 fn winning(
     alloc: Global,
     order: &Order,
@@ -136,8 +136,8 @@ fn winning(
     }
 }
 
-/// Moves by which a player wins from the vertex in every product that is left: Even for the first table, where the page
-/// has the vertex sure, or Odd for the second, where it has it hopeless. Or that it hasn't.
+/// Appends moves by which a player wins from the vertex in every product left: Even for the hopeful table, if the page
+/// has the vertex sure, or Odd for the dual, if it has it hopeless. Or appends that it hasn't.
 pub(crate) fn moves(
     alloc: Global,
     order: &Order,

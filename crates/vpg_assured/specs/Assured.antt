@@ -1,5 +1,5 @@
--- What a run says of requirements, where its game is that of the texts of a system and of requirements. This project's
--- own.
+-- The meaning of a run's answers for requirements, if its game is that of the texts of a system and of requirements.
+-- This project's own.
 use Rattle.std.specs.Prelude.{◌≡◌, ◌⊎◌, ℕ, ◌<◌, Bool, Option, List, length, slice_index, IsTrue}
 use Rattle.vpg_verdict.specs.declared.verdict.Verdict.{Verdict}
 use Rattle.vpg_diagram.specs.DiagramText.{NamedDiagram}
@@ -19,19 +19,18 @@ use Rattle.vpg_texts.specs.Scene.{Scene, scene_of}
 use Rattle.vpg_report.specs.Run.{Between, begun, answering, as_meant}
 use Rattle.vpg_report.specs.Winners.{AreTrue, SaysVerdicts, IsRefusal}
 
--- A verdict is so of a requirement on the page: hopeless, it fails in each product that is left; sure, it holds in
--- each.
+-- A verdict is true of a requirement on the page: hopeless, it fails in each product left; sure, it holds in each.
 pub record IsTrueOf (scene : Scene) (page : List Entry) (Holds : List Bool → Type 0) (verdict : Verdict) : Type 0 where
   pub fails : IsTrue verdict.hopeless → (set : List Bool) → IsRemaining scene.lines (choices_of page) set →
       Holds set → ⊥
   pub holds : IsTrue verdict.sure → (set : List Bool) → IsRemaining scene.lines (choices_of page) set → Holds set
 
--- the verdict at the vertex of each entry is so of what the entry says
+-- the verdict at the vertex of each entry is true of the entry's requirement
 abbrev pub AreTrueOfEntries : Scene → NamedSystem → List written.Entry → List ℕ → List Entry → List Verdict → Type 0
 AreTrueOfEntries scene system entries roots page verdicts = (n : ℕ) → n < length entries →
     IsTrueOf scene page (EntryHoldsIn system entries n) (seen_at verdicts (slice_index roots n))
 
--- An answer that isn't a refusal says of vertices what is true of the page, and of what the entries say.
+-- An answer that isn't a refusal says of vertices what is true of the page, and of the entries' requirements.
 abbrev pub SpeaksOfEntries : Scene → NamedSystem → List written.Entry → List ℕ → List Entry → script.Command →
     List ℕ → Type 0
 SpeaksOfEntries scene system entries roots page command text =
@@ -39,15 +38,14 @@ SpeaksOfEntries scene system entries roots page command text =
     ((verdicts : List Verdict) × AreTrue scene page verdicts ×
     AreTrueOfEntries scene system entries roots page verdicts × SaysVerdicts scene command verdicts text)
 
--- Each request is answered as by a run, and by what is so of the entries on the page at that point.
+-- Each request is answered as by a run, with verdicts that are true of the entries on the page at that point.
 abbrev pub speaking : Option Behaviour → Scene → ℕ → NamedSystem → List written.Entry → List ℕ → Machine Between
 speaking behaviour scene lifters system entries roots old request text new =
     answering behaviour scene lifters old request text new ×
     SpeaksOfEntries scene system entries roots old.book.present request.command text
 
--- What a run of an office on the game of two texts writes in answer to `show`, `assert` and `changed` is so of the
--- requirements that the second text spells, in the system that the first one spells, whatever the lines are taken to
--- mean.
+-- A run of an office on the game of two texts, of a system and of requirements, answers `show`, `assert` and `changed`.
+-- The verdicts in its answers are true of these requirements in this system, under any meaning of the lines.
 abbrev pub AnswersSpeakOfRequirements : Type 0
 AnswersSpeakOfRequirements =
     (meaning : Request → Request) (behaviour : Option Behaviour) (game : NamedGame) (diagram : NamedDiagram)

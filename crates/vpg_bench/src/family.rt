@@ -1,4 +1,4 @@
-//! The family of two vertices, and what is made of the texts of a family.
+//! The family of two vertices, and the values made of the texts of a family.
 
 ghost use Rattle.std.specs.Arc.{arc_value};
 ghost use Rattle.std.specs.Prelude.{◌≡◌, map, IfOk};
@@ -20,13 +20,13 @@ pub(crate) const DIAGRAM: &[u8] = b"root r\noptional r f\noptional r g\n";
 
 pub(crate) const GAME: &[u8] = b"parity 1; 0 1 0 1[f],0; 1 2 1 0[g],1;";
 
-/// The diagram that a text spells.
+/// Returns the diagram that a text spells.
 pub(crate) fn diagram_of(alloc: Global, text: &[u8]) -> Result<Arc<Diagram>> {
     let diagram = Diagram::read(alloc, text)?;
     Ok(Arc::new(alloc, diagram)?)
 }
 
-/// The game that a text spells, by the names of a diagram.
+/// Returns the game that a text spells, by the names of a diagram.
 pub(crate) fn game_of(alloc: Global, text: &[u8], diagram: &Diagram) -> Result<Arc<GuardedGame>>
     ensures { IfOk result (λ game. (arc_value game).features ≡ feature_count diagram.now.lines) }
 {
@@ -34,7 +34,7 @@ pub(crate) fn game_of(alloc: Global, text: &[u8], diagram: &Diagram) -> Result<A
     Ok(Arc::new(alloc, game)?)
 }
 
-/// Both, shared once more.
+/// Returns both, shared once more.
 pub(crate) fn shared(
     game: &Arc<GuardedGame>,
     diagram: &Arc<Diagram>,
@@ -45,7 +45,7 @@ pub(crate) fn shared(
     }
 }
 
-/// The order of decisions with two tables of zeros, or why there is none.
+/// Returns the order of decisions with two tables of zeros, or why there is none.
 pub(crate) fn order_of(
     alloc: Global,
     game: Arc<GuardedGame>,

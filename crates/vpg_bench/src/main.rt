@@ -6,37 +6,37 @@
 //!     vpg_bench changes GAME DIAGRAM FEATURE ROUNDS HOW READERS
 //!     vpg_bench marked
 //!
-//! `settle`: both tables of a game over the features r, f and g are raised from zero, until they are settled or so many
-//! times. HOW is `rounds` for rounds of one thread without sweeps, `sweeps` for just MOST sweeps without hints, `hints`
-//! for sweeps with hints, `counted` for the same with their lifts counted, `guesses` for certified guesses and then
-//! sweeps as by `counted` where the guesses leave anything to lift, and `board` for a board that one seat claims and
-//! lifts by calls. MOST is how many sweeps or rounds there may be, LIFTERS how many lifters a sweep has, 1 to 64 and 1
-//! where it is left out. It prints one line: whether the tables are settled, in how many sweeps, how many lifts were
-//! counted, and the sums of both tables. `bench/sweeps.py` runs it, and measures what it takes.
+//! `settle`: both tables of a game over the features r, f and g are raised from zero, until they are settled or MOST
+//! sweeps or rounds are made. HOW is `rounds` for rounds of one thread without sweeps, `sweeps` for just MOST sweeps
+//! without hints, or `hints` for sweeps with hints. `counted` is `hints` with the lifts counted, and `guesses` makes
+//! certified guesses and then sweeps as `counted` does if the guesses leave anything to lift. `board` takes a board
+//! that one seat claims and lifts by calls. LIFTERS is how many lifters a sweep has, 1 to 64 and 1 if it is left out.
+//! It prints one line: whether the tables are settled, in how many sweeps, how many lifts were counted, and the sums of
+//! both tables. `bench/sweeps.py` runs it, and measures time and memory.
 //!
-//! `two-sessions`: on an office that is built in one session lifts while the other decides. Then the page is settled,
-//! the decision is taken back by its token, and the office is ended. Meanwhile a watcher in a third thread prints what
-//! is said of a vertex.
+//! `two-sessions`: on a built-in office one session lifts while the other decides. Then the page is settled, the
+//! decision is undone by its token, and the office is ended. Meanwhile a watcher in a third thread prints the verdicts
+//! of a vertex.
 //!
-//! `calls`: 1 to 8 sessions, each in a thread of its own, make CALLS calls together on an office that is built in. It
-//! prints how many calls the log then has, whether those of each session stand in order and each place has one, and how
-//! many tokens `end` misses.
+//! `calls`: 1 to 8 sessions, each in a thread of its own, make CALLS calls together on a built-in office. It prints how
+//! many calls the log then has, whether those of each session stand in order and each place has one, and how many
+//! tokens `end` misses.
 //!
 //! `changes`: on an office on the files' game one session decides the feature of this number and undoes that, ROUNDS
-//! times: three calls a time. HOW is `alone` (no watch is ever opened), `idle` (READERS watches that nobody reads),
-//! `watches` (READERS watches, each read without pause in a thread of its own) or `mutex` (READERS threads read without
-//! pause what the session puts behind a mutex after each change: the same sheet). It prints how many calls the log has,
-//! how many reads there were, and how many tokens `end` misses.
+//! times: three calls a time. HOW is `alone` (no watch is ever opened), `idle` (READERS watches that nobody reads) or
+//! `watches` (READERS watches, each read without pause in a thread of its own). It may also be `mutex`: READERS threads
+//! read without pause the same sheet, which the session puts under a mutex after each change. It prints how many calls
+//! the log has, how many reads there were, and how many tokens `end` misses.
 //!
-//! A log takes 1,048,576 calls. A call that is refused, and a sheet that is left out where the watcher has to read it,
-//! end a task on an office: all threads come to their end, all tokens are handed in as the office is ended, and the
-//! program ends with status 1 and a word on standard error, which says how many tokens `end` missed. What it has
-//! written by then is a beginning of its output. `bench/offices.py` runs these, and measures what they take.
+//! A log takes 1,048,576 calls. A call that is refused ends a task on an office, and so does a sheet that is left out
+//! if the watcher has to read it. Then all threads come to their end, and all tokens are handed in as the office is
+//! ended. The program ends with status 1 and a word on standard error, which says how many tokens `end` missed. Its
+//! output so far is a beginning of the whole output. `bench/offices.py` runs these, and measures time and memory.
 //!
-//! `marked`: each call that can want for memory is made, and marked for `bench/refused.py`. A line says what came of
+//! `marked`: each call that can run out of memory is made, and marked for `bench/refused.py`. A line has the result of
 //! each (`refusals`).
 //!
-//! Without words it makes these calls with little memory, and then does a little of all else on what is built in. It
+//! Without words it makes these calls with little memory, and then does a little of all else on built-in families. It
 //! prints no count of reads. Other words are refused.
 #![tactic(auto)]
 
@@ -54,14 +54,14 @@ use std::env;
 use std::sync::Wait;
 use std::thread::Threads;
 
-/// Makes calls with little memory, while there is no thread yet, and does a little of all else on what is built in.
+/// Makes calls with little memory, while there is no thread yet, and does a little of all else on built-in families.
 fn do_a_little<T: Threads + Wait + Sync + Print>(rt: &HostRuntime, threads: &T) -> Result<()> {
     report_within(threads, rt.alloc(), 1)?;
     work_on_each(rt, threads)?;
     sweep_built_in(rt, threads)
 }
 
-/// Does what the words ask for.
+/// Carries out the task of the words.
 fn obey<T: Threads + Wait + Sync + Print>(
     rt: &HostRuntime,
     threads: &T,

@@ -35,7 +35,7 @@ optional r e\noptional r f\noptional r g\noptional r h\n";
 
 const GAME: &[u8] = b"parity 1; 0 1 0 1[a],0; 1 2 1 0[b],1;";
 
-/// How many calls a log takes.
+/// The number of calls that a log takes.
 pub(crate) const ROOM: u32 = 1_048_576;
 
 /// Who reads while a session changes the page.
@@ -47,7 +47,7 @@ pub(crate) enum How {
     Mutex,
 }
 
-/// What is done on an office.
+/// A task on an office.
 #[derive(Clone, Copy)]
 pub(crate) enum Task {
     TwoSessions,
@@ -63,10 +63,10 @@ pub(crate) enum Task {
     },
 }
 
-/// What came of the work.
+/// The result of the work.
 #[derive(Clone, Copy)]
 pub(crate) enum Done {
-    /// How many lifts the commit added, and whether the token of the decision taken back is held.
+    /// The number of lifts that the commit added, and whether the token of the undone decision is held.
     TwoSessions { added: u32, undone: bool },
     /// Whether the calls of each session stand in order, and each place has one.
     Calls { in_order: bool },
@@ -84,19 +84,19 @@ pub(crate) enum Stopped {
     Unprinted,
 }
 
-/// What came of a task.
+/// The result of a task.
 #[derive(Clone, Copy)]
 struct Told {
     done: Result<Done, Stopped>,
     calls: usize,
-    /// How many tokens were out at the end and not handed in.
+    /// The number of tokens that were out at the end and not handed in.
     further: u64,
 }
 
-/// What came of some work, and the token that is left.
+/// The result of some work, and the token that is left.
 pub(crate) type Left<L> = (Result<Done, Stopped>, Held<L>);
 
-/// What one more session holds that decides the feature 1, and how that ended.
+/// Decides the feature 1 by one more session. Returns the token that it holds, and the call's end.
 fn decided<L: Terms, R: Wait>(rt: &R, alloc: Global, office: &Office<L>) -> (Held<L>, End) {
     match joined(rt, office) {
         Some(mut seat) => {
@@ -113,7 +113,7 @@ fn decided<L: Terms, R: Wait>(rt: &R, alloc: Global, office: &Office<L>) -> (Hel
     }
 }
 
-/// Does the task. But for that of two sessions a token is left of one more.
+/// Does the task. Except for the task of two sessions, a token of one more is left.
 fn carry_out<L: Terms + Send + Sync, R: Threads + Wait + Sync>(
     rt: &R,
     alloc: Global,
@@ -132,7 +132,8 @@ fn carry_out<L: Terms + Send + Sync, R: Threads + Wait + Sync>(
     }
 }
 
-/// Does the task on an office, and ends it. Room for the tokens is made before there are any, since none can be let go.
+/// Does the task on an office, and ends it. Room for the tokens is made before there are any, since none can be
+/// dropped.
 fn work<L: Terms + Send + Sync, R: Threads + Wait + Sync>(
     rt: &R,
     alloc: Global,
@@ -164,7 +165,7 @@ fn work<L: Terms + Send + Sync, R: Threads + Wait + Sync>(
     })
 }
 
-/// Takes the office, and has two sessions work there. A closure can't hold an office, since it might let it go.
+/// Takes the office, and has two sessions work there. A closure can't hold an office, since it might drop it.
 fn work_on<L: Terms + Send + Sync, R: Threads + Wait + Sync>(
     rt: &R,
     alloc: Global,
@@ -175,7 +176,7 @@ fn work_on<L: Terms + Send + Sync, R: Threads + Wait + Sync>(
     work(rt, alloc, office, Task::TwoSessions, seen)
 }
 
-/// What came of a task that a watcher followed, where it printed all that it read.
+/// Returns the result of a task that a watcher followed, if it printed all that it read.
 fn printed(told: Told, is_printed: bool) -> Told {
     if is_printed {
         return told;
@@ -233,7 +234,7 @@ fn open_and_work<L: Terms + Send + Sync, R: Threads + Wait + Sync + Print>(
     }
 }
 
-/// Does the task on an office on this game and diagram. Nothing comes of it where something is lacking.
+/// Does the task on an office on this game and diagram. There is no result if something is missing.
 fn told_on<R: Threads + Wait + Sync + Print>(
     rt: &R,
     alloc: Global,
@@ -260,7 +261,7 @@ fn told_of<R: Threads + Wait + Sync + Print>(
     told_on(rt, alloc, game, diagram, task).context("no office, no watch or no room for tokens")
 }
 
-/// Why some work was not done to its end, in words.
+/// Returns why some work was not done to its end, in words.
 fn word_of(stopped: Stopped) -> &'static str {
     match stopped {
         Stopped::Refused => "a call was refused",
@@ -269,7 +270,7 @@ fn word_of(stopped: Stopped) -> &'static str {
     }
 }
 
-/// What was done to its end.
+/// Returns the work that was done to its end.
 fn done_of(told: Told) -> Result<Done> {
     match told.done {
         Ok(done) => Ok(done),
@@ -277,7 +278,7 @@ fn done_of(told: Told) -> Result<Done> {
     }
 }
 
-/// Tells what came of a task, but for reads.
+/// Prints the result of a task, without reads.
 fn tell(rt: &HostRuntime, told: Told) -> Result<()> {
     let done = done_of(told)?;
     let Told { calls, further, .. } = told;
@@ -290,7 +291,7 @@ fn tell(rt: &HostRuntime, told: Told) -> Result<()> {
     Ok(())
 }
 
-/// Does the task on what is built in, and tells of it.
+/// Does the task on the built-in family, and prints its result.
 fn work_built_in<T: Threads + Wait + Sync + Print>(
     rt: &HostRuntime,
     threads: &T,
@@ -333,7 +334,7 @@ const A_LITTLE: [Task; 6] = [
     },
 ];
 
-/// Does a little of each task on what is built in.
+/// Does a little of each task on the built-in family.
 pub(crate) fn work_on_each<T: Threads + Wait + Sync + Print>(
     rt: &HostRuntime,
     threads: &T,
@@ -357,7 +358,7 @@ fn told_on_files<T: Threads + Wait + Sync + Print>(
     told_of(threads, rt.alloc(), &game, &diagram, task)
 }
 
-/// Tells how many reads there were, and what came of a task beside.
+/// Prints how many reads there were, and the result of a task.
 fn tell_reads(rt: &HostRuntime, told: Told) -> Result<()> {
     if let Ok(Done::Changes { reads }) = told.done {
         println!(rt; "reads {reads}")?;
@@ -365,7 +366,7 @@ fn tell_reads(rt: &HostRuntime, told: Told) -> Result<()> {
     tell(rt, told)
 }
 
-/// Does the task that the words name, and tells of it.
+/// Does the task that the words name, and prints its result.
 pub(crate) fn work_as<T: Threads + Wait + Sync + Print>(
     rt: &HostRuntime,
     threads: &T,

@@ -1,22 +1,21 @@
 //! Calls that are refused memory: those of the libraries below an office, of an office and its sessions, and of a
 //! press.
 //!
-//! Each call is made with no memory at all, and with sixteen bytes more each time, until it is done. A line says what
-//! came of it: its name, and
+//! Each call is made with no memory at all, and with sixteen bytes more each time, until it is done. A line has its
+//! name, and
 //!
-//! - `takes no memory` where it was done with none;
-//! - `each growth refused in turn, unchanged` where each refusal was `Memory` and changed nothing, and it was done at
+//! - `takes no memory` if it was done with none;
+//! - `each growth refused in turn, unchanged` if each refusal was `Memory` and changed nothing, and it was done at
 //!   last;
-//! - words in capitals where that is not so.
+//! - words in capitals if that is not so.
 //!
 //! A desk is compared by value: its page, the tokens out, whether it is settled. A board is opened and closed until
 //! that is done: each time the order comes back with its tables unchanged, or a harvest of it is made. A sweep is made
-//! with none, and up to more memory than it takes: with little it has no board, with more no hints, and a thread is
-//! refused where the process cannot get its stack. It is done each time.
+//! with no memory, and up to more than it takes. With little it has no board, with more no hints, and a thread is
+//! refused if the process cannot get its stack. It is done each time.
 //!
-//! Each try of a call of an office is made on an office of its own, whose log is full up to what its lists have room
-//! for. So the growths of the log are refused too, and all that a refused call has to leave is looked at behind each
-//! try.
+//! Each try of a call of an office is made on an office of its own, with a log full up to the room of its lists. So the
+//! growths of the log are refused too, and after each try all that a refused call has to leave is checked.
 //!
 //! Or no memory is taken from the program, and each call is marked for `bench/refused.py`.
 
@@ -50,7 +49,7 @@ use vpg_diagram::Diagram;
 use vpg_game::GuardedGame;
 use vpg_scarce::{End, Heap, Report, Told};
 
-/// What came of calls that were made once, with no memory.
+/// Returns the result of calls that were made once, with no memory.
 pub(crate) fn told_of(tells: bool) -> Told {
     if tells {
         Told::TakesNone
@@ -59,12 +58,12 @@ pub(crate) fn told_of(tells: bool) -> Told {
     }
 }
 
-/// How a call ended that wasn't refused: it is done where it gave what it should.
+/// Returns the end of a call that wasn't refused: it is done if its answer was right.
 pub(crate) fn done_if(gives: bool) -> End {
     if gives { End::Done } else { End::Otherwise }
 }
 
-/// How a call ended that gave nothing.
+/// Returns the end of a call without an answer.
 pub(crate) fn memory_if(is_memory: bool) -> End {
     if is_memory {
         End::Memory
@@ -99,7 +98,7 @@ fn refuse<R: Threads + Wait + Sync>(rt: &R, heap: &mut Heap, report: &mut Report
     refuse_of(rt, heap, report, &game, &diagram).context("nothing to call")
 }
 
-/// Makes each call with little memory, and writes what came of each.
+/// Makes each call with little memory, and writes the result of each.
 fn report_all<R: Threads + Wait + Sync + Print>(
     rt: &R,
     heap: &mut Heap,
@@ -110,7 +109,7 @@ fn report_all<R: Threads + Wait + Sync + Print>(
     Ok(())
 }
 
-/// Does so with the memory of the process, or marks each call where there is more than one word.
+/// Does so with the memory of the process, or marks each call if there is more than one word.
 pub(crate) fn report_within<R: Threads + Wait + Sync + Print>(
     rt: &R,
     alloc: Global,

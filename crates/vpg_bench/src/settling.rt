@@ -1,4 +1,4 @@
-//! Ways of settling: both tables of a game are raised from zero, until they are settled or so many times.
+//! Ways of settling: both tables of a game are raised from zero, until they are settled or a number of sweeps is made.
 
 ghost use Rattle.std.specs.Prelude.{◌≡◌, ◌≤◌, length};
 ghost use Rattle.vpg_board.specs.Places.{vertices};
@@ -16,13 +16,13 @@ use vpg_guess::{Groundwork, harvest_by_bounds};
 use vpg_measure::{Harvest, Order, Table};
 use vpg_verdict::Which;
 
-/// How many edges and vertices a guess at both tables may look at, as in the lines of a script.
+/// The number of edges and vertices that a guess at both tables may look at, as in the lines of a script.
 const BUDGET: u64 = 1 << 27;
 
 /// More claims than a board has places.
 const MOST_CLAIMS: u32 = 131_074;
 
-/// How the tables are raised.
+/// The way in which the tables are raised.
 #[derive(Clone, Copy)]
 pub(crate) enum Way {
     Alone,
@@ -33,7 +33,7 @@ pub(crate) enum Way {
     Seated,
 }
 
-/// What the words ask for.
+/// The request of the words.
 #[derive(Clone, Copy)]
 pub(crate) struct Asked {
     pub(crate) way: Way,
@@ -55,7 +55,7 @@ impl Gate for Count {
     }
 }
 
-/// The order that a game's text spells, without decisions and from zero.
+/// Returns the order that a game's text spells, without decisions and from zero.
 fn opening_order(alloc: Global, text: &[u8]) -> Result<Order> {
     let diagram = diagram_of(alloc, DIAGRAM)?;
     let game = game_of(alloc, text, &diagram)?;
@@ -64,8 +64,8 @@ fn opening_order(alloc: Global, text: &[u8]) -> Result<Order> {
         .context("no order")
 }
 
-/// What is reached in so many sweeps at most, and in how many. Where the settled ones do not end them, there are just
-/// so many.
+/// Sweeps at most this many times. Returns the harvest, and the number of sweeps. If settled tables do not end them,
+/// there are just this many.
 fn swept<G: Gate + Sync, T: Threads + Wait + Sync>(
     rt: &T,
     alloc: Global,
@@ -90,7 +90,7 @@ fn swept<G: Gate + Sync, T: Threads + Wait + Sync>(
     (Harvest::alone(order, 0), most)
 }
 
-/// What hints go along, or nothing without hints.
+/// Returns the predecessors that hints go along, or nothing without hints.
 fn predecessors_of(alloc: Global, order: &Order, hints: bool) -> Predecessors
     ensures { result.vertices ≡ vertices order.now }
 {
@@ -101,7 +101,7 @@ fn predecessors_of(alloc: Global, order: &Order, hints: bool) -> Predecessors
     }
 }
 
-/// What is reached by sweeps without hints, or by sweeps with hints, until they have settled the tables.
+/// Sweeps without hints, or with hints until the tables are settled. Returns the harvest.
 fn swept_from<G: Gate + Sync, T: Threads + Wait + Sync>(
     rt: &T,
     alloc: Global,
@@ -117,7 +117,7 @@ fn swept_from<G: Gate + Sync, T: Threads + Wait + Sync>(
     swept(rt, alloc, order, most, hints, lifters, gate, &predecessors)
 }
 
-/// The harvest of certified guesses. Where they find no memory, that of the order as it is.
+/// Returns the harvest of certified guesses. If they find no memory, that of the order as it is.
 fn by_bounds(alloc: Global, order: Order) -> Harvest {
     match harvest_by_bounds(alloc, order, &mut Groundwork::none(), BUDGET) {
         Ok(harvest) => harvest,
@@ -125,7 +125,8 @@ fn by_bounds(alloc: Global, order: Order) -> Harvest {
     }
 }
 
-/// What is reached by certified guesses, and by sweeps from there where they don't settle the order, each lift counted.
+/// Raises an order by certified guesses, and sweeps it from there if they don't settle it, each lift counted. Returns
+/// the harvest.
 fn guessed<T: Threads + Wait + Sync>(
     rt: &T,
     alloc: Global,
@@ -157,7 +158,7 @@ fn lift_all(board: &Board, seat: &mut Seat)
     }
 }
 
-/// The harvest of a board of the order that one seat has lifted.
+/// Returns the harvest of a board of the order that one seat has lifted.
 fn seated(alloc: Global, order: Order) -> Option<Harvest> {
     match Board::open(alloc, order) {
         Ok((board, mut seat)) => {
@@ -168,7 +169,7 @@ fn seated(alloc: Global, order: Order) -> Option<Harvest> {
     }
 }
 
-/// What is reached by so many boards, one behind the other.
+/// Lifts on this many boards, one after the other. Returns the harvest, and their number.
 fn seated_often(alloc: Global, order: Order, most: u64) -> Option<(Harvest, u64)> {
     let mut order = order;
     for _ in 0..most {
@@ -177,8 +178,8 @@ fn seated_often(alloc: Global, order: Order, most: u64) -> Option<(Harvest, u64)
     Some((Harvest::alone(order, 0), most))
 }
 
-/// What is reached as the words ask for, and in how many sweeps. Nothing where a board that one seat lifts finds no
-/// memory.
+/// Raises the tables as the words ask for. Returns the harvest, and the number of sweeps. Nothing if there is no memory
+/// for a board that one seat lifts.
 fn reach<T: Threads + Wait + Sync>(
     rt: &T,
     alloc: Global,
@@ -199,7 +200,7 @@ fn reach<T: Threads + Wait + Sync>(
     }
 }
 
-/// The sum of a table's values.
+/// Returns the sum of a table's values.
 fn sum_of(table: &Table) -> u64 {
     let mut sum = 0u64;
     for value in table.values() {
@@ -208,7 +209,7 @@ fn sum_of(table: &Table) -> u64 {
     sum
 }
 
-/// Tells what was reached, in one line.
+/// Prints the result, in one line.
 fn tell(rt: &HostRuntime, harvest: &Harvest, sweeps: u64, lifts: u64) -> Result<()> {
     let settled = harvest.check();
     let hopeful = sum_of(harvest.table(Which::Hopeful));
@@ -217,7 +218,7 @@ fn tell(rt: &HostRuntime, harvest: &Harvest, sweeps: u64, lifts: u64) -> Result<
     Ok(())
 }
 
-/// Raises an order so, and tells what was reached.
+/// Raises an order so, and prints the result.
 fn measure<T: Threads + Wait + Sync>(
     rt: &HostRuntime,
     threads: &T,
@@ -235,7 +236,7 @@ fn measure<T: Threads + Wait + Sync>(
     }
 }
 
-/// Sweeps the game that is built in, by one lifter and by two: what they lift beside the four claims are hints.
+/// Sweeps the built-in game, by one lifter and by two: what they lift beside the four claims are hints.
 pub(crate) fn sweep_built_in<T: Threads + Wait + Sync>(
     rt: &HostRuntime,
     threads: &T,

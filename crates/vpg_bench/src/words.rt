@@ -6,7 +6,7 @@ use crate::offices::{How, ROOM, Task};
 use crate::settling::{Asked, Way};
 use anyhow::{Result, bail};
 
-/// The number that a word spells, up to a most.
+/// Returns the number that a word spells, up to a most.
 fn number_of(word: &str, most: u64) -> Result<u64>
     ensures { IfOk result (λ number. number ≤ most) }
 {
@@ -16,14 +16,14 @@ fn number_of(word: &str, most: u64) -> Result<u64>
     }
 }
 
-/// The same of a word that spells less than 2 to the power of 32.
+/// Returns the number that a word spells, which is below 2 to the power of 32.
 fn small_of(word: &str, most: u32) -> Result<u32>
     ensures { IfOk result (λ number. number ≤ most) }
 {
     Ok(number_of(word, u64::from(most))? as u32)
 }
 
-/// The way of settling that a word names.
+/// Returns the way of settling that a word names.
 fn way_of(word: &str) -> Result<Way> {
     let way = match word {
         "rounds" => Way::Alone,
@@ -37,7 +37,7 @@ fn way_of(word: &str) -> Result<Way> {
     Ok(way)
 }
 
-/// How many lifters a word names.
+/// Returns the number of lifters that a word names.
 fn lifters_of(word: &str) -> Result<u32>
     ensures { IfOk result (λ lifters. (1 ≤ lifters) × (lifters ≤ 64)) }
 {
@@ -48,7 +48,7 @@ fn lifters_of(word: &str) -> Result<u32>
     Ok(lifters as u32)
 }
 
-/// What the words after `settle GAME` ask for.
+/// Returns the request of the words after `settle GAME`.
 pub(crate) fn asked_by(words: &[String]) -> Result<Asked>
     requires { 5 ≤ length words.now }
     ensures { IfOk result (λ asked. (1 ≤ asked.lifters) × (asked.lifters ≤ 64)) }
@@ -62,7 +62,7 @@ pub(crate) fn asked_by(words: &[String]) -> Result<Asked>
     Ok(Asked { way, most, lifters })
 }
 
-/// The task that the words after `calls` name.
+/// Returns the task that the words after `calls` name.
 fn calls_of(sessions: &str, calls: &str) -> Result<Task> {
     let sessions = small_of(sessions, 8)?;
     let calls = small_of(calls, ROOM - 8)?;
@@ -75,7 +75,7 @@ fn calls_of(sessions: &str, calls: &str) -> Result<Task> {
     })
 }
 
-/// The way of reading that a word names.
+/// Returns the way of reading that a word names.
 fn how_of(word: &str) -> Result<How> {
     let how = match word {
         "alone" => How::Alone,
@@ -87,7 +87,7 @@ fn how_of(word: &str) -> Result<How> {
     Ok(how)
 }
 
-/// The task that the words after `changes GAME DIAGRAM` name.
+/// Returns the task that the words after `changes GAME DIAGRAM` name.
 fn changes_of(feature: &str, rounds: &str, how: &str, readers: &str) -> Result<Task> {
     let how = how_of(how)?;
     let feature = small_of(feature, 511)? as u16;
@@ -101,7 +101,7 @@ fn changes_of(feature: &str, rounds: &str, how: &str, readers: &str) -> Result<T
     })
 }
 
-/// The task on an office that the words name, of which the first is the program's.
+/// Returns the task on an office that the words name. The first word is the program's.
 pub(crate) fn task_of(words: &[String]) -> Result<Task> {
     if words.len() == 2 && words[1].as_str() == "two-sessions" {
         return Ok(Task::TwoSessions);

@@ -7,13 +7,18 @@ use Rattle.vpg_game.specs.Game.{graph_of}
 use Rattle.vpg_verdict.specs.declared.which.Which.{Which}
 use Rattle.vpg_verdict.specs.declared.which.Which.TheVariants.{Hopeful, Dual}
 use Rattle.vpg_measure.specs.Lifts.{IsBelowTable}
-use Rattle.vpg_measure.specs.Orders.{OrderView, IsOrder, IsRaised}
+use Rattle.vpg_measure.specs.Orders.{OrderView, HarvestView, IsOrder, IsRaised, harvest_table}
 use Rattle.vpg_measure.specs.TwoGames.{IsProgressOf}
 use Rattle.vpg_measure.proofs.OrderLemmas.{arena_count}
 use Rattle.vpg_measure.proofs.TwoGames.{tops}
+use mathlib.Core.Option.{some}
+use lib.ListN.{get_elem?}
 use Rattle.atomic_table.specs.Table.{Final, Seen}
 use Rattle.vpg_board.specs.declared.lifter.Lifter.{Lifter}
 use Rattle.vpg_board.specs.Steps.{IsBoard}
+use Rattle.vpg_board.specs.Run.{BoardState, Move, ran, IsBoardRun}
+use Rattle.vpg_board.specs.Joins.{IsOfRun, IsEndOf}
+use Rattle.vpg_board.proofs.Joins.{of_run}
 use Rattle.vpg_board.proofs.Atomic.{ends}
 use Rattle.vpg_board.specs.Places.{vertices, places, values, table_in, AreProgress, Below}
 use Rattle.vpg_board.proofs.Halves.{halves_below, values_wide, values_in, top_table, top_wide}
@@ -87,3 +92,34 @@ module _ (order key : OrderView) (is : IsOrder order) (same : key ≡ order) (id
   was_seen which n items count copied wide =
       let e = ends order is id v words xs stands final in
       subst (λ (t : List ℕ). IsBelowTable (table_in order which v.seen) t) (sym (copied ∙ table_of which n count)) (halves_below order which v.seen e.1 wide e.4 e.3)
+
+  -- the run that led to the words, and to the seat
+  last_run : List Move
+  last_run = final.1.0.1.0
+
+  last_board : ran order last_run ≡ final.1.0.0
+  unfolding last_run final
+  last_board = final.1.0.1.2
+
+  last_seat : IsOfRun order last_run v
+  unfolding last_run final
+  last_seat =
+      of_run order last_run id v final.1.0.1.1
+      (subst (λ (b : BoardState). get_elem? b.lifters id ≡ some v) (sym last_board) (subst (λ (vs : List Lifter). get_elem? vs id ≡ some v) final.1.0.2.views final.1.1))
+
+  shown : words ≡ final.1.0.0.claimed ∷ final.1.0.0.measures
+  shown = sym final.2 ∙ final.1.0.2.words
+
+  same_measures : (ends order is id v words xs stands final).1 ≡ final.1.0.0.measures
+  same_measures = ap (λ (l : List ℕ). drop 1 l) (sym (ends order is id v words xs stands final).2 ∙ shown)
+
+  last_words : (which : Which) (n : ℕ) (items : List ℕ) → n ≡ vertices order → items ≡ words_of n which words → items ≡ table_in order which (ran order last_run).measures
+  last_words which n items count copied =
+      copied ∙ table_of which n count ∙ ap (λ (t : List ℕ). table_in order which t) same_measures ∙ ap (λ (b : BoardState). table_in order which b.measures) (sym last_board)
+
+  pub end_of : (n : ℕ) (harvest : HarvestView) → n ≡ vertices order → harvest.hopeful ≡ words_of n Hopeful words → harvest.dual ≡ words_of n Dual words → IsEndOf order v harvest
+  end_of n harvest count hopeful dual = record { run = last_run; seat = last_seat; words = at }
+    where
+      at : (which : Which) → harvest_table which harvest ≡ table_in order which (ran order last_run).measures
+      at Hopeful = last_words Hopeful n harvest.hopeful count hopeful
+      at Dual = last_words Dual n harvest.dual count dual

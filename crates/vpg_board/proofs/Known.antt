@@ -1,5 +1,5 @@
 -- What holds of one lifter, by the rule of all.
-use Rattle.std.proofs.Common.{◌≡◌, ℕ, suc, ◌+◌, ◌<◌, ◌≤◌, ◌&&◌, true, cond, List, [], ◌∷◌, refl, sym, ap, ◌∙◌, subst, arith, ltb}
+use Rattle.std.proofs.Common.{◌≡◌, ◌≢◌, ℕ, suc, ◌+◌, ◌<◌, ◌≤◌, ◌&&◌, true, cond, List, [], ◌∷◌, refl, sym, ap, ◌∙◌, subst, arith, ltb}
 use Rattle.std.proofs.lemmas.Bool.Decides.{nat_tests}
 use mathlib.Core.Option.{some}
 use mathlib.Core.Logic.{dite}
@@ -61,6 +61,12 @@ claims_of_seat order b i v k at same =
           let bound : places order < b.claimed = omega (arith, k.counted.empty) in
           sym one ∙ k.counted.each n ∙ all_claimed n b.claimed (places order) bound ∙ ap (λ z. cond (ltb n z) 1 0) (sym size);
     }
+
+-- two lifters of a board claimed different places
+pub claims_apart : (order : OrderView) (b : BoardState) (i j : ℕ) (v w : Lifter) → ClaimsKept order b → get_elem? b.lifters i ≡ some v → get_elem? b.lifters j ≡ some w → j ≢ i → (n : ℕ) → times n v.claims + times n w.claims ≤ 1
+claims_apart order b i j v w k at there apart n =
+    let two = total_two (λ u. times n u.claims) b.lifters i j v w at there apart in
+    omega (arith, k.counted.each n, at_most n b.claimed (places order))
 
 -- what a lifter has seen is safe
 pub safe_of_seat : (order : OrderView) (measures : List ℕ) (v : Lifter) → HasSeen order measures v → ((t : List ℕ) → AreProgress order t → Below measures t) → IsSafe v

@@ -6,6 +6,7 @@ pub mod Claiming
 pub mod Known
 pub mod Taking
 pub mod Atomic
+pub mod Joins
 pub mod Ending
 pub mod Distinct
 pub mod Loads

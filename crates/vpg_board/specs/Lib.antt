@@ -4,6 +4,7 @@ pub mod Run
 pub mod Rule
 pub mod Taken
 pub mod Seats
+pub mod Joins
 pub mod BoardFields
 pub mod Steps
 pub mod Loading

@@ -2,6 +2,8 @@
 use Rattle.std.specs.Prelude.{ℕ, ◌+◌, ◌||◌, true, false, nat_lt, if◌then◌else◌, max, List, [], ◌∷◌, ◌++◌, slice_set}
 use Rattle.vpg_measure.specs.Orders.{OrderView}
 use Rattle.vpg_board.specs.declared.lifter.Lifter.{Lifter}
+use Rattle.vpg_board.specs.declared.lifter.Part.{Part}
+use Rattle.vpg_board.specs.declared.lifter.Joined.{Joined}
 use Rattle.vpg_board.specs.Places.{values}
 
 -- the greater of both values at each place
@@ -13,7 +15,16 @@ greater (x ∷ t) (y ∷ u) = max x y ∷ greater t u
 -- the lifter of a new board: it has seen the order's tables
 abbrev pub opener : OrderView → Lifter
 opener order =
-    record { order = order; seen = values order; claims = []; empty = 0; splits = 0; stands = 1; opening = true }
+    record {
+      order = order;
+      seen = values order;
+      claims = [];
+      empty = 0;
+      splits = 0;
+      stands = 1;
+      opening = true;
+      joins = [];
+    }
 
 -- this number was seen at this place
 abbrev pub sees : Lifter → ℕ → ℕ → Lifter
@@ -32,7 +43,18 @@ splits v = record v { splits = v.splits + 1 }
 
 -- the new lifter that a split makes: it has seen the same, and stands for itself
 abbrev pub newcomer : Lifter → Lifter
-newcomer v = record v { claims = []; empty = 0; splits = 0; stands = 1; opening = false }
+newcomer v = record v { claims = []; empty = 0; splits = 0; stands = 1; opening = false; joins = [] }
+
+-- what a lifter knows at a join
+abbrev pub part_of : Lifter → Part
+part_of v = record {
+  seen = v.seen;
+  claims = v.claims;
+  empty = v.empty;
+  splits = v.splits;
+  stands = v.stands;
+  opening = v.opening;
+}
 
 -- one lifter merges another
 abbrev pub both : Lifter → Lifter → Lifter
@@ -43,6 +65,7 @@ both v w = record v {
   splits = v.splits + w.splits;
   stands = v.stands + w.stands;
   opening = v.opening || w.opening;
+  joins = record { one = part_of v; other = part_of w } ∷ v.joins ++ w.joins;
 }
 
 -- no order at all
@@ -60,4 +83,13 @@ no_order = record {
 
 -- a lifter that another merged
 abbrev pub spent : Lifter
-spent = record { order = no_order; seen = []; claims = []; empty = 0; splits = 0; stands = 0; opening = false }
+spent = record {
+  order = no_order;
+  seen = [];
+  claims = [];
+  empty = 0;
+  splits = 0;
+  stands = 0;
+  opening = false;
+  joins = [];
+}

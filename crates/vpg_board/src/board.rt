@@ -10,6 +10,7 @@ ghost use Rattle.vpg_board.specs.Lifters.{splits, newcomer, both};
 ghost use Rattle.vpg_board.specs.Run.{claim, split};
 ghost use Rattle.vpg_board.specs.Taken.{IsOnBoard, Takes, TakesAll, load_of, lift_steps};
 ghost use Rattle.vpg_board.specs.Seats.{opening_seat, SeesMore, IsSafe, AreOnce, HasAllAtEnd};
+ghost use Rattle.vpg_board.specs.Joins.{IsEndOf};
 
 use crate::lifter::Lifter;
 use crate::seat::{Inner, Seat, TooManyLifters};
@@ -244,6 +245,9 @@ impl Board {
         ensures seen { IfOk result
             (λ harvest. (which : Which) →
             IsBelowTable (table_in self.order which seat.lifter.seen) (harvest_table which harvest)) }
+
+        // One run led to the words, which are its tables, and to the seat, with all joins of that seat.
+        ensures words { IfOk result (IsEndOf self.order seat.lifter) }
 
         // On or above the order's tables, and below every progress table of its games.
         ensures harvest { IfOk result IsHarvest }

@@ -1,4 +1,4 @@
--- What harvests mean for a desk.
+-- The meaning of harvests for a desk.
 use Rattle.std.specs.Prelude.{◌≡◌, Bool, ◌++◌, List, map, Option, Some, None}
 use Rattle.vpg_measure.specs.Orders.{OrderView, HarvestView}
 use Rattle.vpg_trail.specs.Page.{Hopeful, Dual, Entry, literal_of, raises}
@@ -17,13 +17,13 @@ abbrev pub handed_in : Bool → HarvestView → Harvest
 handed_in is_of_this_desk harvest =
     record { is_of_this_desk = is_of_this_desk; decisions = harvest.order.decisions; hopeful = harvest.hopeful; dual = harvest.dual }
 
--- the book's refusal that a fault of commit stands for; out of memory is none
+-- the book's refusal for a fault of commit; out of memory is none
 abbrev pub commit_refusal : CommitFault → Option Refusal
 commit_refusal IsOther = Some OtherGame
 commit_refusal (IsOutdated feature) = Some (Outdated feature)
 commit_refusal Memory = None
 
--- the lifts that raise the entries' tables to the harvest's, those of the first table before those of the second
+-- the lifts that raise the entries' tables to the harvest's, first those of the hopeful table, then those of the dual
 abbrev pub raised_by : HarvestView → Track → List Entry
 raised_by harvest trail =
     raises (map literal_of harvest.order.decisions) trail.entries Hopeful harvest.hopeful trail.vertices

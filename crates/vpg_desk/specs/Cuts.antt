@@ -1,4 +1,4 @@
--- What contracts see of the cuts that stand for past and future pages.
+-- The cuts that stand for past and future pages, as contracts see them.
 use Rattle.std.specs.Prelude.{◌≡◌, ℕ, Bool, List, ◌∷◌, map, reverse, All}
 use Rattle.vpg_trail.specs.Page.{Entry as Step}
 use Rattle.vpg_trail.specs.Shown.{entry_of, VertexBelow}
@@ -33,8 +33,7 @@ SuffixesBelow n cuts = All (λ c. All (λ e. VertexBelow n (entry_of e)) c.suffi
 abbrev pub pages_of : List Step → List Cut → List Kept
 pages_of entries cuts = pages_over entries (cuts_of cuts)
 
--- the nearest page of the one side is the present one now, and the one that was present is the nearest of the other
--- side
+-- the nearest page of one side is the present one now, and the one that was present is the nearest of the other side
 pub record IsSwung (from : List Cut) (entries : List Step) (to from_after : List Cut) (entries_after : List Step)
     (to_after : List Cut) : Type 0 where
   pub nearest : Saved

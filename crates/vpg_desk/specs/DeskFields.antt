@@ -25,12 +25,12 @@ notes_in d = record { present = d.is_noted; past = notes_of d.past.items; future
 abbrev pub desk_of : Inside → DeskState
 desk_of d = record { game = arc_value d.game; diagram = arc_value d.diagram; book = book_in d }
 
--- what every desk keeps
+-- the invariant of every desk
 pub record IsDesk (d : Inside) : Type 0 where
   pub opened : IsOpened (arc_value d.game) (arc_value d.diagram)
-  -- it is one of its histories
+  -- one of its histories leaves its book
   pub reached : IsReached (setting_in d) (book_in d)
-  -- what is kept beside the trail
+  -- the games kept with the trail
   pub games : ArePageGames (arc_value d.game) (arc_value d.diagram) (choices_of d.trail.entries) (arc_value d.games)
   -- each page, present, past or future, that is known to be settled is so
   pub noted : NotesHold (IsSettledPage (family_of (setting_in d))) (notes_in d) (book_in d)

@@ -1,4 +1,4 @@
--- What holds of every legal history of a desk.
+-- The laws of every legal history of a desk.
 use Rattle.std.specs.Prelude.{◌≡◌, ◌↔◌, ◌⊎◌, ℕ, ◌<◌, Bool, Option, List, [], ◌∷◌, ◌++◌, length, map, IsTrue}
 use Rattle.std.specs.Bool.{Decides}
 use Rattle.vpg_measure.specs.Lifts.{AreChoices}
@@ -36,16 +36,16 @@ NeverWins setting page player v =
     (set : List Bool) → IsRemaining setting.lines (choices_of page) set → (strategy : Strategy) →
     WinsIn setting set player strategy v → ⊥
 
--- One positional strategy of the player wins from the vertex in every product that agrees with the page's decisions,
--- and there every play that it allows, whoever moves for the opponent and however.
+-- One positional strategy of the player wins from the vertex in every product that agrees with the page's decisions. It
+-- wins there every play that it allows, whoever moves for the opponent and however.
 pub record AlwaysWins (setting : Setting) (page : List Entry) (player : Player) (v : ℕ) : Type 0 where
   pub strategy : Strategy
   pub wins : (set : List Bool) → IsRemaining setting.lines (choices_of page) set → WinsIn setting set player strategy v
   pub plays : (set : List Bool) → IsRemaining setting.lines (choices_of page) set →
       WinsEachPlay (product_game (truth set) setting.game) player strategy v
 
--- What a verdict of the vertex means on the page: where it is hopeless Odd wins in every product that is left, and
--- where it is sure Even does; it is never both.
+-- The meaning of a verdict on the page: if the vertex is hopeless Odd wins in every product left, and if it is sure
+-- Even does; it is never both.
 pub record VerdictMeans (setting : Setting) (page : List Entry) (v : ℕ) (hopeless sure : Bool) : Type 0 where
   pub lost : IsTrue hopeless → AlwaysWins setting page Player.Odd v
   pub won : IsTrue sure → AlwaysWins setting page Player.Even v
@@ -57,15 +57,15 @@ AreChoicesAt setting known page which choices =
     AreChoices (levels_for which setting.game) (arena_for (kleene known) which setting.game)
     (table_of which page (length setting.game)) choices
 
--- what a full and settled page says of its one product
+-- the winners of a full and settled page in its one product
 pub record Determines (setting : Setting) (page : List Entry) (known : List Tri) (set : List Bool) : Type 0 where
   pub remaining : IsRemaining setting.lines (choices_of page) set
   pub only : (other : List Bool) → IsRemaining setting.lines (choices_of page) other → other ≡ set
-  -- Even wins from each possible vertex, by the choices of the first table
+  -- Even wins from each possible vertex, by the choices of the hopeful table
   pub possible : (choices : List (Option ℕ)) → AreChoicesAt setting known page Hopeful choices →
       (v : ℕ) → v < length setting.game → ¬ (IsTopAt setting page Hopeful v) →
       WinsIn setting set Player.Even (strategy_of choices) v
-  -- Odd wins from each unsure one, by those of the second
+  -- Odd wins from each unsure one, by those of the dual table
   pub unsure : (choices : List (Option ℕ)) → AreChoicesAt setting known page Dual choices →
       (v : ℕ) → v < length setting.game → ¬ (IsTopAt setting page Dual v) →
       WinsIn setting set Player.Odd (strategy_of choices) v
@@ -77,19 +77,19 @@ pub record Determines (setting : Setting) (page : List Entry) (known : List Tri)
   -- and none is both
   pub not_both : (v : ℕ) → v < length setting.game → ¬ (IsTopAt setting page Hopeful v) →
       ¬ (IsTopAt setting page Dual v) → ⊥
-  -- each vertex is hopeless or sure: hopeless exactly where Odd wins, sure exactly where Even does
+  -- each vertex is hopeless or sure: hopeless exactly if Odd wins, sure exactly if Even does
   pub decided : (v : ℕ) → v < length setting.game → IsTopAt setting page Hopeful v ⊎ IsTopAt setting page Dual v
   pub hopeless : (v : ℕ) → v < length setting.game →
       IsTopAt setting page Hopeful v ↔ HasWin (product_game (truth set) setting.game) Player.Odd v
   pub sure : (v : ℕ) → v < length setting.game →
       IsTopAt setting page Dual v ↔ HasWin (product_game (truth set) setting.game) Player.Even v
 
--- what a page says of the game: its tables are below every progress table, a settled page's are the least, and
--- hopeless and sure mean what they say
+-- the meaning of a page: its tables are below every progress table, a settled page's are the least, and hopeless and
+-- sure name the winner
 pub record Tells (setting : Setting) (page : List Entry) : Type 0 where
   pub consistent : ¬ (HasConflict setting (choices_of page))
   pub below : PageIsBelow (family_of setting) page
-  -- its tables, which an order takes along, are below every progress table of its two games
+  -- its tables, which an order has too, are below every progress table of its two games
   pub tables : (known : List Tri) → IsKnownTable setting.lines (choices_of page) known → (which : Which) →
       IsTableBelow (kleene known) which setting.game (table_of which page (length setting.game))
   pub settled : IsSettledPage (family_of setting) page → (which : Which) →
@@ -97,7 +97,7 @@ pub record Tells (setting : Setting) (page : List Entry) : Type 0 where
   pub hopeless : (v : ℕ) → v < length setting.game → IsTopAt setting page Hopeful v →
       NeverWins setting page Player.Even v
   pub sure : (v : ℕ) → v < length setting.game → IsTopAt setting page Dual v → NeverWins setting page Player.Odd v
-  -- in every product that is left Odd wins from a hopeless vertex and Even from a sure one, settled or not
+  -- in every product left Odd wins from a hopeless vertex and Even from a sure one, settled or not
   pub lost : (v : ℕ) → v < length setting.game → IsTopAt setting page Hopeful v → AlwaysWins setting page Player.Odd v
   pub won : (v : ℕ) → v < length setting.game → IsTopAt setting page Dual v → AlwaysWins setting page Player.Even v
   -- no vertex is both, with products left or none
@@ -112,7 +112,7 @@ verdict_of session v hopeless sure = record { session = session; call = Verdict 
 abbrev pub settled_of : ℕ → Bool → Event
 settled_of session b = record { session = session; call = Settled; reply = IsSettled b }
 
--- What holds of a legal history into which lawful harvests alone were handed.
+-- The laws of a legal history with lawful harvests only.
 pub record Headline (setting : Setting) (history : List Event) : Type 0 where
   -- each accepted undo of serial s leaves the page just before the last accepted decide, retract or redo of s
   pub undo : (front rest : List Event) (session s : ℕ) → history ≡ front ++ undo_of session s ∷ rest →
@@ -124,15 +124,14 @@ pub record Headline (setting : Setting) (history : List Event) : Type 0 where
       (before : List Event) ×
       (IsBeforeLast (gives_redo s) before front ×
       (page_after (family_of setting) (front ++ redo_of session s ∷ []) ≡ page_after (family_of setting) before))
-  -- the tables and verdicts of the present and of each past and future page say what they mean
+  -- the tables and verdicts of the present and of each past and future page mean what they say
   pub pages : EachPage (Tells setting) (book_after (family_of setting) opened history)
-  -- so each verdict that was answered is true of the page that it was asked of, and `settled` says whether the page is
-  -- settled
+  -- so each verdict in a reply is true of the page at that point, and `settled` says whether the page is settled
   pub verdicts : (front rest : List Event) (session v : ℕ) (hopeless sure : Bool) →
       history ≡ front ++ verdict_of session v hopeless sure ∷ rest → v < length setting.game →
       (IsTrue hopeless → NeverWins setting (page_after (family_of setting) front) Player.Even v) ×
       (IsTrue sure → NeverWins setting (page_after (family_of setting) front) Player.Odd v)
-  -- and it names the winner in every product that is left
+  -- and it names the winner in every product left
   pub winners : (front rest : List Event) (session v : ℕ) (hopeless sure : Bool) →
       history ≡ front ++ verdict_of session v hopeless sure ∷ rest → v < length setting.game →
       VerdictMeans setting (page_after (family_of setting) front) v hopeless sure
@@ -163,7 +162,7 @@ pub record Headline (setting : Setting) (history : List Event) : Type 0 where
       IsTopAt setting (page_after (family_of setting) history) which v ↔
       IsTopAt setting (page_after (family_of setting) other) which v
 
--- A harvest is lawful where its tables are below every progress table of the two games that its own decisions give.
+-- A harvest is lawful if its tables are below every progress table of the two games that its own decisions give.
 abbrev pub HarvestsAreLawful : Type 0
 HarvestsAreLawful =
     (setting : Setting) (harvest : Harvest) (known : List Tri) → IsSetting setting →
@@ -171,7 +170,7 @@ HarvestsAreLawful =
     ((which : Which) → IsTableBelow (kleene known) which setting.game (harvested harvest which)) →
     IsLawful (family_of setting) harvest
 
--- The headline holds of every legal history into which lawful harvests alone are handed.
+-- The headline holds of every legal history with lawful harvests only.
 abbrev pub HeadlineHolds : Type 0
 HeadlineHolds =
     (setting : Setting) (history : List Event) → IsSetting setting → IsLegal (family_of setting) history →

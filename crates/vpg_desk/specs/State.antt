@@ -1,4 +1,4 @@
--- What a desk is: a game, a diagram and a book that one of its histories leaves.
+-- The state of a desk: a game, a diagram and a book that one of its histories leaves.
 use Rattle.std.specs.Prelude.{◌≡◌, ℕ, Bool, List}
 use Rattle.vpg_diagram.specs.DiagramText.{NamedDiagram, IsNamedDiagram}
 use Rattle.vpg_diagram.specs.FeatureDiagram.{feature_count}
@@ -23,7 +23,7 @@ setting_between game diagram = record { game = graph_of game; lines = diagram.li
 abbrev pub setting_of : DeskState → Setting
 setting_of state = setting_between state.game state.diagram
 
--- what a desk is opened with
+-- a desk can be opened with this game and diagram
 pub record IsOpened (game : NamedGame) (diagram : NamedDiagram) : Type 0 where
   pub is_setting : IsSetting (setting_between game diagram)
   pub is_game : IsGame game
@@ -31,7 +31,7 @@ pub record IsOpened (game : NamedGame) (diagram : NamedDiagram) : Type 0 where
   pub features : game.features ≡ feature_count diagram.lines
   pub not_at_limit : ¬ IsAtLimit game
 
--- a legal history, into which lawful harvests alone were handed, leaves this book
+-- a legal history with lawful harvests only leaves this book
 pub record IsHistoryOf (setting : Setting) (book : Book) (history : List Event) : Type 0 where
   pub legal : IsLegal (family_of setting) history
   pub lawful : AllHandIn (IsLawful (family_of setting)) history

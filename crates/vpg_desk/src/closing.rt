@@ -5,14 +5,14 @@ use crate::desk::Desk;
 use crate::fault::TokensOut;
 
 impl Desk {
-    /// The number of tokens that are out.
+    /// Returns the number of tokens that are out.
     pub fn tokens(&self) -> u64
         ensures { result ≡ self.now.book.tokens }
     {
         self.tokens
     }
 
-    /// Ends the desk. It comes back where tokens are out.
+    /// Ends the desk. It comes back if tokens are out.
     pub fn close(self) -> Result<(), TokensOut>
         ensures closed { OnOk result (self.book.tokens ≡ 0) }
         ensures out { IfErr result (λ out. (out.tokens ≡ self.book.tokens) × (0 < out.tokens)) }

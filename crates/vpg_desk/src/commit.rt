@@ -1,4 +1,4 @@
-//! Committing what lifters bring back.
+//! Commits of lifters' harvests.
 ghost use Rattle.std.specs.Bool.{Decides};
 ghost use Rattle.std.specs.Prelude.{◌≡◌, ℕ, ◌⊎◌, Bool, true, length, map, None, All, IfOk, IfErr, OnOk, OnErr, IfSome, IsTrue};
 ghost use Rattle.vpg_measure.specs.Orders.{IsSettledHarvest};
@@ -42,7 +42,7 @@ fn is_among(entries: &[Entry], decision: Decision) -> bool
     false
 }
 
-/// The feature of the first decision that isn't among the entries with the same value.
+/// Returns the feature of the first decision that isn't among the entries with the same value.
 fn first_missing(entries: &[Entry], decisions: &[Decision]) -> Option<u16>
     ensures { result ≡ missing_among (choices_of (map entry_of entries.now)) (map literal_of decisions.now) }
 {
@@ -54,7 +54,7 @@ fn first_missing(entries: &[Entry], decisions: &[Decision]) -> Option<u16>
     None
 }
 
-/// The decisions without their serials.
+/// Returns the decisions without their serials.
 fn literals_of(alloc: Global, decisions: &[Decision]) -> Result<Vec<Literal>, AllocError>
     ensures { IfOk result (λ literals. literals.items ≡ map literal_of decisions.now) }
 {
@@ -68,7 +68,7 @@ fn literals_of(alloc: Global, decisions: &[Decision]) -> Result<Vec<Literal>, Al
     Ok(literals)
 }
 
-/// The lifts that raise the trail's tables to the harvest's. All of them share the list of what they assume.
+/// Returns the lifts that raise the trail's tables to the harvest's. All of them share the list of their assumptions.
 fn raise(alloc: Global, trail: &Trail, harvest: &Harvest) -> Result<Vec<Entry>, AllocError>
     requires { length harvest.now.order.game.vertices ≡ trail.now.vertices }
     ensures lifts { IfOk result (λ raised. map entry_of raised.items ≡ raised_by harvest.now trail.now) }
@@ -112,8 +112,8 @@ fn are_same(one: &[Tri], other: &[Tri]) -> bool
     true
 }
 
-/// Whether a page is known to be settled once it has taken a harvest in: it was so before, or the harvest is, and its
-/// decisions make known what is known of the page.
+/// Whether a page is known to be settled after it has taken a harvest. It was so before, or the harvest is, and its
+/// decisions make known exactly what is known of the page.
 fn settles(was: bool, harvest: &Harvest, present: &PageGames) -> bool
     ensures { IsTrue result → IsTrue was ⊎
         (IsSettledHarvest harvest.now ×
@@ -131,7 +131,7 @@ impl Desk {
     ghost use Rattle.vpg_desk.specs.Commit.{IsOrderOf, handed_in, commit_refusal};
     ghost use Rattle.vpg_desk.specs.State.{IsStep, Replies};
 
-    /// Raises the present tables to the harvest's, by one lift for each value above the present one, and gives the
+    /// Raises the present tables to the harvest's, by one lift for each value above the present one, and returns the
     /// number of these lifts: at most 131,072. Refused, in this order: the order's game or diagram isn't the desk's; a
     /// decision of the order doesn't stand; out of memory. A refusal changes nothing, and the harvest comes back.
     pub fn commit(&mut self, alloc: Global, harvest: Harvest) -> Result<u32, CommitRefused>
@@ -159,7 +159,7 @@ impl Desk {
         self.commit_own(alloc, harvest)
     }
 
-    /// As `commit`, of a harvest whose order has this desk's game and diagram: the two are not compared.
+    /// Commits as `commit` does, for a harvest of an order with this desk's game and diagram: the two are not compared.
     pub fn commit_own(&mut self, alloc: Global, harvest: Harvest) -> Result<u32, CommitRefused>
         requires { IsOrderOf self.old harvest.order }
         ensures accepted { IfOk result

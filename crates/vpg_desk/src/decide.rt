@@ -26,7 +26,7 @@ use vpg_measure::{OrderFault, PageGames};
 use vpg_partial::Decision;
 use vpg_trail::{Entry, Trail, decided, decisions_among};
 
-/// Whether what is known of a feature is this value.
+/// Whether a feature is known to have this value.
 fn is_known(known: Tri, value: bool) -> bool
     ensures { result ≡ is_known_as known value }
 {
@@ -37,7 +37,7 @@ fn is_known(known: Tri, value: bool) -> bool
     }
 }
 
-/// The games with one decision more, from those at present.
+/// Returns the games with one more decision, from the present ones.
 fn games_with(
     alloc: Global,
     game: &GuardedGame,
@@ -70,8 +70,8 @@ fn games_with(
     }
 }
 
-/// Puts a decision behind the present page, and keeps the page before it, which was known to be settled or not, under
-/// the decision's serial.
+/// Appends a decision to the present page, and keeps the page before it under the decision's serial. `was` says whether
+/// that page was known to be settled.
 fn push_decision(
     alloc: Global,
     past: &mut Vec<Cut>,
@@ -108,13 +108,12 @@ impl Desk {
     ghost use Rattle.vpg_desk.specs.Faults.{decide_refusal, KnownRefusesNone};
     ghost use Rattle.vpg_desk.specs.State.{IsStep, Replies};
 
-    /// Decides a feature in or out, as the next change, and gives the change's token. A feature that is known but not
-    /// decided may be decided the same way. Refused, in this order: the diagram has no such feature; it is decided
-    /// already; the decision contradicts the diagram and the present decisions; the desk has made its most changes;
-    /// out of memory. What is known on the present page is asked first, without memory: known the other way, a feature
-    /// contradicts it, and known the same way it doesn't. Of a feature of which nothing is known yet it takes memory to
-    /// tell whether there is a contradiction, so want of it may come in the place of the last two. A refusal changes
-    /// nothing.
+    /// Decides a feature in or out, as the next change, and returns the change's token. A feature that is known but not
+    /// decided may be decided the same way. Refused, in this order: the diagram has no such feature; it is decided; the
+    /// decision contradicts diagram and present decisions; the desk has made its most changes; out of memory. Knowledge
+    /// of the present page comes first, without memory: known the other way, a feature contradicts it, and known the
+    /// same way it doesn't. If nothing is known of the feature yet, finding a contradiction takes memory, so `Memory`
+    /// may come in place of the last two. A refusal changes nothing.
     pub fn decide(
         &mut self,
         alloc: Global,
@@ -175,7 +174,7 @@ impl Desk {
         Ok(Undo::of(serial))
     }
 
-    /// Why a feature that is not decided cannot be decided so, as far as what is known on the present page tells.
+    /// Returns why a feature that is not decided cannot be decided so, if the knowledge of the present page shows it.
     fn refused_as_known(&self, feature: u16, value: bool) -> Option<DecideFault>
         requires feature { feature < feature_count self.now.diagram.lines }
         requires fresh { decision_on feature self.now.book.present ≡ None }
@@ -195,9 +194,8 @@ impl Desk {
         None
     }
 
-    /// Whether the present page is known to be settled, and both its tables are so under these games of the same game
-    /// too: no lift raises them at a vertex that the change of what is known concerns. Without the memory to look, that
-    /// isn't known.
+    /// Whether the present page is known to be settled, and stays so under these games of the same game. It looks for
+    /// lifts only at the vertices that the new knowledge concerns. `false` if there is no memory to look.
     fn stays_settled(&self, alloc: Global, games: &PageGames) -> bool
         requires { AreGamesOf self.now.game self.now.diagram games.now }
         ensures { IsTrue result → (which : Side) →

@@ -31,7 +31,7 @@ use vpg_verdict::{Verdict, Which};
 /// The most changes that a desk makes.
 pub const MOST_CHANGES: u64 = 1_048_576;
 
-/// An order, with a note where its tables are known to be progress tables.
+/// Returns an order, with a note if its tables are known to be progress tables.
 fn with_note(order: Order, is_settled: bool) -> Order
     requires { IsTrue is_settled → IsSettledOrder order }
     ensures { result ≡ order }
@@ -39,7 +39,7 @@ fn with_note(order: Order, is_settled: bool) -> Order
     if is_settled { order.noted() } else { order }
 }
 
-/// A page's decisions and both its tables.
+/// Returns a page's decisions and both its tables.
 fn copies(alloc: Global, trail: &Trail) -> Result<(Vec<Decision>, Table, Table), AllocError>
     ensures decisions { IfOk result (λ made. made.0.items ≡ decisions_of trail.now.entries) }
     ensures hopeful { IfOk result (λ made. made.1 ≡ table_of Hopeful trail.now.entries trail.now.vertices) }
@@ -51,7 +51,7 @@ fn copies(alloc: Global, trail: &Trail) -> Result<(Vec<Decision>, Table, Table),
     Ok((decisions, hopeful, dual))
 }
 
-/// What an order shares with the desk.
+/// The parts that an order shares with the desk.
 type Shares = (Arc<GuardedGame>, Arc<Diagram>, Arc<PageGames>);
 
 fn shares(
@@ -85,7 +85,7 @@ pub struct Desk {
     pub(crate) is_noted: bool,
 }
 
-// Not derived, so that letting one go is one call: a derived way would be proved anew at each exit that owns one.
+// Not derived: a derived `drop` would be proved again at each exit that owns such a value.
 impl Drop for Desk {
     fn drop(self) {
         let Desk {
@@ -119,8 +119,9 @@ impl Model for Desk {
 }
 
 impl Desk {
-    /// A desk without decisions; both tables are zero. Refused, in this order: a priority is 65,536, so that there is
-    /// no dual; the diagram alone has a conflict, which names its root; out of memory. What was handed in comes back.
+    /// Returns a desk without decisions; both tables are zero. Refused, in this order: a priority is 65,536, so that
+    /// there is no dual; the diagram alone has a conflict, which names its root; out of memory. The arguments come back
+    /// then.
     pub fn open(
         alloc: Global,
         game: Arc<GuardedGame>,
@@ -158,7 +159,7 @@ impl Desk {
         }
     }
 
-    /// The game.
+    /// Returns the game.
     pub fn game(&self) -> &Arc<GuardedGame>
         ensures game { arc_value result.now ≡ self.now.game }
         ensures opened { IsOpened self.now.game self.now.diagram }
@@ -166,7 +167,7 @@ impl Desk {
         &self.game
     }
 
-    /// The diagram.
+    /// Returns the diagram.
     pub fn diagram(&self) -> &Arc<Diagram>
         ensures diagram { arc_value result.now ≡ self.now.diagram }
         ensures opened { IsOpened self.now.game self.now.diagram }
@@ -174,7 +175,8 @@ impl Desk {
         &self.diagram
     }
 
-    /// What the present decisions make of the game: what is known, and the shapes and the kept edges of both games.
+    /// Returns the games that the present decisions leave: the known features, and the shapes and the kept edges of
+    /// both games.
     pub fn games(&self) -> &Arc<PageGames>
         ensures { ArePageGames self.now.game self.now.diagram (choices_of self.now.book.present)
             (arc_value result.now) }
@@ -182,11 +184,10 @@ impl Desk {
         &self.games
     }
 
-    /// Whether both tables of the present page are progress tables. They are then the least ones. Once a commit of a
-    /// settled harvest has settled a page this is known of it, also when undo, redo or a retraction of the newest
-    /// decision come back to it, and still after decisions by which no lift raises a vertex that names a feature of
-    /// which something else is known then. Else it is a pass over the kept edges, which ends at the first vertex that a
-    /// lift raises.
+    /// Returns whether both tables of the present page are progress tables. They are then the least ones. A page that a
+    /// commit of a settled harvest has settled is known to be so. It still is when undo, redo or a retraction of the
+    /// newest decision return to it. It still is after decisions if then no lift raises a vertex that names a feature
+    /// with new knowledge. Else it is a pass over the kept edges, which ends at the first vertex that a lift raises.
     pub fn settled(&self) -> bool
         ensures reply { Replies self.now Settled (IsSettled result) }
         ensures least { IsTrue result → (which : Side) →
@@ -217,7 +218,7 @@ impl Desk {
     }
 
     /// Returns the verdict of a vertex by the present tables. If it is hopeless Odd wins there in every product left,
-    /// and where it is sure Even does, by one strategy and against every opponent. It is never both.
+    /// and if it is sure Even does, by one strategy and against every opponent. It is never both.
     pub fn verdict(&self, v: u32) -> Verdict
         requires { v < length self.now.game.vertices }
         ensures reply { Replies self.now (AsksVerdict v) (VerdictIs result.hopeless result.sure) }
@@ -235,8 +236,8 @@ impl Desk {
         }
     }
 
-    /// What lifters take along: the game, the diagram, the present decisions and both present tables, with a note where
-    /// the page is known to be settled.
+    /// Returns an order of the present page, for lifters: the game, the diagram, its decisions and both its tables,
+    /// with a note if it is known to be settled.
     pub fn order(&self, alloc: Global) -> Result<Order, AllocError>
         ensures reply { IfOk result
             (λ order. Replies self.now AsksOrder (Ordered order.decisions order.hopeful order.dual)) }
@@ -255,7 +256,7 @@ impl Desk {
         Ok(with_note(order, self.is_noted))
     }
 
-    /// The present page.
+    /// Returns the present page.
     pub fn page(&self, alloc: Global) -> Result<Page, AllocError>
         ensures reply { IfOk result (λ page. Replies self.now AsksPage (PageIs page.entries)) }
         ensures decisions { IfOk result (λ page. page.decisions ≡ decisions_of self.now.book.present) }
@@ -266,7 +267,7 @@ impl Desk {
         ensures below { IfOk result (λ _. PageIsBelow (family_of (setting_of self.now)) self.now.book.present) }
         ensures tells { IfOk result (λ _. Tells (setting_of self.now) self.now.book.present) }
         ensures setting { IfOk result (λ _. IsSetting (setting_of self.now)) }
-        // So what the headline says of every legal history holds of this desk's own.
+        // So the laws of every legal history, the headline, hold of this desk's own.
         ensures reached { IfOk result (λ _. IsReached (setting_of self.now) self.now.book) }
     {
         let entries = Entries::copy_of(alloc, self.trail.entries())?;

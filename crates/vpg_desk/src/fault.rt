@@ -1,4 +1,4 @@
-//! What comes back where calls of a desk are refused.
+//! The values that come back if calls of a desk are refused.
 
 use crate::desk::Desk;
 use crate::redo_token::Redo;
@@ -11,7 +11,7 @@ use vpg_faults::{CommitFault, OpenFault, RedoFault, UndoFault};
 use vpg_game::GuardedGame;
 use vpg_measure::Harvest;
 
-/// A desk that isn't opened, with what was handed in.
+/// A desk that isn't opened, with the arguments.
 #[derive(Drop, Error)]
 #[error("{fault}")]
 pub struct OpenRefused {
@@ -20,7 +20,7 @@ pub struct OpenRefused {
     pub diagram: Arc<Diagram>,
 }
 
-// Written by hand, as those below: what is handed back is not shown.
+// Written by hand, as those below: the values that come back are not shown.
 impl fmt::Debug for OpenRefused {
     fn fmt<W: fmt::Write>(&self, f: &mut fmt::Formatter<W>) -> fmt::Result {
         f.debug_struct("OpenRefused")
@@ -29,7 +29,7 @@ impl fmt::Debug for OpenRefused {
     }
 }
 
-/// A change that isn't undone, with its token. A token is not let go, so this is no `Error`: such a value can be.
+/// A change that isn't undone, with its token. A token can't be dropped, so this is no `Error`, which can be.
 pub struct UndoRefused {
     pub fault: UndoFault,
     pub token: Undo,

@@ -1,4 +1,4 @@
-//! What the decisions of a page make of the desk's game.
+//! The games that the decisions of a page leave.
 ghost use Rattle.std.specs.Arc.{arc_value};
 ghost use Rattle.std.specs.Prelude.{◌≡◌, ◌++◌, map, IfOk};
 ghost use Rattle.vpg_diagram.specs.FeatureDiagram.{feature_count};
@@ -16,7 +16,8 @@ use vpg_game::GuardedGame;
 use vpg_measure::{OrderFault, PageGames};
 use vpg_trail::{Entry, decisions_among};
 
-/// The games of a page, from those of another: the entries before a place, and then a suffix. The page has no conflict.
+/// Returns the games of a page, from those of another: the entries before a place, and then a suffix. The page has no
+/// conflict.
 pub(crate) fn games_of_page(
     alloc: Global,
     game: &GuardedGame,

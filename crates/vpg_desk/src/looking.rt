@@ -27,7 +27,7 @@ fn rises_in(shape: &Shape, arena: &Arena, table: &Table, v: u32) -> bool
     false
 }
 
-/// The first vertex that a lift raises.
+/// Returns the first vertex that a lift raises.
 fn first_raised(shape: &Shape, arena: &Arena, table: &Table) -> Option<u32>
     requires { IsTableOf shape.now arena.now table.now }
     ensures { IsNone result ↔ IsProgressTable shape.now arena.now table.now }
@@ -41,14 +41,14 @@ fn first_raised(shape: &Shape, arena: &Arena, table: &Table) -> Option<u32>
 }
 
 impl Desk {
-    /// The entries of the present page, in their order.
+    /// Returns the entries of the present page, in their order.
     pub fn entries(&self) -> &[Entry]
         ensures { map entry_of result.now ≡ self.now.book.present }
     {
         self.trail.entries()
     }
 
-    /// The number in a table that stands for the top.
+    /// Returns the number in a table that stands for the top.
     pub fn top(&self, which: Which) -> u64
         ensures { result ≡ (family_of (setting_of self.now)).top which }
     {
@@ -67,9 +67,9 @@ impl Desk {
         }
     }
 
-    /// A vertex of one of the present tables that a lift raises; none where the page is settled, which is noted then.
-    /// It is a pass over the kept edges, as `settled`, where that isn't noted. The vertices that name the feature of a
-    /// decision just made come first: where it left a settled page unsettled, mostly a lift raises one of them.
+    /// Returns a vertex of one of the present tables that a lift raises; none if the page is settled, which is noted
+    /// then. Without that note it is a pass over the kept edges, as `settled`. The vertices that name the feature of a
+    /// decision just made come first: if it left a settled page unsettled, usually a lift raises one of them.
     pub fn note(&mut self) -> Option<(Which, u32)>
         ensures same { self.new ≡ self.old }
         ensures reply { MatchOption result (Replies self.old Settled (IsSettled true))
@@ -84,7 +84,7 @@ impl Desk {
         self.look()
     }
 
-    /// A vertex that names the feature of the newest entry, a decision, and that a lift raises.
+    /// Returns a vertex that names the feature of the newest entry, a decision, and that a lift raises.
     fn raised_by_newest(&self) -> Option<(Which, u32)>
         ensures { IfSome result (λ raised. Replies self.now Settled (IsSettled false)) }
     {
@@ -100,7 +100,7 @@ impl Desk {
         None
     }
 
-    /// A table in which a lift raises the vertex.
+    /// Returns a table in which a lift raises the vertex.
     fn raised_at(&self, v: u32) -> Option<Which>
         ensures { IfSome result (λ which. Replies self.now Settled (IsSettled false)) }
     {
@@ -113,7 +113,8 @@ impl Desk {
         None
     }
 
-    /// The first vertex of a present table that a lift raises; none where the page is settled, which is noted then.
+    /// Returns the first vertex of a present table that a lift raises; none if the page is settled, which is noted
+    /// then.
     fn look(&mut self) -> Option<(Which, u32)>
         ensures same { self.new ≡ self.old }
         ensures reply { MatchOption result (Replies self.old Settled (IsSettled true))
@@ -129,7 +130,7 @@ impl Desk {
         None
     }
 
-    /// The first vertex of a present table that a lift raises.
+    /// Returns the first vertex of a present table that a lift raises.
     fn raised(&self, which: Which) -> Option<u32>
         ensures { IsNone result ↔
             IsProgressUnder (setting_of self.now) (choices_of self.now.book.present) which

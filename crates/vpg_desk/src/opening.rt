@@ -1,4 +1,4 @@
-//! What is made before a desk is opened.
+//! The parts of a desk that are made before it is opened.
 ghost use Rattle.std.specs.Arc.{arc_value};
 ghost use Rattle.std.specs.Prelude.{◌≡◌, ◌↔◌, ℕ, [], length, Err, IfOk, IfErr, OnOk};
 ghost use Rattle.vpg_diagram.specs.FeatureDiagram.{feature_count};
@@ -15,7 +15,7 @@ use vpg_game::GuardedGame;
 use vpg_measure::{OrderFault, PageGames, Which};
 use vpg_trail::Trail;
 
-/// The games without a decision.
+/// Returns the games without a decision.
 fn first_games(
     alloc: Global,
     game: &GuardedGame,
@@ -34,7 +34,7 @@ fn first_games(
     }
 }
 
-/// The games and the trail of a page without entries.
+/// Returns the games and the trail of a page without entries.
 pub(crate) fn first_page(
     alloc: Global,
     game: &GuardedGame,

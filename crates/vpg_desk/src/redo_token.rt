@@ -3,7 +3,8 @@ ghost use Rattle.std.specs.Prelude.{◌≡◌};
 
 use std::marker::Model;
 
-/// Stands for a change that was undone. It can be neither copied nor let go: `Desk::redo` or `Desk::forget` spends it.
+/// The right to redo a change that was undone. It can be neither copied nor dropped: `Desk::redo` or `Desk::forget`
+/// spends it.
 pub struct Redo {
     serial: u64,
 }
@@ -23,14 +24,14 @@ impl Redo {
         Redo { serial }
     }
 
-    /// The serial of the change.
+    /// Returns the serial of the change.
     pub fn serial(&self) -> u64
         ensures { result ≡ self.now }
     {
         self.serial
     }
 
-    /// Ends the token.
+    /// Ends the token, and returns its serial.
     pub(crate) fn spend(self) -> u64
         ensures { result ≡ self }
     {

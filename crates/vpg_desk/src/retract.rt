@@ -13,7 +13,7 @@ use std::alloc::{AllocError, Global};
 use vpg_faults::RetractFault;
 use vpg_trail::{Entry, Trail, kept_after, place_of};
 
-/// Whether a retraction gives the newest past page back, and that page is known to be settled: both have the present
+/// Whether a retraction returns to the newest past page, and that page is known to be settled: both have the present
 /// entries up to the place, and none after them.
 fn gives_back(past: &[Cut], place: usize, kept: &[Entry]) -> bool
     ensures { IsTrue result ↔ GivesBack (cuts_of past.now) (notes_of past.now) place (map entry_of kept.now) }
@@ -26,8 +26,8 @@ fn gives_back(past: &[Cut], place: usize, kept: &[Entry]) -> bool
     }
 }
 
-/// Puts the suffix, whose lifts stand, in place of the entries from a place on, and keeps the page before it, which was
-/// known to be settled or not, under the serial.
+/// Puts the suffix in place of the entries from a place on; its lifts stand. Keeps the page before it under the serial.
+/// `was` says whether that page was known to be settled.
 fn cut_out(
     past: &mut Vec<Cut>,
     trail: &mut Trail,
@@ -67,7 +67,7 @@ impl Desk {
     ghost use Rattle.vpg_desk.specs.Faults.{retract_refusal};
     ghost use Rattle.vpg_desk.specs.State.{IsStep, Replies};
 
-    /// Takes the decision on a feature back, as the next change, and gives the change's token. Of the later entries it
+    /// Retracts the decision on a feature, as the next change, and returns the change's token. Of the later entries it
     /// drops the lifts that assumed the decision; the others stay, with the old values that the entries now before them
     /// give. Refused, in this order: the diagram has no such feature; it isn't decided; the desk has made its most
     /// changes; out of memory. A refusal changes nothing.

@@ -1,4 +1,4 @@
-//! That a desk can be sent to another thread: what shares one under a lock rests on it.
+//! A desk can be sent to another thread: sharing one under a lock rests on it.
 
 use crate::desk::Desk;
 

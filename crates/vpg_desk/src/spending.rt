@@ -8,7 +8,7 @@ use crate::desk::Desk;
 use crate::redo_token::Redo;
 use crate::undo_token::Undo;
 
-/// How many cuts lie at the one of this serial and beyond it; none where none has it.
+/// Returns the number of cuts at the one of this serial and beyond it; 0 if none has it.
 fn up_to(cuts: &[Cut], serial: u64) -> usize
     ensures in_range { result ≤ length cuts.now }
     ensures kept { cuts_of (drop result cuts.now) ≡ cuts_in_front_of serial (cuts_of cuts.now) }
@@ -23,7 +23,7 @@ fn up_to(cuts: &[Cut], serial: u64) -> usize
     n
 }
 
-/// Drops the cut of this serial and those beyond it, where there is one.
+/// Drops the cut of this serial and those beyond it, if there is one.
 fn drop_up_to(cuts: &mut Vec<Cut>, serial: u64)
     ensures front { cuts_of cuts.new.items ≡ cuts_in_front_of serial (cuts_of cuts.old.items) }
     ensures notes { notes_of cuts.new.items ≡ take (length cuts.new.items) (notes_of cuts.old.items) }
@@ -39,7 +39,7 @@ impl Desk {
     ghost use Rattle.vpg_desk.specs.Book.{Keep, Forget, Spent};
     ghost use Rattle.vpg_desk.specs.State.{IsStep};
 
-    /// Spends a token for good: where the past has its change, the pages up to it are dropped.
+    /// Gives an undo up: if the past has its change, the pages up to it are dropped.
     pub fn keep(&mut self, token: Undo)
         requires { 0 < self.old.book.tokens }
         ensures { (session : ℕ) → IsStep self.old session (Keep token) Spent self.new }
@@ -48,7 +48,7 @@ impl Desk {
         self.tokens -= 1;
     }
 
-    /// Spends a token for good: where the future has its change, the pages from it on are dropped.
+    /// Gives a redo up: if the future has its change, the pages from it on are dropped.
     pub fn forget(&mut self, token: Redo)
         requires { 0 < self.old.book.tokens }
         ensures { (session : ℕ) → IsStep self.old session (Forget token) Spent self.new }

@@ -35,7 +35,7 @@ fn has_serial(cuts: &[Cut], serial: u64) -> bool
     false
 }
 
-/// Why the newest past page isn't that of the serial.
+/// Returns why the newest past page isn't that of the serial.
 pub(crate) fn undo_fault(past: &[Cut], serial: u64) -> Option<UndoFault>
     ensures { MatchOption result (refuses_undo serial (serials_from_top past.now) ≡ None)
         (λ fault. refuses_undo serial (serials_from_top past.now) ≡ undo_refusal fault) }
@@ -54,7 +54,7 @@ pub(crate) fn undo_fault(past: &[Cut], serial: u64) -> Option<UndoFault>
     Some(UndoFault::Sealed)
 }
 
-/// Why the nearest future page isn't that of the serial.
+/// Returns why the nearest future page isn't that of the serial.
 pub(crate) fn redo_fault(future: &[Cut], serial: u64) -> Option<RedoFault>
     ensures { MatchOption result (refuses_redo serial (serials_from_top future.now) ≡ None)
         (λ fault. refuses_redo serial (serials_from_top future.now) ≡ redo_refusal fault) }
@@ -73,7 +73,7 @@ pub(crate) fn redo_fault(future: &[Cut], serial: u64) -> Option<RedoFault>
     Some(RedoFault::Overtaken)
 }
 
-/// What the decisions of the nearest page make of the game, from what those of the present page make of it.
+/// Returns the games that the decisions of the nearest page leave, from those of the present page.
 pub(crate) fn games_over(
     alloc: Global,
     game: &GuardedGame,
@@ -99,8 +99,9 @@ pub(crate) fn games_over(
     games_of_page(alloc, game, diagram, before, &cut.suffix, present)
 }
 
-/// Takes the nearest page of the one side in place of the present one, which was known to be settled or not, and
-/// becomes the nearest of the other side. Gives whether the page that is present now is known to be settled.
+/// Puts the nearest page of one side in place of the present one, which becomes the nearest of the other side. `was`
+/// says whether the present page was known to be settled. Returns whether the page that is present now is known to be
+/// settled.
 pub(crate) fn swing(
     from: &mut Vec<Cut>,
     trail: &mut Trail,

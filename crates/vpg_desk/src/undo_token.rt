@@ -3,8 +3,7 @@ ghost use Rattle.std.specs.Prelude.{◌≡◌};
 
 use std::marker::Model;
 
-/// Stands for a change, which an undo takes back. It can be neither copied nor let go: `Desk::undo` or `Desk::keep`
-/// spends it.
+/// The right to undo a change. It can be neither copied nor dropped: `Desk::undo` or `Desk::keep` spends it.
 pub struct Undo {
     serial: u64,
 }
@@ -24,14 +23,14 @@ impl Undo {
         Undo { serial }
     }
 
-    /// The serial of the change.
+    /// Returns the serial of the change.
     pub fn serial(&self) -> u64
         ensures { result ≡ self.now }
     {
         self.serial
     }
 
-    /// Ends the token.
+    /// Ends the token, and returns its serial.
     pub(crate) fn spend(self) -> u64
         ensures { result ≡ self }
     {

@@ -15,7 +15,7 @@ impl Desk {
     ghost use Rattle.vpg_desk.specs.History.{gives_undo, gives_redo};
     ghost use Rattle.vpg_desk.specs.State.{IsStep, Replies, Restores};
 
-    /// Takes the token's change back, and gives a token to redo it: the present page is the one in which the change was
+    /// Undoes the token's change, and returns a token to redo it: the present page is the one in which the change was
     /// made. Refused, in this order: the past has no page of this change any more; a newer change has to be undone
     /// first; out of memory. A refusal changes nothing, and the token comes back.
     pub fn undo(&mut self, alloc: Global, token: Undo) -> Result<Redo, UndoRefused>
@@ -37,8 +37,8 @@ impl Desk {
         }
     }
 
-    /// Makes the token's change again, and gives a token to undo it: the present page is the one in which the change
-    /// was undone. Refused, in this order: the future has no page of this change any more; an earlier change has to be
+    /// Redoes the token's change, and returns a token to undo it: the present page is the one in which the change was
+    /// undone. Refused, in this order: the future has no page of this change any more; an earlier change has to be
     /// redone first; out of memory. A refusal changes nothing, and the token comes back.
     pub fn redo(&mut self, alloc: Global, token: Redo) -> Result<Undo, RedoRefused>
         requires { 0 < self.old.book.tokens }
@@ -59,7 +59,7 @@ impl Desk {
         }
     }
 
-    /// Goes back to the newest past page, where that has the serial.
+    /// Goes back to the newest past page, if that has the serial.
     fn swing_back(&mut self, alloc: Global, serial: u64) -> Result<(), UndoFault>
         ensures accepted { OnOk result
             ((session : ℕ) → IsStep self.old session (AsksUndo serial) (Undone serial) self.new) }
@@ -90,7 +90,7 @@ impl Desk {
         Ok(())
     }
 
-    /// Goes forth to the nearest future page, where that has the serial.
+    /// Goes forth to the nearest future page, if that has the serial.
     fn swing_forth(&mut self, alloc: Global, serial: u64) -> Result<(), RedoFault>
         ensures accepted { OnOk result
             ((session : ℕ) → IsStep self.old session (AsksRedo serial) (Redone serial) self.new) }

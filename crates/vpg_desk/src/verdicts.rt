@@ -10,7 +10,7 @@ use crate::desk::Desk;
 use std::alloc::{AllocError, Global};
 use vpg_verdict::{Verdict, Which};
 
-/// The verdict of each vertex, by its values in two tables and the numbers that stand for the tops of these.
+/// Returns the verdict of each vertex, by its values in two tables and the numbers that stand for the tops of these.
 fn verdicts_by(
     alloc: Global,
     hopeful: &[u64],

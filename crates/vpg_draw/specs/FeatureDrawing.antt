@@ -1,6 +1,6 @@
--- The picture of a feature diagram, in Graphviz's language (DOT): a filled dot at the end of a mandatory edge and an
--- empty one at that of an optional one, as in FODA (Kang et al. 1990). Graphviz has no arcs between edges, so a
--- triangle stands for the arc of a group: filled for or, empty for alternative, and with its range for a cardinality.
+-- The picture of a feature diagram, in Graphviz's language (DOT). A filled dot ends a mandatory edge and an empty one
+-- an optional edge, as in FODA (Kang et al. 1990). Graphviz has no arcs between edges, so a triangle stands for the arc
+-- of a group: filled for or, empty for alternative, and with its range for a cardinality.
 use Rattle.std.specs.Prelude.{ℕ, zero, suc, Bool, if◌then◌else◌, ◌==◌, ◌||◌, List, [], ◌∷◌, ◌++◌, length, filter, Option, Some, None, codes, bytes_eq, flat_map, slice_index_or}
 use Rattle.std.specs.List.{slice_split}
 use Rattle.vpg_guards.specs.declared.tri.Tri.{Tri}
@@ -17,7 +17,7 @@ use Rattle.vpg_draw.specs.Labels.{label_byte, feature_name, choices_text}
 abbrev pub is_break : ℕ → Bool
 is_break b = (b == 32) || (b == 9) || (b == 13) || (b == 58)
 
--- the words of a line: what stands between these
+-- the words of a line, which these bytes separate
 abbrev pub pieces : List ℕ → List (List ℕ)
 pieces line = filter is_nonempty (slice_split is_break line)
 
@@ -42,7 +42,7 @@ kind_of w =
 
 -- ---- features
 
--- what is known in is green, what is open white, what is known out grey
+-- a feature known in is green, an open one white, one known out grey
 abbrev pub value_look : Tri → List ℕ
 value_look Yes = codes " [fillcolor=honeydew, color=darkgreen];\n"
 value_look Unknown = codes " [fillcolor=white, style=\"filled,dashed\"];\n"
@@ -51,7 +51,7 @@ value_look No = codes " [fillcolor=gray92, fontcolor=gray60];\n"
 abbrev pub feature_text : List ℕ → Tri → List ℕ
 feature_text name value = codes "  " ++ quoted name ++ value_look value
 
--- those of the features below n
+-- the lines of the features below n
 abbrev pub features_text : List (List ℕ) → List Tri → ℕ → List ℕ
 features_text names known zero = []
 features_text names known (suc n) =
@@ -76,7 +76,7 @@ arc_text parent look arc =
     codes "  " ++ quoted arc ++ codes " [shape=triangle, height=0.2, width=0.3, " ++ look
     ++ arrow_text parent (codes " [arrowhead=none];\n") arc
 
--- so far as there are members: the arc, and the ways from it
+-- if there are members: the arc, and the ways from it
 abbrev pub group_text : List ℕ → List ℕ → List (List ℕ) → List ℕ
 group_text parent look [] = []
 group_text parent look (first ∷ more) =
@@ -88,7 +88,7 @@ range_look low high =
     codes "fillcolor=white, label=\"\", xlabel=\"" ++ flat_map label_byte low ++ codes ".." ++ flat_map label_byte high
     ++ codes "\"];\n"
 
--- what a line of this kind draws: its parent, and what stands behind it
+-- the picture of a line of this kind, by its parent and the words after that
 abbrev pub kind_text : Kind → List ℕ → List (List ℕ) → List ℕ
 kind_text kinds.Mandatory parent words = arrows_text parent (codes " [arrowhead=dot];\n") words
 kind_text kinds.Optional parent words = arrows_text parent (codes " [arrowhead=odot];\n") words
@@ -120,7 +120,7 @@ features_opening = codes "digraph features {\n  graph [label=\"decisions"
 unfoldable pub features_defaults : List ℕ
 features_defaults = codes "\", labelloc=t];\n  node [shape=box, style=filled, height=0.3];\n"
 
--- the decisions, a line for each feature in the diagram's order, and then what each line of the text draws
+-- the decisions, a line for each feature in the diagram's order, and then the picture of each line of the text
 abbrev pub feature_drawing : List (List ℕ) → List Tri → List Literal → List ℕ → List ℕ
 feature_drawing names known choices text =
     features_opening ++ choices_text names choices ++ features_defaults

@@ -40,11 +40,11 @@ vertex_start v name =
 abbrev pub vertex_text : NamedVertex → List ℕ → Verdict → List ℕ
 vertex_text v name verdict = vertex_start v name ++ colours_text verdict.hopeless verdict.sure
 
--- what a look-up past the end gives
+-- the verdict for a look-up past the end
 abbrev pub no_verdict : Verdict
 no_verdict = record { hopeless = false; sure = false }
 
--- those of the vertices below n
+-- the lines of the vertices below n
 abbrev pub vertices_text : List NamedVertex → List (List ℕ) → List Verdict → ℕ → List ℕ
 vertices_text vertices labels verdicts zero = []
 vertices_text vertices labels verdicts (suc n) =
@@ -60,7 +60,7 @@ style_text Yes = codes "style=solid];\n"
 style_text Unknown = codes "style=dashed, color=steelblue, fontcolor=steelblue];\n"
 style_text No = codes "style=dotted, color=gray70, fontcolor=gray50];\n"
 
--- a guard but `true`
+-- a guard, unless it is `true`
 abbrev pub guard_label : List (List ℕ) → Formula → List ℕ
 guard_label names always = []
 guard_label names g = codes "label=\"" ++ guard_text names g ++ codes "\", "
@@ -77,7 +77,7 @@ edge_text names known vertices id e = edge_start names vertices id e ++ style_te
 abbrev pub edges_text : List (List ℕ) → List Tri → List NamedVertex → NamedVertex → List ℕ
 edges_text names known vertices v = flat_map (edge_text names known vertices v.id) v.edges
 
--- those of the vertices below n
+-- the edges of the vertices below n
 abbrev pub all_edges_text : List (List ℕ) → List Tri → List NamedVertex → ℕ → List ℕ
 all_edges_text names known vertices zero = []
 all_edges_text names known vertices (suc n) =

@@ -1,9 +1,9 @@
--- What stands between the quotes of a Graphviz label (Graphviz's documentation, "Attribute types", escString and
+-- The text between the quotes of a Graphviz label (Graphviz's documentation, "Attribute types", escString and
 -- lblString).
 use Rattle.std.specs.Prelude.{ℕ, ◌+◌, Bool, if◌then◌else◌, ◌==◌, ◌&&◌, nat_le, nat_lt, List, [], ◌∷◌, ◌++◌, codes, decimal, flat_map, slice_index_or}
 use Rattle.vpg_diagram.specs.declared.clause.Literal.{Literal}
 
--- A quote and a backslash stand behind a backslash, `&` is written as an entity, and control bytes are blanks.
+-- A quote and a backslash have a backslash before them, `&` is written as an entity, and control bytes are blanks.
 abbrev pub label_byte : ℕ → List ℕ
 label_byte b =
     if b == 34 then codes "\\\""
@@ -11,11 +11,11 @@ label_byte b =
     else (if b == 38 then codes "&amp;"
     else (if nat_lt b 32 then codes " " else b ∷ [])))
 
--- a blank behind 12 bytes of a line or more ends it
+-- a blank after 12 bytes of a line or more ends it
 abbrev pub ends_line : ℕ → ℕ → Bool
 ends_line column b = (b == 32) && nat_le 12 column
 
--- a name in lines, where so many bytes stand on the present one
+-- a name in lines, if the present line has this many bytes already
 abbrev pub wrapped : ℕ → List ℕ → List ℕ
 wrapped column [] = []
 wrapped column (b ∷ bytes) =

@@ -15,7 +15,7 @@ use Rattle.vpg_draw.specs.GameDrawing.{vertex_start, colours_text, no_verdict, s
 
 -- ---- vertices
 
--- the one from which the others are reached
+-- the vertex from which the others are reached
 abbrev pub first_text : Bool → List ℕ
 first_text true = codes ", penwidth=3"
 first_text false = []
@@ -24,7 +24,7 @@ abbrev pub part_vertex_text : NamedVertex → List ℕ → Verdict → (is_first
 part_vertex_text v name verdict is_first =
     vertex_start v name ++ first_text is_first ++ colours_text verdict.hopeless verdict.sure
 
--- those of the marked vertices below n
+-- the lines of the marked vertices below n
 abbrev pub part_vertices_text : List NamedVertex → List (List ℕ) → List Verdict → (first : ℕ) → (marks : List Bool) →
     ℕ → List ℕ
 part_vertices_text vertices labels verdicts first marks zero = []
@@ -48,7 +48,8 @@ abbrev pub leads_to : Option ℕ → ℕ → Bool
 leads_to None w = false
 leads_to (Some m) w = m == w
 
--- Whether an edge is drawn: none that is known not to be there, and of a vertex whose move is listed that move alone.
+-- Whether an edge is drawn. It isn't if its guard is known false; of a vertex with a listed move only that move is
+-- drawn.
 abbrev pub is_drawn : (is_listed is_move : Bool) → Tri → Bool
 is_drawn is_listed is_move No = false
 is_drawn false is_move Unknown = true
@@ -79,7 +80,7 @@ abbrev pub part_edges_text : List (List ℕ) → List Tri → List NamedVertex �
 part_edges_text names known vertices v mover move =
     flat_map (part_edge_text names known vertices v mover move) v.edges
 
--- those of the marked vertices below n
+-- the edges of the marked vertices below n
 abbrev pub all_part_edges_text : List (List ℕ) → List Tri → List NamedVertex → (marks : List Bool) →
     (mover : Option Player) → (moves : List (Option ℕ)) → ℕ → List ℕ
 all_part_edges_text names known vertices marks mover moves zero = []
@@ -91,7 +92,7 @@ all_part_edges_text names known vertices marks mover moves (suc n) =
 
 -- ---- the picture
 
--- its name is another than that of the whole game's picture
+-- its name differs from that of the whole game's picture
 unfoldable pub part_opening_text : List ℕ
 part_opening_text = codes "digraph part {\n  graph [label=\"decisions"
 
@@ -99,7 +100,7 @@ abbrev pub part_heading_text : List (List ℕ) → List Literal → List ℕ
 part_heading_text names choices = part_opening_text ++ choices_text names choices ++ defaults_text
 
 -- The decisions, a line for each marked vertex in file order, and then one for each edge of theirs that is drawn. The
--- moves are those of the mover; where there is none, no moves are listed.
+-- moves are those of the mover; without one, no moves are listed.
 abbrev pub part_drawing : List (List ℕ) → List Tri → List Literal → List (List ℕ) → List Verdict → NamedGame →
     (first : ℕ) → (marks : List Bool) → (mover : Option Player) → (moves : List (Option ℕ)) → List ℕ
 part_drawing names known choices labels verdicts game first marks mover moves =

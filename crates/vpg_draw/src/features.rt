@@ -40,7 +40,7 @@ fn is_nonempty(part: &[u8]) -> bool
     }
 }
 
-/// The words of a line.
+/// Returns the words of a line.
 fn pieces(alloc: Global, line: &[u8]) -> Result<Vec<&[u8]>, AllocError>
     ensures { IfOk result (λ v. map (λ w. w.now) v.items ≡ pieces line.now) }
 {
@@ -159,7 +159,7 @@ fn arrows(from: &[u8], look: &[u8], words: &[&[u8]], out: &mut Vec<u8>) -> Resul
     Ok(())
 }
 
-/// The name of the node that stands for the arc of a group.
+/// Returns the name of the node that stands for the arc of a group.
 #[tactic(auto, unfolding(crate::specs::FeatureDrawing::arc_name))]
 fn arc_name(alloc: Global, first: &[u8]) -> Result<Vec<u8>, AllocError>
     ensures { IfOk result (λ name. name.items ≡ arc_name first.now) }
@@ -181,7 +181,7 @@ fn arc(parent: &[u8], look: &[u8], arc: &[u8], out: &mut Vec<u8>) -> Result<(), 
     arrow(parent, b" [arrowhead=none];\n", arc, out)
 }
 
-/// Appends what a group of these members draws.
+/// Appends the picture of a group of these members.
 fn members(
     alloc: Global,
     parent: &[u8],
@@ -199,7 +199,7 @@ fn members(
     arrows(&name, b" [arrowhead=none];\n", more, out)
 }
 
-/// Appends what a group draws.
+/// Appends the picture of a group.
 fn group(
     alloc: Global,
     parent: &[u8],
@@ -216,7 +216,7 @@ fn group(
     }
 }
 
-/// How the arc of a group with a cardinality looks.
+/// Returns the look of the arc of a group with a cardinality.
 fn range_look(alloc: Global, low: &[u8], high: &[u8]) -> Result<Vec<u8>, AllocError>
     ensures { IfOk result (λ look. look.items ≡ range_look low.now high.now) }
 {
@@ -243,7 +243,7 @@ fn ranged(
     group(alloc, parent, &look, words, out)
 }
 
-/// Appends what a group with a cardinality draws.
+/// Appends the picture of a group with a cardinality.
 fn range(alloc: Global, parent: &[u8], words: &[&[u8]], out: &mut Vec<u8>) -> Result<(), AllocError>
     ensures { OnOk result (out.new.items ≡ out.old.items
         ++ kind_text Kind.Group parent.now (map (λ w. w.now) words.now)) }
@@ -254,7 +254,7 @@ fn range(alloc: Global, parent: &[u8], words: &[&[u8]], out: &mut Vec<u8>) -> Re
     }
 }
 
-/// Appends what a line of this kind draws.
+/// Appends the picture of a line of this kind.
 fn by_kind(
     alloc: Global,
     kind: Kind,
@@ -313,7 +313,7 @@ fn of_kind(
     }
 }
 
-/// Appends what the words of a line draw.
+/// Appends the picture of the line of these words.
 fn of_words(alloc: Global, words: &[&[u8]], out: &mut Vec<u8>) -> Result<(), AllocError>
     ensures { OnOk result (out.new.items ≡ out.old.items ++ words_text (map (λ w. w.now) words.now)) }
 {
@@ -323,7 +323,7 @@ fn of_words(alloc: Global, words: &[&[u8]], out: &mut Vec<u8>) -> Result<(), All
     }
 }
 
-/// Appends what a line draws.
+/// Appends the picture of a line.
 fn line(alloc: Global, line: &[u8], out: &mut Vec<u8>) -> Result<(), AllocError>
     ensures { OnOk result (out.new.items ≡ out.old.items ++ line_text line.now) }
 {
@@ -331,7 +331,7 @@ fn line(alloc: Global, line: &[u8], out: &mut Vec<u8>) -> Result<(), AllocError>
     of_words(alloc, &words, out)
 }
 
-/// Appends what the lines draw.
+/// Appends the pictures of the lines.
 fn each_line(alloc: Global, lines: &[&[u8]], out: &mut Vec<u8>) -> Result<(), AllocError>
     ensures { OnOk result (out.new.items ≡ out.old.items ++ flat_map line_text (map (λ w. w.now) lines.now)) }
 {
@@ -341,7 +341,7 @@ fn each_line(alloc: Global, lines: &[&[u8]], out: &mut Vec<u8>) -> Result<(), Al
     Ok(())
 }
 
-/// Appends what all lines of a text draw.
+/// Appends the pictures of all lines of a text.
 fn whole(alloc: Global, text: &[u8], out: &mut Vec<u8>) -> Result<(), AllocError>
     ensures { OnOk result (out.new.items ≡ out.old.items ++ flat_map line_text (slice_split is_line_end text.now)) }
 {
@@ -363,12 +363,12 @@ fn defaults(out: &mut Vec<u8>) -> Result<(), AllocError>
     out.extend_from_slice(b"\", labelloc=t];\n  node [shape=box, style=filled, height=0.3];\n")
 }
 
-/// Appends the picture of a feature diagram: the decisions; each feature in the diagram's order, green where it is
-/// known in, grey where it is known out, white and dashed where it is open; then what each line of the text draws, in
-/// their order.
+/// Appends the picture of a feature diagram. First come the decisions; then each feature in the diagram's order, green
+/// if known in, grey if known out, white and dashed if open. Then comes the picture of each line of the text, in their
+/// order.
 ///
-/// `text` is the one that the diagram was read from, and `known` has what is known of each feature. `Err` leaves `out`
-/// as it was.
+/// `text` is the one that the diagram was read from, and `known` has the value of each feature. `Err` leaves `out` as
+/// it was.
 pub fn draw_features(
     alloc: Global,
     text: &[u8],

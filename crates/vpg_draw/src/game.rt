@@ -34,7 +34,7 @@ pub(crate) fn colours(verdict: Verdict, out: &mut Vec<u8>) -> Result<(), AllocEr
     }
 }
 
-/// Appends a name below what stands there.
+/// Appends a name below the text so far.
 fn name_line(name: &[u8], out: &mut Vec<u8>) -> Result<(), AllocError>
     ensures { OnOk result (out.new.items ≡ out.old.items ++ name_line name.now) }
 {
@@ -45,7 +45,7 @@ fn name_line(name: &[u8], out: &mut Vec<u8>) -> Result<(), AllocError>
     wrapped(name, out)
 }
 
-/// The identifier of a vertex.
+/// Returns the identifier of a vertex.
 pub(crate) fn identifier(game: &GuardedGame, v: u32) -> u32
     requires { v < length game.now.vertices }
     ensures list { result ≡ slice_index (vertex_ids game.now.vertices) v }
@@ -112,8 +112,8 @@ fn vertices(
     Ok(())
 }
 
-/// Appends the style of an edge by its guard's value, up to the end of the line: solid where it is true, dashed where
-/// it is open, dotted where it is false.
+/// Appends the style of an edge by its guard's value, up to the end of the line: solid if true, dashed if open, dotted
+/// if false.
 pub fn style(value: Tri, out: &mut Vec<u8>) -> Result<(), AllocError>
     ensures { OnOk result (out.new.items ≡ out.old.items ++ style_text value) }
 {
@@ -126,7 +126,7 @@ pub fn style(value: Tri, out: &mut Vec<u8>) -> Result<(), AllocError>
     }
 }
 
-/// Appends the label of a guard, where it is not `true`.
+/// Appends the label of a guard, unless it is `true`.
 fn guard_label(
     alloc: Global,
     names: &Names,
@@ -244,7 +244,7 @@ pub(crate) fn defaults(out: &mut Vec<u8>) -> Result<(), AllocError>
     out.extend_from_slice(b"\", labelloc=t, rankdir=LR];\n  node [style=filled];\n")
 }
 
-/// Appends what comes first.
+/// Appends the beginning of the picture.
 fn heading(features: &Names, decisions: &[Decision], out: &mut Vec<u8>) -> Result<(), AllocError>
     requires { All (λ d. d.feature < length features.now) decisions.now }
     ensures { OnOk result (out.new.items ≡ out.old.items ++ heading_text features.now (map literal_of decisions.now)) }
@@ -254,12 +254,12 @@ fn heading(features: &Names, decisions: &[Decision], out: &mut Vec<u8>) -> Resul
     defaults(out)
 }
 
-/// Appends the picture of a game on a page: the decisions, then each vertex in file order, a diamond for Even and a box
-/// for Odd, with its identifier, its priority, its name where it has one, and a colour for its verdict (red hopeless,
-/// green sure); then each edge with its guard, solid where it is kept, dashed where it may be, dotted where it is left
-/// out.
+/// Appends the picture of a game on a page. First come the decisions; then each vertex in file order, a diamond for
+/// Even and a box for Odd. It has its identifier, its priority, its name if it has one, and a colour for its verdict
+/// (red hopeless, green sure). Then comes each edge with its guard, solid if it is kept, dashed if it may be there,
+/// dotted if it is left out.
 ///
-/// `known` has what is known of each feature, `verdicts` one verdict for each vertex. `Err` leaves the text as it was.
+/// `known` has the value of each feature, `verdicts` one verdict for each vertex. `Err` leaves the text as it was.
 pub fn draw_game(
     alloc: Global,
     game: &GuardedGame,

@@ -1,4 +1,4 @@
-//! What stands between the quotes of labels.
+//! The text between the quotes of labels.
 ghost use Rattle.std.specs.Prelude.{◌≡◌, ◌<◌, ◌++◌, All, OnOk, decimal, flat_map, length, map};
 ghost use Rattle.vpg_partial.specs.Known.{literal_of};
 ghost use Rattle.vpg_draw.specs.Labels.{label_byte, ends_line, wrapped, feature_name, choice_text, choices_text};
@@ -8,7 +8,7 @@ use std::alloc::AllocError;
 use vpg_guards::Names;
 use vpg_partial::Decision;
 
-/// The bytes of a line behind which a blank ends it.
+/// The number of bytes in a line after which a blank ends it.
 const LINE: usize = 12;
 
 /// Appends a number in decimal.
@@ -37,7 +37,7 @@ fn label_byte(b: u8, out: &mut Vec<u8>) -> Result<(), AllocError>
     out.extend_from_slice(&[b])
 }
 
-/// Appends bytes as they stand between quotes.
+/// Appends bytes as they are written between quotes.
 pub fn escaped(bytes: &[u8], out: &mut Vec<u8>) -> Result<(), AllocError>
     ensures { OnOk result (out.new.items ≡ out.old.items ++ flat_map label_byte bytes.now) }
 {
@@ -87,7 +87,7 @@ fn choice(names: &Names, d: &Decision, out: &mut Vec<u8>) -> Result<(), AllocErr
     feature(names, d.feature, out)
 }
 
-/// Appends what decisions choose.
+/// Appends the choices of decisions.
 pub fn choices(names: &Names, decisions: &[Decision], out: &mut Vec<u8>) -> Result<(), AllocError>
     requires { All (λ d. d.feature < length names.now) decisions.now }
     ensures { OnOk result (out.new.items ≡ out.old.items ++ choices_text names.now (map literal_of decisions.now)) }

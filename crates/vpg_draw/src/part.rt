@@ -16,7 +16,7 @@ use vpg_names::VertexNames;
 use vpg_partial::{Decision, Partial};
 use vpg_verdict::Verdict;
 
-/// Appends what tells the vertex from which the others are reached.
+/// Appends the mark of the vertex from which the others are reached.
 fn first_mark(is_first: bool, out: &mut Vec<u8>) -> Result<(), AllocError>
     ensures { OnOk result (out.new.items ≡ out.old.items ++ first_text is_first) }
 {
@@ -44,7 +44,7 @@ fn vertex(
     colours(verdict, out)
 }
 
-/// Appends the line of a vertex, where it is marked.
+/// Appends the line of a vertex, if it is marked.
 fn vertex_if(
     game: &GuardedGame,
     v: u32,
@@ -149,7 +149,7 @@ fn part_style(
     }
 }
 
-/// Appends the line of an edge of a vertex, where it is drawn.
+/// Appends the line of an edge of a vertex, if it is drawn.
 fn edge(
     alloc: Global,
     features: &Names,
@@ -205,7 +205,7 @@ fn edges(
     Ok(())
 }
 
-/// Appends the lines of the edges of a vertex, where it is marked.
+/// Appends the lines of the edges of a vertex, if it is marked.
 fn edges_if(
     alloc: Global,
     features: &Names,
@@ -231,7 +231,7 @@ fn edges_if(
     Ok(())
 }
 
-/// The move of a vertex; none where the list has none.
+/// Returns the move of a vertex; none if the list has none.
 fn move_of(moves: &[Option<u32>], v: u32) -> Option<u32>
     ensures { result ≡ slice_index_or moves.now v None }
 {
@@ -284,7 +284,7 @@ fn opening(out: &mut Vec<u8>) -> Result<(), AllocError>
     out.extend_from_slice(b"digraph part {\n  graph [label=\"decisions")
 }
 
-/// Appends what comes first.
+/// Appends the beginning of the picture.
 fn heading(features: &Names, decisions: &[Decision], out: &mut Vec<u8>) -> Result<(), AllocError>
     requires { All (λ d. d.feature < length features.now) decisions.now }
     ensures { OnOk result
@@ -295,12 +295,12 @@ fn heading(features: &Names, decisions: &[Decision], out: &mut Vec<u8>) -> Resul
     defaults(out)
 }
 
-/// Appends the picture of a part of a game on a page: the decisions, the marked vertices as `draw_game` has them, with
-/// a thick border round the first one, and of their edges those that are not known to be left out. Of the vertices of
-/// the mover, where there is one, the listed move alone is drawn: thick, green for Even and red for Odd.
+/// Appends the picture of a part of a game on a page. It has the decisions, and the marked vertices as `draw_game` has
+/// them, with a thick border round the first one. It has those of their edges that are not known to be left out. Of the
+/// mover's vertices, if there is a mover, only the listed move is drawn: thick, green for Even and red for Odd.
 ///
-/// `known` has what is known of each feature, `verdicts` one verdict and `marks` one mark for each vertex. A vertex
-/// past the end of `moves` has no move. `Err` leaves the text as it was.
+/// `known` has the value of each feature, `verdicts` one verdict and `marks` one mark for each vertex. A vertex past
+/// the end of `moves` has no move. `Err` leaves the text as it was.
 pub fn draw_part(
     alloc: Global,
     game: &GuardedGame,

@@ -3,7 +3,7 @@
 use std::io;
 use std::io::{Read, Write};
 
-/// Gives so many bytes of a script a call, so often, and then fails or ends.
+/// Gives a number of bytes of a script a call, for a number of calls, and then fails or ends.
 #[derive(Drop)]
 pub(crate) struct Gives<'s> {
     pub(crate) script: &'s [u8],
@@ -48,7 +48,7 @@ impl Read for Gives<'_> {
     }
 }
 
-/// Takes so many bytes a call, so often, and then fails.
+/// Takes a number of bytes a call, for a number of calls, and then fails.
 #[derive(Drop)]
 pub(crate) struct Takes<'t> {
     pub(crate) got: &'t mut Vec<u8>,

@@ -37,12 +37,12 @@ const SYSTEMS: [&str; 4] = [
     "elevator_system",
 ];
 
-/// Where a file of a family is.
+/// Returns the path of a file of a family.
 fn path_of(alloc: Global, family: &str, file: &str) -> Result<String, AllocError> {
     format!(in alloc; "{family}/{file}")
 }
 
-/// What a file of a family holds.
+/// Returns the text of a file of a family.
 fn text_of(rt: &HostRuntime, alloc: Global, family: &str, file: &str) -> Result<Vec<u8>> {
     let path = path_of(alloc, family, file)?;
     Ok(fs::read(rt, path.as_str())?)
@@ -53,7 +53,7 @@ fn script_of(rt: &HostRuntime, alloc: Global, family: &str) -> Result<File> {
     Ok(File::open(rt, path.as_str())?)
 }
 
-/// The family in a folder.
+/// Returns the family in a folder.
 fn family_in(rt: &HostRuntime, alloc: Global, name: &str) -> Result<Family> {
     let diagram = text_of(rt, alloc, name, "diagram")?;
     let game = text_of(rt, alloc, name, "game")?;
@@ -90,7 +90,7 @@ fn carry_out<T: Threads + Wait + Sync>(
     answer(rt, threads, alloc, &family, script)
 }
 
-/// Carries a script out on a family, whose vertices are called so.
+/// Carries a script out on a family, with the names of its vertices.
 fn answer_called<T: Threads + Wait + Sync>(
     rt: &HostRuntime,
     threads: &T,
@@ -118,7 +118,7 @@ fn answer_called<T: Threads + Wait + Sync>(
     }
 }
 
-/// Carries out the script of a system, which calls requirements by their names.
+/// Carries out the script of a system, which names requirements.
 fn carry_out_system<T: Threads + Wait + Sync>(
     rt: &HostRuntime,
     threads: &T,

@@ -19,7 +19,7 @@ pub(crate) struct Family {
     diagram: Arc<Diagram>,
 }
 
-// Not derived, so that letting one go is one call: a derived way would be proved anew at each exit that owns one.
+// Not derived: a derived `drop` would be proved again at each exit that owns such a value.
 impl Drop for Family {
     fn drop(self) {
         let Family {
@@ -40,14 +40,14 @@ fn game_of(alloc: Global, text: &[u8], diagram: &Diagram) -> Result<Arc<GuardedG
 }
 
 impl Family {
-    /// The family of these texts.
+    /// Returns the family of these texts.
     pub(crate) fn read(alloc: Global, diagram: &[u8], game: &[u8]) -> Result<Family> {
         let diagram = diagram_of(alloc, diagram)?;
         let game = game_of(alloc, game, &diagram)?;
         Ok(Family { game, diagram })
     }
 
-    /// The family of most examples, which is built in.
+    /// Returns the family of most examples, which is built in.
     pub(crate) fn built_in(alloc: Global) -> Result<Family> {
         Family::read(alloc, DIAGRAM.as_bytes(), GAME.as_bytes())
     }
@@ -58,7 +58,7 @@ impl Family {
     }
 }
 
-/// Runs a script on a family, in a manner where one is given. Nothing where there is no run.
+/// Runs a script on a family, in a manner if one is given. Nothing if there is no run.
 pub(crate) fn run_on<R: Threads + Wait + Sync, S: Source, T: Sink>(
     rt: &R,
     alloc: Global,
@@ -85,7 +85,8 @@ pub(crate) fn run_on<R: Threads + Wait + Sync, S: Source, T: Sink>(
     })
 }
 
-/// How a run over these devices ends. Nothing where there is no run, or where its office is still there afterwards.
+/// Returns the result of a run over these devices. Nothing if there is no run, or if its office is still there
+/// afterwards.
 pub(crate) fn outcome<R: Threads + Wait + Sync, S: Read + Drop, T: Write + Drop>(
     rt: &R,
     alloc: Global,

@@ -11,7 +11,7 @@ use std::sync::Wait;
 use std::thread::Threads;
 use vpg_scarce::{Heap, Report};
 
-/// Writes what came of runs over devices that fail.
+/// Writes the result of runs over devices that fail.
 fn write_line<R: Print>(rt: &R, name: &str, holds: bool) -> io::Result<()> {
     let word = if holds {
         "a prefix, and the office ended"
@@ -21,7 +21,7 @@ fn write_line<R: Print>(rt: &R, name: &str, holds: bool) -> io::Result<()> {
     println!(rt; "{name}: {word}")
 }
 
-/// Has devices fail, and writes what came of it.
+/// Makes devices fail, and writes the result.
 fn fail_devices<R: Threads + Wait + Sync + Print>(
     rt: &R,
     alloc: Global,
@@ -37,7 +37,7 @@ fn fail_devices<R: Threads + Wait + Sync + Print>(
     write_line(rt, "a writer of an answer a call", answers)
 }
 
-/// Has devices fail with little memory, and writes what came of it.
+/// Makes devices fail with little memory, and writes the result.
 fn fail_with_little<R: Threads + Wait + Sync + Print>(
     rt: &R,
     heap: &mut Heap,
@@ -67,7 +67,7 @@ fn refuse_of<R: Threads + Wait + Sync + Print>(
     Ok(())
 }
 
-/// Does so with the family of most examples. Runs are marked where the program was called with a word.
+/// Does so with the family of most examples. Runs are marked if the program was called with a word.
 pub(crate) fn refuse_all<R: Threads + Wait + Sync + Print>(
     rt: &R,
     alloc: Global,

@@ -1,4 +1,4 @@
-//! Scripts with what they answer and how they end, and a line for each table of them, or for what holds.
+//! Scripts with their answers and ends, and a line for each table of them, or for each fact.
 
 mod devices;
 mod ends;
@@ -72,7 +72,7 @@ static TABLES: [(&str, Table); 21] = [
     ("lines without a command", Table::Faulty(LineFault::Word)),
 ];
 
-/// What is looked at one by one.
+/// The facts that are checked one by one.
 #[derive(Clone, Copy)]
 enum Check {
     WidestMeasures,
@@ -89,7 +89,7 @@ enum Check {
     ShownFaults,
 }
 
-/// The same, as lines say it.
+/// The facts, as lines say them.
 static CHECKS: [(&str, Check); 12] = [
     (
         "a vertex rises to the widest measure",
@@ -123,7 +123,7 @@ static CHECKS: [(&str, Check); 12] = [
     ("faults show themselves by their words", Check::ShownFaults),
 ];
 
-/// The place of the first row of a table that holds otherwise.
+/// Returns the place of the first row of a table that holds otherwise.
 fn first_other<R: Threads + Wait + Sync>(
     rt: &R,
     alloc: Global,
@@ -164,7 +164,7 @@ fn write_rows<R: Print>(rt: &R, name: &str, other: Option<usize>) -> io::Result<
     }
 }
 
-/// Writes whether what a line says holds.
+/// Writes whether the fact of a line holds.
 fn write_line<R: Print>(rt: &R, name: &str, holds: bool) -> io::Result<()> {
     let word = if holds { "holds" } else { "DOES NOT HOLD" };
     println!(rt; "{name}: {word}")
@@ -211,8 +211,8 @@ pub(crate) fn carry_out<R: Threads + Wait + Sync + Print>(rt: &R, alloc: Global)
     write_both(rt, alloc, &family)
 }
 
-/// Has the log of a run filled, and a script read as often as one may be, and writes whether no more calls are taken,
-/// and no more reads are made.
+/// Fills the log of a run, and reads a script as often as one may be, and writes whether no more calls are taken, and
+/// no more reads are made.
 pub(crate) fn exhaust<R: Threads + Wait + Sync + Print>(rt: &R, alloc: Global) -> Result<()> {
     let family = Family::built_in(alloc)?;
     let is_filled = devices::fills_its_log(rt, alloc, &family);

@@ -1,5 +1,5 @@
 -- The game that is made of texts, and its text.
-use Rattle.std.proofs.Common.{◌≡◌, ℕ, Bool, List, [], ◌++◌, length, map, sym, ap, subst, ◌∙◌}
+use Rattle.std.proofs.Common.{◌≡◌, ℕ, List, [], ◌++◌, length, map, sym, ap, subst, ◌∙◌}
 use Rattle.vpg_diagram.specs.DiagramText.{NamedDiagram}
 use Rattle.vpg_game.specs.Game.{NamedGame, SpellsGame, IsAtLimit, graph_of}
 use Rattle.vpg_formula.specs.Requirements.{Entry, SpellsRequirements, marked, names_of}
@@ -8,8 +8,6 @@ use Rattle.vpg_formula.specs.declared.requirement.Entry as code
 use Rattle.vpg_checking.specs.Checking.{IsModelOfTexts}
 use Rattle.vpg_checking.specs.Texts.{WritesGame}
 use Rattle.vpg_system.specs.SystemText.{NamedSystem, IsTextOf}
-use Rattle.vpg_parts.specs.declared.part.Part.{Part}
-use Rattle.vpg_model.specs.Departures.{Departure}
 use Rattle.vpg_model.specs.Laws.{AreOfSystem}
 use Rattle.vpg_model.specs.Pairs.{pair_for}
 use Rattle.vpg_model.specs.Sources.{system_of}
@@ -37,20 +35,19 @@ made diagram system_text requirements_text game read roots names old new behavio
 )
 
 -- what the game was made of
-pub made_of : (diagram : NamedDiagram) (system_text requirements_text : List ℕ) (game : NamedGame) (roots places : List ℕ) (pairs : List (ℕ × ℕ)) (features : ℕ) (actions : List (List ℕ)) (states : List (List Departure)) (sets : List (List Bool)) (parts : List Part)
-    (behaviour : Behaviour) → IsModelOfTexts diagram.names diagram.lines system_text requirements_text (graph_of game) roots → features ≡ game.features
-    → ((s : NamedSystem) → IsTextOf diagram.names system_text s → actions ≡ s.actions)
-    → ((s : NamedSystem) → IsTextOf diagram.names system_text s → AreOfSystem (length s.actions) (system_of s) states s.first)
-    → ((s : NamedSystem) → IsTextOf diagram.names system_text s → AreVerticesOf states sets parts (map (pair_for parts s.first) places) pairs roots (graph_of game))
-    → behaviour ≡ record { features = features; actions = actions; states = states; sets = sets; parts = parts; pairs = pairs } → IsMadeOf diagram system_text game behaviour
-made_of diagram system_text requirements_text game roots places pairs features actions states sets parts behaviour model over actions_are of_system vertices same =
+pub made_of : (diagram : NamedDiagram) (system_text requirements_text : List ℕ) (game : NamedGame) (roots places : List ℕ) (raw behaviour : Behaviour) → IsModelOfTexts diagram.names diagram.lines system_text requirements_text (graph_of game) roots → raw.features ≡ game.features
+    → ((s : NamedSystem) → IsTextOf diagram.names system_text s → raw.actions ≡ s.actions)
+    → ((s : NamedSystem) → IsTextOf diagram.names system_text s → AreOfSystem (length s.actions) (system_of s) raw.states s.first)
+    → ((s : NamedSystem) → IsTextOf diagram.names system_text s → AreVerticesOf raw.states raw.sets raw.parts (map (pair_for raw.parts s.first) places) raw.pairs roots (graph_of game))
+    → behaviour ≡ raw → IsMadeOf diagram system_text game behaviour
+made_of diagram system_text requirements_text game roots places raw behaviour model over actions_are of_system vertices same =
     subst (λ (b : Behaviour). IsMadeOf diagram system_text game b) (sym same) (record {
       system = model.system;
       is_system = model.is_system;
       features = over;
       actions = actions_are model.system model.is_system;
       of_system = of_system model.system model.is_system;
-      roots = map (pair_for parts model.system.first) places;
+      roots = map (pair_for raw.parts model.system.first) places;
       vertices = roots;
       are_vertices = vertices model.system model.is_system;
     })

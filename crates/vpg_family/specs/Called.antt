@@ -1,5 +1,5 @@
--- The names by which lines call the vertices of a family: those that the game's text gives them, and those of
--- requirements. This project's own.
+-- The names that lines may give the vertices of a family: those in the game's text, and those of requirements. This
+-- project's own.
 use Rattle.std.specs.Prelude.{◌≡◌, ℕ, zero, suc, List, [], ◌∷◌, ◌++◌, length, if◌then◌else◌, Option, Some, None, slice_get, slice_index_or}
 use Rattle.vpg_diagram.specs.DiagramText.{NamedDiagram}
 use Rattle.vpg_game.specs.Game.{NamedGame, vertex_ids}
@@ -14,11 +14,11 @@ abbrev pub one_calling : List ℕ → Option ℕ → List Calling
 one_calling name None = []
 one_calling name (Some identifier) = record { name = name; identifier = identifier } ∷ []
 
--- a name of the vertex of an identifier, where there are both
+-- a name of the vertex of an identifier, if there are both
 abbrev pub calling_of : List ℕ → Option ℕ → List Calling
 calling_of name identifier = if is_nonempty name then one_calling name identifier else []
 
--- The names of the first so many vertices, of games with these identifiers. An empty one is none.
+-- The names of the first n vertices, of games with these identifiers. An empty name is none.
 abbrev pub text_callings : (names : List (List ℕ)) (ids : List ℕ) → ℕ → List Calling
 text_callings names ids zero = []
 text_callings names ids (suc n) = text_callings names ids n ++ calling_of (slice_index_or names n []) (slice_get ids n)
@@ -29,13 +29,13 @@ entry_calling ids None vertex = []
 entry_calling ids (Some name) None = []
 entry_calling ids (Some name) (Some v) = calling_of name (slice_get ids v)
 
--- the names of the first so many requirements, each at its vertex
+-- the names of the first n requirements, each at its vertex
 abbrev pub entry_callings : List ℕ → (names : List (List ℕ)) (vertices : List ℕ) → ℕ → List Calling
 entry_callings ids names vertices zero = []
 entry_callings ids names vertices (suc n) =
     entry_callings ids names vertices n ++ entry_calling ids (slice_get names n) (slice_get vertices n)
 
--- the names of all vertices, and those of all requirements behind them
+-- the names of all vertices, and after them those of all requirements
 abbrev pub callings_of : (told : List (List ℕ)) (ids : List ℕ) (names : List (List ℕ)) (vertices : List ℕ) →
     List Calling
 callings_of told ids names vertices =
@@ -54,8 +54,8 @@ pub record AreCallings (game : NamedGame) (game_text : List ℕ) (names : List (
   pub gives : GivesNames game_text told
   pub callings_are : callings ≡ callings_of told (vertex_ids game.vertices) names vertices
 
--- The family of some files, and the names of its vertices. Where a system and requirements stand in place of the game,
--- the name of each requirement stands for the vertex at which the game is its model.
+-- The family of some files, and the names of its vertices. If a system and requirements stand in place of the game, the
+-- name of each requirement stands for the vertex at which the game is its model.
 pub record IsCalledFamily (files : GamePaths) (diagram : NamedDiagram) (game : NamedGame) (callings : List Calling) :
     Type 0 where
   pub diagram_text : List ℕ

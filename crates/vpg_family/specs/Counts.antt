@@ -6,13 +6,13 @@ use Rattle.vpg_game.specs.Game.{NamedGame, edges_in, priorities_of, top_in, dual
 abbrev pub labelled : List ℕ → ℕ → List ℕ
 labelled word n = word ++ 32 ∷ decimal n
 
--- `NAME V`, where there are both
+-- `NAME V`, if there are both
 abbrev pub root_line : Option (List ℕ) → Option ℕ → List ℕ
 root_line None vertex = []
 root_line (Some name) None = []
 root_line (Some name) (Some vertex) = labelled name vertex ++ 10 ∷ []
 
--- the lines of the first so many names and their vertices
+-- the lines of the first n names and their vertices
 abbrev pub root_lines : List (List ℕ) → List ℕ → ℕ → List ℕ
 root_lines names vertices zero = []
 root_lines names vertices (suc n) = root_lines names vertices n ++ root_line (slice_get names n) (slice_get vertices n)

@@ -1,4 +1,4 @@
--- The texts of a family, the words that name a product, and what is told where they are refused.
+-- The texts of a family, the words that name a product, and the faults that report a refusal of either.
 use Rattle.std.specs.Prelude.{◌≡◌, ◌≢◌, ℕ, ⊤, Bool, List, map, take, Some, slice_get, All, Contains}
 use Rattle.std.specs.List.{list_any}
 use Rattle.std.specs.Str.{bytes_eq}
@@ -21,13 +21,13 @@ use Rattle.vpg_family.specs.declared.files.GamePaths.TheVariants as paths
 use Rattle.vpg_family.specs.declared.fault.Fault.{Fault}
 use Rattle.vpg_family.specs.declared.fault.Fault.TheVariants as told
 
--- what is told of a text that is no diagram: out of memory is no fault of the diagram
+-- the fault of a text that is no diagram: out of memory is no fault of the diagram
 abbrev pub IsDiagramFault : List ℕ → Fault → Type 0
 IsDiagramFault text (told.Diagram fault) = (fault ≢ of_diagram.Memory) × IsFirstFault text fault
 IsDiagramFault text told.Memory = ⊤
 IsDiagramFault text fault = ⊥
 
--- what is told of a text that is no game over these names: out of memory is no fault of the game
+-- the fault of a text that is no game over these names: out of memory is no fault of the game
 abbrev pub IsGameFault : List (List ℕ) → List ℕ → Fault → Type 0
 IsGameFault names text (told.Game fault) = (fault ≢ of_game.Memory) × IsRefused names text fault
 IsGameFault names text told.Memory = ⊤
@@ -38,7 +38,7 @@ pub record SpellsFamily (diagram_text game_text : List ℕ) (diagram : NamedDiag
   pub diagram_spelled : IsTextOf diagram_text diagram
   pub game_spelled : SpellsGame diagram.names game_text game
 
--- What is told of two texts that are no family: a fault of the game only where the diagram has none.
+-- The fault of two texts that are no family: one of the game only if the diagram has none.
 abbrev pub IsFamilyFault : List ℕ → List ℕ → Fault → Type 0
 IsFamilyFault diagram_text game_text (told.Game fault) = (diagram : NamedDiagram) × (IsTextOf diagram_text diagram × IsGameFault diagram.names game_text (told.Game fault))
 IsFamilyFault diagram_text game_text fault = IsDiagramFault diagram_text fault
@@ -59,7 +59,7 @@ pub record IsNameOfEntry (text : List ℕ) (n : ℕ) (name : List ℕ) : Type 0 
   pub are_entries : SpellsRequirements text entries
   pub name_is : slice_get (entry_names entries) n ≡ Some name
 
--- What is told of the texts of a system and of requirements that have no game over a diagram.
+-- The fault of the texts of a system and of requirements that have no game over a diagram.
 abbrev pub IsModelFault : NamedDiagram → List ℕ → List ℕ → Fault → Type 0
 IsModelFault diagram system_text requirements_text (told.System fault) =
     IsCheckingFault diagram.names system_text requirements_text (of_model.System fault)
@@ -86,33 +86,33 @@ pub record IsModelled (diagram : NamedDiagram) (game : NamedGame) (names : List 
   pub requirements_text : List ℕ
   pub over : IsModelOver diagram system_text requirements_text game names vertices
 
--- the texts spell a family whose game is such a one
+-- the texts spell a family with such a game
 pub record IsModelledBy (diagram_text game_text : List ℕ) (names : List (List ℕ)) (vertices : List ℕ) : Type 0 where
   pub diagram : NamedDiagram
   pub game : NamedGame
   pub spelled : SpellsFamily diagram_text game_text diagram game
   pub modelled : IsModelled diagram game names vertices
 
--- Where the paths name a system and requirements, the texts are those of their game.
+-- If the paths name a system and requirements, the texts are those of their game.
 abbrev pub AreTextsOf : GamePaths → (diagram_text game_text : List ℕ) → List (List ℕ) → List ℕ → Type 0
 AreTextsOf (paths.Game path) diagram_text game_text names vertices = ⊤
 AreTextsOf (paths.Model files) diagram_text game_text names vertices = IsModelledBy diagram_text game_text names vertices
 AreTextsOf (paths.System path) diagram_text game_text names vertices = ⊤
 
--- Where the paths name a system and requirements, the family is that of their game.
+-- If the paths name a system and requirements, the family is that of their game.
 abbrev pub IsFamilyOf : GamePaths → NamedDiagram → NamedGame → Type 0
 IsFamilyOf (paths.Game path) diagram game = ⊤
 IsFamilyOf (paths.Model files) diagram game =
     (names : List (List ℕ)) × (vertices : List ℕ) × IsModelled diagram game names vertices
 IsFamilyOf (paths.System path) diagram game = ⊤
 
--- what is told of some texts of a system and of requirements that have no game over some diagram
+-- the fault of some texts of a system and of requirements that have no game over some diagram
 abbrev pub IsNoModel : Fault → Type 0
 IsNoModel fault = (diagram_text system_text requirements_text : List ℕ) × (diagram : NamedDiagram) ×
     IsTextOf diagram_text diagram × IsModelFault diagram system_text requirements_text fault
 
--- What is told of files that are no family, whatever their texts are: a fault of what stands in place of the game, or
--- of the game, only where some text spells the diagram.
+-- The fault of files that are no family, for some texts. A fault of the game, or of the files in its place, comes only
+-- if some text spells the diagram.
 abbrev pub IsUnread : Fault → Type 0
 IsUnread told.DiagramUnreadable = ⊤
 IsUnread (told.Diagram fault) = (text : List ℕ) × IsDiagramFault text (told.Diagram fault)
@@ -131,7 +131,7 @@ IsUnread fault = ⊥
 abbrev pub IsSpelled : NamedDiagram → NamedGame → Type 0
 IsSpelled diagram game = (diagram_text game_text : List ℕ) × SpellsFamily diagram_text game_text diagram game
 
--- what is told of a conflict of this feature: its name, where there is memory for it
+-- the fault of a conflict of this feature: its name, if there is memory for it
 abbrev pub TellsConflict : List (List ℕ) → ℕ → Fault → Type 0
 TellsConflict names f (told.Conflict name) = slice_get names f ≡ Some (string_bytes name)
 TellsConflict names f told.Memory = ⊤
@@ -156,13 +156,13 @@ pub record IsNamedSet (names words : List (List ℕ)) (set : List Bool) : Type 0
 abbrev pub IsFirstUnknown : List (List ℕ) → List (List ℕ) → List ℕ → Type 0
 IsFirstUnknown names words name = (n : ℕ) × (slice_get words n ≡ Some name) × AreKnown names (take n words) × Lacks names name
 
--- what is told of a word that names no feature: the word; or out of memory
+-- the fault of a word that names no feature: the word; or out of memory
 abbrev pub IsUnknown : List (List ℕ) → List ℕ → Fault → Type 0
 IsUnknown names word (told.UnknownFeature name) = (string_bytes name ≡ word) × Lacks names word
 IsUnknown names word told.Memory = ⊤
 IsUnknown names word fault = ⊥
 
--- what is told of words of which one names no feature: the first such word; or out of memory
+-- the fault of words if one of them names no feature: the first such word; or out of memory
 abbrev pub TellsUnknown : List (List ℕ) → List (List ℕ) → Fault → Type 0
 TellsUnknown names words (told.UnknownFeature name) = IsFirstUnknown names words (string_bytes name)
 TellsUnknown names words told.Memory = ⊤
@@ -174,7 +174,7 @@ pub record IsProjected (diagram : NamedDiagram) (game : NamedGame) (words : List
   pub product : IsProduct diagram.lines (set_of diagram.names words)
   pub text_is : text ≡ plain_text (projection (set_of diagram.names words) game)
 
--- What is told of words that name no product: that their features are none only where each names a feature.
+-- The fault of words that name no product. Their features are no product only if each word names a feature.
 abbrev pub IsNotProjected : NamedDiagram → List (List ℕ) → Fault → Type 0
 IsNotProjected diagram words told.NotAProduct = AreKnown diagram.names words × (¬ IsProduct diagram.lines (set_of diagram.names words))
 IsNotProjected diagram words fault = TellsUnknown diagram.names words fault

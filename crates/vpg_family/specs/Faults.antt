@@ -1,4 +1,4 @@
--- The line that tells of a fault.
+-- The line that reports a fault.
 use Rattle.std.specs.Prelude.{ℕ, ◌||◌, ◌==◌, nat_lt, if◌then◌else◌, List, [], ◌∷◌, ◌++◌, map, codes}
 use Rattle.std.specs.String.{string_bytes}
 use Rattle.vpg_guards.specs.declared.fault.GuardFault.{GuardFault}
@@ -19,7 +19,7 @@ use Rattle.vpg_family.specs.Counts.{labelled}
 use Rattle.vpg_family.specs.declared.fault.Fault.{Fault}
 use Rattle.vpg_family.specs.declared.fault.Fault.TheVariants as told
 
--- a byte of a word: `?` where it is a control character
+-- a byte of a word: `?` for a control character
 abbrev pub shown_byte : ℕ → ℕ
 shown_byte byte = if nat_lt byte 32 || (byte == 127) then 63 else byte
 
@@ -80,8 +80,8 @@ line_text stops.Word = codes "Word"
 line_text stops.Args = codes "Args"
 line_text stops.TooLong = codes "TooLong"
 
--- the text of a fault, of which those of the faults of guards, games, diagrams, systems, requirements, models and lines
--- are parts
+-- the text of a fault, which has those of the faults of guards, games, diagrams, systems, requirements, models and
+-- lines as parts
 abbrev pub fault_text : Fault → List ℕ
 fault_text told.DiagramUnreadable = codes "diagram unreadable"
 fault_text (told.Diagram fault) = codes "diagram " ++ diagram_text fault

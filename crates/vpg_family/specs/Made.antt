@@ -1,4 +1,5 @@
--- What the game of a family was made of, where a system and requirements stand in its place. This project's own.
+-- The system that the game of a family was made of, if a system and requirements stand in its place. This project's
+-- own.
 use Rattle.std.specs.Prelude.{◌≡◌, ℕ, List, Option, Some, None, length}
 use Rattle.vpg_diagram.specs.DiagramText.{NamedDiagram}
 use Rattle.vpg_game.specs.Game.{NamedGame, graph_of}
@@ -11,7 +12,7 @@ use Rattle.vpg_family.specs.Families.{SpellsFamily}
 use Rattle.vpg_family.specs.declared.files.GamePaths.{GamePaths}
 use Rattle.vpg_family.specs.declared.files.GamePaths.TheVariants as paths
 
--- The game was made of the system that the text spells: it has the system's actions, and its transitions by their
+-- The game was made of the system that the text spells. It has the system's actions, and its transitions by their
 -- sources, and its vertices are the pairs of a state and a part that can be reached.
 pub record IsMadeOf (diagram : NamedDiagram) (system_text : List ℕ) (game : NamedGame) (behaviour : Behaviour) :
     Type 0 where
@@ -30,21 +31,21 @@ abbrev pub IsMade : NamedDiagram → NamedGame → Option Behaviour → Type 0
 IsMade diagram game None = ⊥
 IsMade diagram game (Some behaviour) = (system_text : List ℕ) × IsMadeOf diagram system_text game behaviour
 
--- the texts spell a family whose game was made of this
+-- the texts spell a family with a game made of this
 pub record IsMadeBy (diagram_text game_text : List ℕ) (behaviour : Option Behaviour) : Type 0 where
   pub diagram : NamedDiagram
   pub game : NamedGame
   pub spelled : SpellsFamily diagram_text game_text diagram game
   pub made : IsMade diagram game behaviour
 
--- Where the paths name a system and requirements, the texts are those of a game that was made of this; else it was made
--- of nothing.
+-- If the paths name a system and requirements, the texts are those of a game that was made of this; else it was made of
+-- nothing.
 abbrev pub AreTextsMadeOf : GamePaths → (diagram_text game_text : List ℕ) → Option Behaviour → Type 0
 AreTextsMadeOf (paths.Game path) diagram_text game_text behaviour = behaviour ≡ None
 AreTextsMadeOf (paths.Model files) diagram_text game_text behaviour = IsMadeBy diagram_text game_text behaviour
 AreTextsMadeOf (paths.System path) diagram_text game_text behaviour = behaviour ≡ None
 
--- Where the paths name a system and requirements, the game was made of this; else of nothing.
+-- If the paths name a system and requirements, the game was made of this; else of nothing.
 abbrev pub IsFamilyMadeOf : GamePaths → NamedDiagram → NamedGame → Option Behaviour → Type 0
 IsFamilyMadeOf (paths.Game path) diagram game behaviour = behaviour ≡ None
 IsFamilyMadeOf (paths.Model files) diagram game behaviour = IsMade diagram game behaviour

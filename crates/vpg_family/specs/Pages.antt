@@ -20,7 +20,8 @@ use Rattle.vpg_family.specs.Pictures.{TellsNames}
 use Rattle.vpg_family.specs.declared.drawing.Subject.{Subject}
 use Rattle.vpg_family.specs.declared.drawing.Subject.TheVariants.{Game, Features}
 
--- what is drawn of a page: its decisions, what they make known, and the verdicts of the vertices
+-- the parts of a page that are drawn: its decisions, the features that they make known, and the verdicts of the
+-- vertices
 pub record Sight : Type 0 where
   pub choices : List Literal
   pub known : List Tri
@@ -33,7 +34,8 @@ sight_of known choices verdicts = record { choices = choices; known = known; ver
 abbrev pub sight_drawing : NamedDiagram → NamedGame → Sight → List (List ℕ) → List ℕ
 sight_drawing diagram game sight names = game_drawing diagram.names sight.known sight.choices names sight.verdicts game
 
--- This is what is drawn of the page in the picture of whose game, without names, something written ends from there on.
+-- The written text ends in the picture of the page's game, without names, from this place on. These are the parts of
+-- the page that are drawn.
 pub record IsSight (diagram : NamedDiagram) (game : NamedGame) (written : List ℕ) (begins : ℕ) (known : List Tri)
     (decisions : List Decision) (verdicts : List Verdict) : Type 0 where
   pub features : All (λ d. d.feature < feature_count diagram.lines) decisions
@@ -43,7 +45,7 @@ pub record IsSight (diagram : NamedDiagram) (game : NamedGame) (written : List �
   pub written_is : written ≡ take begins written
       ++ sight_drawing diagram game (sight_of known (map literal_of decisions) verdicts) []
 
--- What was written ends in the picture of the game on a page, without names; the text is the same with these names.
+-- The written text ends in the picture of the game on a page, without names; the text is the same with these names.
 pub record IsNamed (diagram : NamedDiagram) (game : NamedGame) (names : List (List ℕ))
     (written text : List ℕ) : Type 0 where
   pub sight : Sight
@@ -52,7 +54,7 @@ pub record IsNamed (diagram : NamedDiagram) (game : NamedGame) (names : List (Li
   pub written_is : written ≡ earlier ++ sight_drawing diagram game sight []
   pub text_is : text ≡ earlier ++ sight_drawing diagram game sight names
 
--- the game on a page is drawn with the names that its text tells
+-- the game on a page is drawn with the names in its text
 pub record IsGameSeen (diagram : NamedDiagram) (game : NamedGame) (sight : Sight) (text picture : List ℕ) : Type 0 where
   pub names : Told
   pub names_are : TellsNames text names
@@ -65,7 +67,7 @@ IsSightDrawn Game diagram game sight diagram_text game_text picture = IsGameSeen
 IsSightDrawn Features diagram game sight diagram_text game_text picture =
     picture ≡ feature_drawing diagram.names sight.known sight.choices diagram_text
 
--- What was written ends in the picture of the game on a page, without names, and of this page the picture is made.
+-- The written text ends in the picture of the game on a page, without names, and the picture is made of this page.
 pub record IsRedrawn (subject : Subject) (diagram : NamedDiagram) (game : NamedGame)
     (diagram_text game_text written picture : List ℕ) : Type 0 where
   pub sight : Sight
@@ -76,8 +78,8 @@ pub record IsRedrawn (subject : Subject) (diagram : NamedDiagram) (game : NamedG
 
 -- ---- parts
 
--- what is drawn of a part of a game on a page: the decisions, what they make known, the verdicts of the vertices, the
--- one that is told from the others, which of them are drawn, and the moves that are listed, of which player
+-- The parts of a page that are drawn of a part of its game. They are the decisions, the features that they make known,
+-- the verdicts of the vertices, the first vertex, the vertices that are drawn, and the listed moves with their player.
 pub record PartSight : Type 0 where
   pub decisions : List Decision
   pub known : List Tri
@@ -96,7 +98,7 @@ part_sight_drawing diagram game sight names =
 abbrev pub is_part : List ℕ → Bool
 is_part answer = starts_with nat_eq answer (codes "digraph part {\n")
 
--- This is seen in an answer, as what is drawn of a part of the game.
+-- An answer shows this as a part of the game.
 pub record IsPartSeen (diagram : NamedDiagram) (game : NamedGame) (answer : List ℕ) (sight : PartSight) : Type 0 where
   pub begins : IsTrue (is_part answer)
   pub features : All (λ d. d.feature < feature_count diagram.lines) sight.decisions
@@ -104,7 +106,7 @@ pub record IsPartSeen (diagram : NamedDiagram) (game : NamedGame) (answer : List
   pub each_mark : length sight.marks ≡ length game.vertices
   pub known_is : IsKnownTable diagram.lines (map literal_of sight.decisions) sight.known
 
--- what is passed on of an answer in which this is seen: with names where it is the part without names, else as it is
+-- the text passed on for an answer that shows this: with names if it is the part without names, else as it is
 abbrev pub part_passed : NamedDiagram → NamedGame → PartSight → List (List ℕ) → (answer : List ℕ) → List ℕ
 part_passed diagram game sight names answer =
     if bytes_eq answer (part_sight_drawing diagram game sight []) then part_sight_drawing diagram game sight names
@@ -115,19 +117,19 @@ part_passed diagram game sight names answer =
 abbrev pub is_picture : List ℕ → Bool
 is_picture answer = starts_with nat_eq answer (codes "digraph game {\n")
 
--- an answer in which no part is seen is passed on as it is
+-- an answer that shows no part is passed on as it is
 abbrev pub seen_passed : NamedDiagram → NamedGame → List (List ℕ) → (seen : Option PartSight) → (answer : List ℕ) →
     List ℕ
 seen_passed diagram game names None answer = answer
 seen_passed diagram game names (Some sight) answer = part_passed diagram game sight names answer
 
--- a picture of the whole game with names, any other answer by what is seen in it
+-- a picture of the whole game with names, any other answer by the part that it shows
 abbrev pub PassesOn : (is_whole : Bool) → NamedDiagram → NamedGame → List (List ℕ) → (seen : Option PartSight) →
     (answer text : List ℕ) → Type 0
 PassesOn true diagram game names seen answer text = IsNamed diagram game names answer text
 PassesOn false diagram game names seen answer text = text ≡ seen_passed diagram game names seen answer
 
--- The text is the answer in which this is seen; a picture in it has these names of vertices.
+-- The text is the answer, which shows this; a picture in it has these names of vertices.
 abbrev pub IsPictured : NamedDiagram → NamedGame → List (List ℕ) → (seen : Option PartSight) →
     (answer text : List ℕ) → Type 0
 IsPictured diagram game names seen answer text = PassesOn (is_picture answer) diagram game names seen answer text

@@ -1,4 +1,4 @@
--- The pictures of a family under no decisions, and what is told where there are none.
+-- The pictures of a family under no decisions, and the faults if there are none.
 use Rattle.std.specs.Prelude.{◌≡◌, ℕ, List, [], length, replicate, Some, slice_get, ⊤}
 use Rattle.std.specs.String.{string_bytes}
 use Rattle.vpg_guards.specs.declared.tri.Tri.{Tri}
@@ -17,15 +17,15 @@ use Rattle.vpg_family.specs.declared.drawing.Subject.TheVariants.{Game, Features
 use Rattle.vpg_family.specs.declared.fault.Fault.{Fault}
 use Rattle.vpg_family.specs.declared.fault.Fault.TheVariants as told
 
--- nothing is said of any vertex
+-- the verdicts of vertices about which nothing is known
 abbrev pub no_verdicts : ℕ → List Verdict
 no_verdicts vertices = replicate vertices no_verdict
 
--- however the text is taken for a game, it tells these names
+-- these are the names in the text, however it is taken for a game
 abbrev pub TellsNames : List ℕ → Told → Type 0
 TellsNames text names = (features : List (List ℕ)) (file : File) → IsFile features file → text ≡ file_text file → names ≡ told_by file
 
--- the game is drawn with the names that its text tells, under what the diagram alone makes known
+-- the game is drawn with the names in its text, under what the diagram alone makes known
 pub record IsGameDrawn (diagram : NamedDiagram) (game : NamedGame) (text picture : List ℕ) : Type 0 where
   pub known : List Tri
   pub known_is : IsKnownTable diagram.lines [] known
@@ -50,13 +50,13 @@ pub record IsPicture (subject : Subject) (diagram_text game_text picture : List 
   pub spelled : SpellsFamily diagram_text game_text diagram game
   pub drawn : IsDrawn subject diagram game diagram_text game_text picture
 
--- what is told of a diagram that contradicts itself: its root
+-- the fault of a diagram that contradicts itself: its root
 abbrev pub TellsContradiction : NamedDiagram → Fault → Type 0
 TellsContradiction diagram (told.Conflict name) = HasConflictOf diagram.lines [] × (slice_get diagram.names 0 ≡ Some (string_bytes name))
 TellsContradiction diagram told.Memory = ⊤
 TellsContradiction diagram fault = ⊥
 
--- What is told of two texts that have no picture: that they are no family, or that the diagram of one contradicts itself.
+-- The fault of two texts that have no picture: they are no family, or the diagram of one contradicts itself.
 abbrev pub IsUndrawn : List ℕ → List ℕ → Fault → Type 0
 IsUndrawn diagram_text game_text (told.Conflict name) =
     (diagram : NamedDiagram) × (game : NamedGame) × SpellsFamily diagram_text game_text diagram game × TellsContradiction diagram (told.Conflict name)

@@ -1,4 +1,4 @@
--- The picture of a system over the features of a diagram, and what is told where there is none. This project's own.
+-- The picture of a system over the features of a diagram, and the fault if there is none. This project's own.
 use Rattle.std.specs.Prelude.{◌≡◌, ◌≢◌, ℕ, ⊤, Bool, List, [], ◌++◌}
 use Rattle.vpg_guards.specs.declared.tri.Tri.{Tri}
 use Rattle.vpg_diagram.specs.declared.clause.Literal.{Literal}
@@ -16,7 +16,7 @@ use Rattle.vpg_family.specs.Pictures.{TellsContradiction}
 use Rattle.vpg_family.specs.declared.fault.Fault.{Fault}
 use Rattle.vpg_family.specs.declared.fault.Fault.TheVariants as told
 
--- what is told of a text that is no system over these names: out of memory is no fault of the system
+-- the fault of a text that is no system over these names: out of memory is no fault of the system
 abbrev pub IsSystemFault : List (List ℕ) → List ℕ → Fault → Type 0
 IsSystemFault names text (told.System fault) = (fault ≢ of_system.Memory) × IsFirstFault names text fault
 IsSystemFault names text told.Memory = ⊤
@@ -43,7 +43,7 @@ pub record IsSystemPicture (diagram_text system_text picture : List ℕ) : Type 
   pub system_spelled : IsSystemText diagram.names system_text system
   pub drawn : IsDrawnAlone diagram system picture
 
--- What is told of two texts without a picture: a fault of the system only where the diagram has none.
+-- The fault of two texts without a picture: one of the system only if the diagram has none.
 abbrev pub IsSystemUndrawn : (diagram_text system_text : List ℕ) → Fault → Type 0
 IsSystemUndrawn diagram_text system_text (told.System fault) =
     (diagram : NamedDiagram) × IsTextOf diagram_text diagram ×
@@ -52,7 +52,7 @@ IsSystemUndrawn diagram_text system_text (told.Conflict name) =
     (diagram : NamedDiagram) × IsTextOf diagram_text diagram × TellsContradiction diagram (told.Conflict name)
 IsSystemUndrawn diagram_text system_text fault = IsDiagramFault diagram_text fault
 
--- What was written ends in the picture of the game on a page, without names, and on this page the system is drawn.
+-- The written text ends in the picture of the game on a page, without names, and on this page the system is drawn.
 pub record IsSystemRedrawn (diagram : NamedDiagram) (game : NamedGame) (system_text written picture : List ℕ) :
     Type 0 where
   pub sight : Sight

@@ -1,4 +1,4 @@
--- Where warnings of a text stand. This project's own.
+-- The places of warnings in a text. This project's own.
 use Rattle.std.specs.Prelude.{ℕ, ◌≤◌}
 use Rattle.vpg_family.specs.declared.warnings.Warning.{Warning}
 

@@ -9,7 +9,7 @@ use std::alloc::AllocError;
 use vpg_formula::Entry;
 use vpg_game::GuardedGame;
 
-/// The number of edges: of distinct successors, over all vertices.
+/// Returns the number of edges: of distinct successors, over all vertices.
 fn edges(game: &GuardedGame) -> u32
     ensures { result ≡ edges_in game.now.vertices }
 {
@@ -45,7 +45,7 @@ pub(crate) fn put_counts(game: &GuardedGame, out: &mut Vec<u8>) -> Result<(), Al
     Ok(())
 }
 
-/// Appends the line of an entry and a vertex, where there are both.
+/// Appends the line of an entry and a vertex, if there are both.
 fn put_root(
     entry: Option<&Entry>,
     vertex: Option<&usize>,

@@ -18,7 +18,7 @@ use vpg_names::VertexNames;
 use vpg_partial::{Partial, PartialFault};
 use vpg_verdict::Verdict;
 
-/// What is drawn of a family.
+/// The subject of a family's picture.
 #[derive(Clone, Copy, PartialEq, Eq)]
 pub enum Subject {
     Game,
@@ -26,7 +26,7 @@ pub enum Subject {
     Features,
 }
 
-/// What a diagram makes known without any decision.
+/// Returns the features that a diagram makes known without any decision.
 pub(crate) fn known_alone(alloc: Global, diagram: &Diagram) -> Result<Partial, Fault>
     ensures known { IfOk result (IsKnownTable diagram.now.lines []) }
     ensures refused { IfErr result (TellsContradiction diagram.now) }
@@ -38,7 +38,7 @@ pub(crate) fn known_alone(alloc: Global, diagram: &Diagram) -> Result<Partial, F
     }
 }
 
-/// For each vertex that nothing is said of it.
+/// Returns for each vertex the verdict that nothing is known of it.
 fn no_verdicts(alloc: Global, vertices: usize) -> Result<Vec<Verdict>, AllocError>
     ensures { IfOk result (λ verdicts. verdicts.items ≡ no_verdicts vertices) }
 {
@@ -49,7 +49,7 @@ fn no_verdicts(alloc: Global, vertices: usize) -> Result<Vec<Verdict>, AllocErro
     vec![in alloc; nothing; vertices]
 }
 
-/// The picture of a game, under what is known, with these names.
+/// Returns the picture of a game, under what is known, with these names.
 fn game_picture(
     alloc: Global,
     diagram: &Diagram,
@@ -77,7 +77,7 @@ fn game_picture(
     Ok(picture)
 }
 
-/// The picture of a game, with the names that its text tells.
+/// Returns the picture of a game, with the names in its text.
 fn game_drawn(
     alloc: Global,
     diagram: &Diagram,
@@ -96,7 +96,7 @@ fn game_drawn(
     }
 }
 
-/// The picture of a diagram that is read from this text.
+/// Returns the picture of a diagram that is read from this text.
 fn features_drawn(
     alloc: Global,
     diagram: &Diagram,
@@ -113,7 +113,7 @@ fn features_drawn(
     Ok(picture)
 }
 
-/// The picture of a family, under what its diagram alone makes known.
+/// Returns the picture of a family, under what its diagram alone makes known.
 fn family_drawn(
     alloc: Global,
     subject: Subject,
@@ -142,8 +142,8 @@ fn family_drawn(
     }
 }
 
-/// The picture of the family that two texts spell, under no decisions. A fault of the diagram is told before any of the game, and this before
-/// that the diagram contradicts itself.
+/// Returns the picture of the family that two texts spell, under no decisions. Errors, in this order: a fault of the
+/// diagram, one of the game, a diagram that contradicts itself.
 pub fn drawn(
     alloc: Global,
     subject: Subject,

@@ -16,7 +16,7 @@ use vpg_model::ModelFault;
 use vpg_places::{declared_of, line_at, place_of};
 use vpg_system::SystemFault;
 
-/// The text of a file, where it can be read once more. A pipe gives its bytes once.
+/// Returns the text of a file, if it can be read once more. A pipe gives its bytes once.
 fn text_of<R: Files + AllocGlobal>(rt: &R, path: &str) -> Option<Vec<u8>> {
     match fs::metadata(rt, path) {
         Ok(it) if it.is_file() => fs::read(rt, path).ok(),
@@ -156,7 +156,7 @@ fn put_word(
     }
 }
 
-/// Appends what a fault means that is told of a diagram, whose text this is.
+/// Appends the meaning of a fault of a diagram that was read from this text.
 fn put_of_diagram(
     alloc: Global,
     path: &str,
@@ -172,7 +172,7 @@ fn put_of_diagram(
     }
 }
 
-/// The same, where its file can be read once more.
+/// Appends the meaning of a fault of a diagram, if its file can be read once more.
 fn put_of_diagram_file<R: Files + AllocGlobal>(
     rt: &R,
     alloc: Global,
@@ -186,7 +186,7 @@ fn put_of_diagram_file<R: Files + AllocGlobal>(
     }
 }
 
-/// Appends why a game is refused, where the files can be read once more.
+/// Appends why a game is refused, if the files can be read once more.
 fn put_of_game<R: Files + AllocGlobal>(
     rt: &R,
     alloc: Global,
@@ -201,7 +201,7 @@ fn put_of_game<R: Files + AllocGlobal>(
     }
 }
 
-/// Appends why a system is refused, where the files can be read once more.
+/// Appends why a system is refused, if the files can be read once more.
 fn put_of_system<R: Files + AllocGlobal>(
     rt: &R,
     alloc: Global,
@@ -216,7 +216,7 @@ fn put_of_system<R: Files + AllocGlobal>(
     }
 }
 
-/// Appends what a fault means that is told of requirements, where their file can be read once more.
+/// Appends the meaning of a fault of requirements, if their file can be read once more.
 fn put_of_requirements<R: Files + AllocGlobal>(
     rt: &R,
     alloc: Global,
@@ -234,7 +234,7 @@ fn put_of_requirements<R: Files + AllocGlobal>(
     }
 }
 
-/// Appends what a fault means that is told of a system, of its requirements, or of their game.
+/// Appends the meaning of a fault of a system, of its requirements, or of their game.
 fn put_of_model<R: Files + AllocGlobal>(
     rt: &R,
     alloc: Global,
@@ -252,7 +252,7 @@ fn put_of_model<R: Files + AllocGlobal>(
     }
 }
 
-/// Appends what a fault means that is told of a game, or of what stands in its place.
+/// Appends the meaning of a fault of a game, or of the files in its place.
 fn put_of_game_files<R: Files + AllocGlobal>(
     rt: &R,
     alloc: Global,
@@ -276,7 +276,7 @@ fn put_of_game_files<R: Files + AllocGlobal>(
     }
 }
 
-/// Appends why a line of a script is no command, where its file can be read once more.
+/// Appends why a line of a script is no command, if its file can be read once more.
 fn put_of_script<R: Files + AllocGlobal>(
     rt: &R,
     alloc: Global,
@@ -290,7 +290,7 @@ fn put_of_script<R: Files + AllocGlobal>(
     }
 }
 
-/// Appends what a fault means.
+/// Appends the meaning of a fault.
 fn put_explained<R: Files + AllocGlobal>(
     rt: &R,
     alloc: Global,
@@ -315,9 +315,9 @@ fn put_explained<R: Files + AllocGlobal>(
     }
 }
 
-/// Lines that say where and why a file of a family, a line of a script over it, or a word for one of its features is
-/// refused: `FILE:LINE:COLUMN: ..`, and hints. The files are read once more. There are none of other faults, nor where
-/// a file can't be read once more.
+/// Returns lines that say where and why a file of a family, a line of a script over it, or a word for one of its
+/// features is refused: `FILE:LINE:COLUMN: ..`, and hints. The files are read once more. There are none for other
+/// faults, nor if a file can't be read once more.
 pub fn explained<R: Files + AllocGlobal>(
     rt: &R,
     alloc: Global,

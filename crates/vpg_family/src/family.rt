@@ -23,7 +23,7 @@ pub struct Family {
     pub diagram: Arc<Diagram>,
 }
 
-/// The diagram that a text spells.
+/// Returns the diagram that a text spells.
 pub(crate) fn read_diagram(alloc: Global, text: &[u8]) -> Result<Diagram, Fault>
     ensures found { IfOk result (IsTextOf text.now) }
     ensures only { (diagram : NamedDiagram) → IsTextOf text.now diagram →
@@ -37,7 +37,7 @@ pub(crate) fn read_diagram(alloc: Global, text: &[u8]) -> Result<Diagram, Fault>
     }
 }
 
-/// The game over a diagram that a text spells.
+/// Returns the game over a diagram that a text spells.
 pub(crate) fn read_game(alloc: Global, text: &[u8], diagram: &Diagram) -> Result<GuardedGame, Fault>
     ensures found { IfOk result (SpellsGame diagram.now.names text.now) }
     ensures only { (game : NamedGame) → SpellsGame diagram.now.names text.now game →
@@ -54,7 +54,7 @@ pub(crate) fn read_game(alloc: Global, text: &[u8], diagram: &Diagram) -> Result
     }
 }
 
-/// What is told of a conflict of the root.
+/// Returns the fault that reports a conflict of the root.
 pub fn conflict(alloc: Global, diagram: &Diagram, root: u16) -> Fault
     requires { root ≡ 0 }
     ensures { TellsConflict diagram.now.names root result }
@@ -65,7 +65,7 @@ pub fn conflict(alloc: Global, diagram: &Diagram, root: u16) -> Fault
     }
 }
 
-/// The index of a feature that a word names.
+/// Returns the index of a feature that a word names.
 fn feature(alloc: Global, names: &Names, word: &str) -> Result<u16, Fault>
     ensures found { IfOk result (λ f. slice_get names.now f ≡ Some word.now) }
     ensures unknown { IfErr result (IsUnknown names.now word.now) }
@@ -78,7 +78,7 @@ fn feature(alloc: Global, names: &Names, word: &str) -> Result<u16, Fault>
     }
 }
 
-/// The set of the features that words name, each once or more. The first word that names none is told.
+/// Returns the set of the features that words name, each once or more. The fault names the first word that names none.
 fn features_named(alloc: Global, names: &Names, words: &[&str]) -> Result<Vec<bool>, Fault>
     ensures set { IfOk result (λ set. IsNamedSet names.now (map (λ word. word.now) words.now) set.items) }
     ensures unknown { IfErr result (TellsUnknown names.now (map (λ word. word.now) words.now)) }
@@ -92,10 +92,11 @@ fn features_named(alloc: Global, names: &Names, words: &[&str]) -> Result<Vec<bo
 }
 
 impl Family {
-    /// The family that the texts of a diagram and a game spell. A fault of the diagram is told before any of the game.
+    /// Returns the family that the texts of a diagram and a game spell. A fault of the diagram comes before any of the
+    /// game.
     pub fn read(alloc: Global, diagram: &[u8], game: &[u8]) -> Result<Family, Fault>
         ensures found { IfOk result (λ family. SpellsFamily diagram.now game.now (arc_value family.diagram) (arc_value family.game)) }
-        // What is spelled so is read, unless memory runs out.
+        // All that the texts spell is read, unless memory runs out.
         ensures only { (d : NamedDiagram) (g : NamedGame) → SpellsFamily diagram.now game.now d g →
             MatchResult result (λ family. (arc_value family.diagram ≡ d) × (arc_value family.game ≡ g))
             (λ fault. fault ≡ Fault.Memory) }
@@ -107,7 +108,7 @@ impl Family {
         Family::of(alloc, game, diagram)
     }
 
-    /// A game and the diagram of its features.
+    /// Returns the family of a game and the diagram of its features.
     fn of(alloc: Global, game: GuardedGame, diagram: Diagram) -> Result<Family, Fault>
         requires { game.features ≡ feature_count diagram.lines }
         ensures both { IfOk result (λ family. (arc_value family.game ≡ game) × (arc_value family.diagram ≡ diagram)) }
@@ -119,8 +120,8 @@ impl Family {
         Ok(Family { game, diagram })
     }
 
-    /// The text of the plain game of the product that has just the features that the words name, each once or more. The first word that names
-    /// none is told before that they are no product.
+    /// Returns the text of the plain game of the product that has just the features that the words name, each once or
+    /// more. The fault of the first word that names none comes before that of words that are no product.
     pub fn projected(self, alloc: Global, words: &[&str]) -> Result<Vec<u8>, Fault>
         requires { (arc_value self.game).features ≡ feature_count (arc_value self.diagram).lines }
         ensures text { IfOk result (λ text. IsProjected (arc_value self.diagram) (arc_value self.game) (map (λ word. word.now) words.now) text.items) }
@@ -138,7 +139,7 @@ impl Family {
         }
     }
 
-    /// The same family once more.
+    /// Returns the same family once more.
     pub fn again(&self) -> Result<Family, AllocError>
         ensures game { IfOk result (λ family. arc_value family.game ≡ arc_value self.now.game) }
         ensures diagram { IfOk result (λ family. arc_value family.diagram ≡ arc_value self.now.diagram) }
@@ -148,7 +149,7 @@ impl Family {
         Ok(Family { game, diagram })
     }
 
-    /// The line that counts the family.
+    /// Returns the line that counts the family.
     pub fn counted(&self, alloc: Global) -> Result<Vec<u8>, AllocError>
         ensures { IfOk result (λ text. text.items ≡ counts_text (arc_value self.now.game)) }
     {

@@ -30,7 +30,7 @@ fn put_long<W: fmt::Write>(name: &Vec<u8>, f: &mut fmt::Formatter<W>) -> fmt::Re
     Ok(())
 }
 
-/// A fault. What is told of each stands in `specs/Faults`; `line_of` writes just that, behind the program's name.
+/// A fault. `specs/Faults` has the message about each; `line_of` writes it after the program's name.
 #[derive(Debug, Drop, Error)]
 pub enum Fault {
     #[error("diagram unreadable")]
@@ -80,7 +80,7 @@ pub enum Fault {
     NotAProduct,
     #[error("Memory")]
     Memory,
-    /// The line `draw` behind a script was refused, since the log was full.
+    /// The line `draw` after a script was refused, since the log was full.
     #[error("script LogFull")]
     LogFull,
     /// The office of a run had a call that no line of its script made.

@@ -1,4 +1,4 @@
-//! What looks wrong in a diagram.
+//! Warnings of a diagram.
 ghost use Rattle.std.specs.Prelude.{◌≡◌, length, IfOk};
 
 use crate::products::{Closed, closure_of, finds_product, is_dead};
@@ -10,7 +10,7 @@ use vpg_guards::{Guard, Tri};
 use vpg_places::{Declared, LINES, Part, declared_of, form_of, lines_of, words_of};
 use vpg_system::System;
 
-/// Where a feature is named first.
+/// Returns the place where a feature is named first.
 fn declared_at(declared: &[Declared<'_>], f: usize) -> usize {
     match declared.get(f) {
         Some(it) => it.at,
@@ -18,7 +18,7 @@ fn declared_at(declared: &[Declared<'_>], f: usize) -> usize {
     }
 }
 
-/// Warns of a diagram of which propagation finds no product.
+/// Warns of a diagram if propagation finds no product of it.
 fn warn_of_none_found(
     alloc: Global,
     diagram: &Diagram,
@@ -33,7 +33,7 @@ fn warn_of_none_found(
     warnings.warn(Sort::NoneFound, root, 0)
 }
 
-/// Warns of features that are in no product, where the known values are these.
+/// Warns of features that are in no product, if the known values are these.
 fn warn_of_dead(
     alloc: Global,
     diagram: &Diagram,
@@ -52,7 +52,7 @@ fn warn_of_dead(
     Ok(())
 }
 
-/// Warns of a diagram that has no product, and else of what propagation shows of its products.
+/// Warns of a diagram that has no product, and else of facts that propagation shows of its products.
 fn warn_of_products(
     alloc: Global,
     diagram: &Diagram,
@@ -71,7 +71,7 @@ fn warn_of_products(
     }
 }
 
-/// The parent that a line names, where it names one.
+/// Returns the parent that a line names, if it names one.
 fn parent_of<'t>(alloc: Global, line: &'t [u8]) -> Result<Option<&'t [u8]>, AllocError> {
     let words = words_of(alloc, line, true)?;
     let (Some(first), Some(parent)) = (words.first(), words.get(1)) else {
@@ -83,7 +83,7 @@ fn parent_of<'t>(alloc: Global, line: &'t [u8]) -> Result<Option<&'t [u8]>, Allo
     }
 }
 
-/// The parents that the lines of a diagram name.
+/// Returns the parents that the lines of a diagram name.
 fn parents_of<'t>(alloc: Global, text: &'t [u8]) -> Result<Vec<&'t [u8]>, AllocError> {
     let lines = lines_of(alloc, text)?;
     let mut parents = Vec::new(alloc);
@@ -117,7 +117,7 @@ fn warn_of_unnamed(
     Ok(())
 }
 
-/// Warns of a diagram, and of how guards use it.
+/// Warns of a diagram, and of its use by guards.
 fn warn_of_diagram(
     alloc: Global,
     text: &[u8],
@@ -133,7 +133,7 @@ fn warn_of_diagram(
     warn_of_unnamed(named, &parents, &declared, warnings)
 }
 
-/// For each feature whether a guard of a game names it.
+/// Returns for each feature whether a guard of a game names it.
 pub(crate) fn named_in_game(alloc: Global, game: &GuardedGame) -> Result<Vec<bool>, AllocError> {
     let mut named = Vec::new(alloc);
     for f in 0..512u16 {
@@ -154,7 +154,7 @@ fn note_named(alloc: Global, guard: &Guard, named: &mut [bool]) -> Result<(), Al
     Ok(())
 }
 
-/// For each feature whether a guard of a system names it.
+/// Returns for each feature whether a guard of a system names it.
 pub(crate) fn named_in_system(alloc: Global, system: &System) -> Result<Vec<bool>, AllocError> {
     let mut named = vec![in alloc; false; system.features()]?;
     for transition in system.transitions() {
@@ -163,9 +163,9 @@ pub(crate) fn named_in_system(alloc: Global, system: &System) -> Result<Vec<bool
     Ok(named)
 }
 
-/// What looks wrong in a diagram that was read from a text, and in how guards use it, that name these features: that
-/// the diagram has no product, or that propagation alone finds none; features that are in no product, as far as
-/// propagation shows it; and features without children that no guard names.
+/// Returns the warnings of a diagram that was read from a text, and of its use by guards, which name these features.
+/// Reasons are: the diagram has no product, or propagation alone finds none; features in no product, as far as
+/// propagation shows it; features without children that no guard names.
 pub fn warnings_of_diagram(
     alloc: Global,
     text: &[u8],

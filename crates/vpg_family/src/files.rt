@@ -30,7 +30,7 @@ pub struct ModelPaths<'a> {
 pub enum GamePaths<'a> {
     /// The game has a file.
     Game(&'a str),
-    /// It is the game of a system and its requirements.
+    /// There is none, only a system that is drawn.
     Model(ModelPaths<'a>),
     /// There is none, but a system that is drawn.
     System(&'a str),
@@ -43,7 +43,7 @@ pub struct Paths<'a> {
     pub diagram: &'a str,
 }
 
-/// Want of memory is told as such, each other failure by the fault.
+/// Returns the fault for an error: out of memory stays `Memory`, each other failure is this fault.
 fn unreadable(error: Error, fault: Fault) -> Fault
     ensures { (result ≡ Fault.Memory) ⊎ (result ≡ fault) }
 {
@@ -53,7 +53,7 @@ fn unreadable(error: Error, fault: Fault) -> Fault
     }
 }
 
-/// The text of a file, or what is told where it cannot be read.
+/// Returns the text of a file, or the fault if it cannot be read.
 fn read_file<R: Files + AllocGlobal>(rt: &R, path: &str, fault: Fault) -> Result<Vec<u8>, Fault>
     ensures refused { IfErr result (λ told. (told ≡ Fault.Memory) ⊎ (told ≡ fault)) }
 {
@@ -68,19 +68,19 @@ fn read_file<R: Files + AllocGlobal>(rt: &R, path: &str, fault: Fault) -> Result
 pub struct Texts {
     pub diagram: Vec<u8>,
     pub game: Vec<u8>,
-    /// The requirements that the game is made for. There are none where it has a file.
+    /// The requirements that the game is made for. There are none if it has a file.
     pub entries: Vec<Entry>,
     /// The vertex of each of them.
     pub vertices: Vec<usize>,
-    /// The text of the system. It is empty where the game has a file.
+    /// The text of the system. It is empty if the game has a file.
     pub system: Vec<u8>,
-    /// The text of the requirements. It is empty where the game has a file.
+    /// The text of the requirements. It is empty if the game has a file.
     pub requirements: Vec<u8>,
-    /// What the game was made of. It is nothing where the game has a file.
+    /// The system that the game was made of. It is nothing if the game has a file.
     pub behaviour: Option<Behaviour>,
 }
 
-/// The text of a diagram, and that of a game's file.
+/// Returns the text of a diagram, and that of a game's file.
 fn game_texts<R: Files + AllocGlobal>(
     rt: &R,
     alloc: Global,
@@ -105,7 +105,7 @@ fn game_texts<R: Files + AllocGlobal>(
     }
 }
 
-/// The text of a diagram, and that of a system's file. There is no game.
+/// Returns the text of a diagram, and that of a system's file. There is no game.
 fn system_texts<R: Files + AllocGlobal>(
     rt: &R,
     alloc: Global,
@@ -130,7 +130,7 @@ fn system_texts<R: Files + AllocGlobal>(
     }
 }
 
-/// The text of a diagram, and that of the game of a system and its requirements over it, by the texts of these.
+/// Returns the text of a diagram, and that of the game of a system and its requirements over it, by the texts of these.
 fn made_texts(
     alloc: Global,
     text: Vec<u8>,
@@ -165,7 +165,7 @@ fn made_texts(
     }
 }
 
-/// The same by their files. Both are opened before either is refused.
+/// Returns the texts of a diagram and of a made game by their files. Both are opened before either is refused.
 fn model_texts<R: Files + AllocGlobal>(
     rt: &R,
     alloc: Global,
@@ -190,9 +190,9 @@ fn model_texts<R: Files + AllocGlobal>(
     made_texts(alloc, text, diagram, system, requirements)
 }
 
-/// The texts of a family's files. That of the diagram is read, and refused, before any other is. Where a system and its
-/// requirements stand in place of the game, it is made: they are read, and then the system is refused before the
-/// requirements are.
+/// Returns the texts of a family's files. That of the diagram is read, and refused, before any other is. If a system
+/// and its requirements stand in place of the game, it is made: they are read, and then the system is refused before
+/// the requirements are.
 pub fn read_texts<R: Files + AllocGlobal>(
     rt: &R,
     alloc: Global,
@@ -221,7 +221,7 @@ pub fn read_texts<R: Files + AllocGlobal>(
     }
 }
 
-/// The family of some files. The diagram is read, and refused, before the game, or what stands in its place.
+/// Returns the family of some files. The diagram is read, and refused, before the game, or the files in its place.
 pub fn read_family<R: Files + AllocGlobal>(
     rt: &R,
     alloc: Global,
@@ -244,14 +244,14 @@ pub fn read_family<R: Files + AllocGlobal>(
     }
 }
 
-/// What is told of a script that cannot be opened, or read as a whole.
+/// Returns the fault of a script that cannot be opened, or read as a whole.
 fn no_script(error: Error) -> Fault
     ensures { (result ≡ Fault.Memory) ⊎ (result ≡ Fault.ScriptUnreadable) }
 {
     unreadable(error, Fault::ScriptUnreadable)
 }
 
-/// A script that is to be read.
+/// Returns a script that is to be read.
 pub fn open_script<R: Files>(rt: &R, path: &str) -> Result<R::File, Fault>
     ensures refused { IfErr result (λ fault. (fault ≡ Fault.Memory) ⊎ (fault ≡ Fault.ScriptUnreadable)) }
 {
@@ -261,7 +261,7 @@ pub fn open_script<R: Files>(rt: &R, path: &str) -> Result<R::File, Fault>
     }
 }
 
-/// The text of a script that is read as a whole.
+/// Returns the text of a script that is read as a whole.
 pub fn read_script<R: Files + AllocGlobal>(rt: &R, path: &str) -> Result<Vec<u8>, Fault>
     ensures refused { IfErr result (λ fault. (fault ≡ Fault.Memory) ⊎ (fault ≡ Fault.ScriptUnreadable)) }
 {

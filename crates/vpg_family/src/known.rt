@@ -1,4 +1,4 @@
-//! A family with the names by which lines call its vertices.
+//! A family with the names that lines may give its vertices.
 ghost use Rattle.std.specs.Arc.{arc_value};
 ghost use Rattle.std.specs.Prelude.{◌≡◌, ◌++◌, [], None, length, option_map, slice_get, IfErr, IfOk, OnOk};
 ghost use Rattle.vpg_diagram.specs.FeatureDiagram.{feature_count};
@@ -21,7 +21,7 @@ use vpg_game::GuardedGame;
 use vpg_names::VertexNames;
 use vpg_script::Callings;
 
-/// The identifier of the vertex at a place, where there is one.
+/// Returns the identifier of the vertex at a place, if there is one.
 fn identifier_at(game: &GuardedGame, vertex: usize) -> Option<u32>
     ensures { result ≡ slice_get (vertex_ids game.now.vertices) vertex }
 {
@@ -41,7 +41,7 @@ fn is_nonempty(name: &[u8]) -> bool
     }
 }
 
-/// Adds a name of the vertex of an identifier, where there are both.
+/// Adds a name of the vertex of an identifier, if there are both.
 fn add_name(
     alloc: Global,
     name: &[u8],
@@ -80,7 +80,7 @@ fn add_names(
     Ok(())
 }
 
-/// Adds the name of an entry, for the vertex at a place, where there are both.
+/// Adds the name of an entry, for the vertex at a place, if there are both.
 fn add_entry(
     alloc: Global,
     game: &GuardedGame,
@@ -119,7 +119,7 @@ fn add_entries(
     Ok(())
 }
 
-/// The names of the vertices of a game: those that its text gives them, and those of requirements.
+/// Returns the names of the vertices of a game: those that its text gives them, and those of requirements.
 fn callings_of(
     alloc: Global,
     game: &GuardedGame,
@@ -136,8 +136,8 @@ fn callings_of(
     Ok(callings)
 }
 
-/// What lines of a script may speak of beside the family: the names by which they call its vertices, and what its game
-/// was made of, if it was made of a system and requirements.
+/// The context of a script's lines beside the family: the names that they may give its vertices, and the system that
+/// its game was made of, if there is one.
 #[derive(Drop)]
 pub struct Context {
     pub callings: Callings,
@@ -145,7 +145,7 @@ pub struct Context {
 }
 
 impl Context {
-    /// No names, and no system.
+    /// Returns a context without names, and without a system.
     pub fn none(alloc: Global) -> Context
         ensures callings { result.callings ≡ [] }
         ensures behaviour { result.behaviour ≡ None }
@@ -157,14 +157,14 @@ impl Context {
     }
 }
 
-/// A family, the names that its game's text gives vertices, and what lines may speak of beside it.
+/// A family, the names that its game's text gives vertices, and the context of lines.
 pub struct Known {
     pub family: Family,
     pub names: VertexNames,
     pub context: Context,
 }
 
-// Not derived, so that letting one go is one call.
+// Not derived: a derived `drop` would be proved again at each exit that owns such a value.
 impl Drop for Known {
     fn drop(self) {
         let Known {
@@ -176,7 +176,7 @@ impl Drop for Known {
 }
 
 impl Known {
-    /// The family of some texts. Refused as `Family::read`.
+    /// Returns the family of some texts. Refused as `Family::read`.
     pub fn read(alloc: Global, texts: &Texts) -> Result<Known, Fault>
         ensures spelled { IfOk result (λ known. SpellsFamily texts.now.diagram.items texts.now.game.items
             (arc_value known.family.diagram) (arc_value known.family.game)) }
@@ -185,7 +185,7 @@ impl Known {
             (earlier_of texts.now.entries.items) texts.now.vertices.items known.context.callings) }
         ensures features { IfOk result (λ known.
             (arc_value known.family.game).features ≡ feature_count (arc_value known.family.diagram).lines) }
-        // What is spelled so is read.
+        // All that the texts spell is read.
         ensures only { IfOk result (λ known. (diagram : NamedDiagram) (game : NamedGame) →
             SpellsFamily texts.now.diagram.items texts.now.game.items diagram game →
             (arc_value known.family.diagram ≡ diagram) × (arc_value known.family.game ≡ game)) }
@@ -212,17 +212,17 @@ impl Known {
     }
 }
 
-/// The family of some files, with the names of its vertices. The diagram is read, and refused, before the game, or what
-/// stands in its place.
+/// Returns the family of some files, with the names of its vertices. The diagram is read, and refused, before the game,
+/// or the files in its place.
 pub fn read_known<R: Files + AllocGlobal>(
     rt: &R,
     alloc: Global,
     paths: Paths<'_>,
 ) -> Result<Known, Fault>
-    // Each requirement's name stands for its vertex, where a system and requirements stand in place of the game.
+    // Each requirement's name stands for its vertex, if a system and requirements stand in place of the game.
     ensures called { IfOk result (λ known. IsCalledFamily paths.entry.game (arc_value known.family.diagram)
         (arc_value known.family.game) known.context.callings) }
-    // What its game was made of is kept then, and is nothing else.
+    // The system that its game was made of is kept, and nothing else.
     ensures made { IfOk result (λ known. IsFamilyMadeOf paths.entry.game (arc_value known.family.diagram)
         (arc_value known.family.game) known.context.behaviour) }
     ensures features { IfOk result (λ known.

@@ -1,19 +1,20 @@
-//! A product family in files: read, counted, projected to one product and drawn; and what is told of its faults.
+//! A product family in files: read, counted, projected to one product and drawn; and the messages about its faults.
 //!
-//! `read_family` takes the files of a diagram and a game; or of a diagram, a system and its requirements, whose game it
-//! makes. A `Family` counts itself (`counted`) and gives the plain game of one product (`projected`); `checked` counts
-//! the family of texts, with its requirements, `drawn` gives a picture of two texts, and `linted` warns of what looks
-//! wrong in them: a diagram without a product, features that are in no product or that no guard names, vertices without
-//! moves or that the game never reaches, a start that is no vertex. `redrawn` gives the picture of a page that a script
-//! left, from what the script wrote, and `Pictured` is a sink that passes answers on with the names of vertices in
-//! pictures. `system_drawn` and `system_redrawn` draw a system in place of its game. Each fault of the program is a
-//! `Fault`, `line_of` is the line that tells of it, and `explained` are lines that say where and why. `Known` is a
-//! family with the names by which lines of scripts call its vertices, and `read_known` that of some files. The crate
-//! knows no desk: scripts are carried out above it.
+//! `read_family` takes the files of a diagram and a game; or of a diagram, a system and its requirements, and makes
+//! their game. A `Family` counts itself (`counted`) and returns the plain game of one product (`projected`). `checked`
+//! counts the family of texts, with its requirements, and `drawn` returns a picture of two texts. `linted` warns of a
+//! diagram without a product, and of features that are in no product or that no guard names. It warns of vertices
+//! without moves or that the game never reaches, and of a start that is no vertex. `redrawn` returns the picture of the
+//! page that a script left, from the text that the script wrote. `Pictured` is a sink that passes answers on with the
+//! names of vertices in pictures. `system_drawn` and `system_redrawn` draw a system in place of its game. Each fault of
+//! the program is a `Fault`, `line_of` returns the line that reports it, and `explained` lines that say where and why.
+//! `Known` is a family with the names that lines of scripts may give its vertices, and `read_known` returns that of
+//! some files. The crate knows no desk: scripts are carried out above it.
 //!
-//! `specs/Families` says which texts spell a family, when its game is made, and which words name a product;
-//! `specs/Called` which names its vertices have; `specs/Counts`, `specs/Checked`, `specs/Pictures`, `specs/Systems`,
-//! `specs/Pages` and `specs/Faults` what is written, `specs/Warned` where warnings stand. All are this project's own.
+//! `specs/Families` defines the texts that spell a family, when its game is made, and the words that name a product;
+//! `specs/Called` the names of its vertices. `specs/Counts`, `specs/Checked`, `specs/Pictures`, `specs/Systems`,
+//! `specs/Pages` and `specs/Faults` define the texts that are written, and `specs/Warned` the places of warnings. All
+//! are this project's own.
 #![tactic(auto)]
 
 mod checking;

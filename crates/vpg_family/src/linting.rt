@@ -1,4 +1,4 @@
-//! What looks wrong in a family that is read.
+//! Warnings of a family that is read.
 ghost use Rattle.std.specs.Prelude.{IfErr};
 ghost use Rattle.vpg_family.specs.Families.{IsFamilyFault};
 
@@ -11,7 +11,7 @@ use std::alloc::{AllocError, Global};
 use vpg_diagram::Diagram;
 use vpg_game::GuardedGame;
 
-/// Lines of warnings of a diagram and a game that were read from these texts.
+/// Returns lines of warnings of a diagram and a game that were read from these texts.
 fn warned_of_game(
     alloc: Global,
     of_diagram: File<'_>,
@@ -26,7 +26,7 @@ fn warned_of_game(
     }
 }
 
-/// Lines of warnings of a diagram, a system and its requirements that were read from these texts before.
+/// Returns lines of warnings of a diagram, a system and its requirements that were read from these texts before.
 fn warned_of_system(
     alloc: Global,
     of_diagram: File<'_>,
@@ -60,7 +60,7 @@ fn warned_of_system(
     }
 }
 
-/// Lines of warnings of a family that was read from these texts.
+/// Returns lines of warnings of a family that was read from these texts.
 fn warned(
     alloc: Global,
     paths: Paths<'_>,
@@ -91,9 +91,9 @@ fn warned(
     }
 }
 
-/// Lines that warn of what looks wrong in the family that the texts of these files spell, and a last one that counts
-/// the warnings. A fault of the diagram is told before any of the game. Where the game is made from a system and its
-/// requirements, these are warned of in its place.
+/// Returns lines that warn of the family that the texts of these files spell, and a last one that counts the warnings.
+/// A fault of the diagram comes before any of the game. If the game is made from a system and its requirements, the
+/// warnings are of these.
 pub fn linted(alloc: Global, paths: Paths<'_>, texts: &Texts) -> Result<Vec<u8>, Fault>
     ensures { IfErr result (IsFamilyFault texts.now.diagram.items texts.now.game.items) }
 {

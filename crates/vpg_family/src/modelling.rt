@@ -13,7 +13,7 @@ use vpg_checking::{Behaviour, CheckingFault, Model};
 use vpg_diagram::Diagram;
 use vpg_formula::{Entry, Requirements};
 
-/// The name of the entry of a number, of requirements that were read before.
+/// Returns the name of the entry of a number, of requirements that were read before.
 fn entry_name(alloc: Global, text: &[u8], entry: usize) -> Result<Vec<u8>, Fault>
     ensures name { IfOk result (λ name. IsNameOfEntry text.now entry name.items) }
     ensures refused { OnErr result (result ≡ Err Fault.Memory) }
@@ -27,7 +27,7 @@ fn entry_name(alloc: Global, text: &[u8], entry: usize) -> Result<Vec<u8>, Fault
     }
 }
 
-/// What is told of a system and requirements that have no game.
+/// Returns the fault of a system and requirements that have no game.
 fn told_of(alloc: Global, requirements: &[u8], fault: CheckingFault) -> Fault
     ensures { (diagram : NamedDiagram) (system_text : List ℕ) →
         IsCheckingFault diagram.names system_text requirements.now fault →
@@ -45,7 +45,7 @@ fn told_of(alloc: Global, requirements: &[u8], fault: CheckingFault) -> Fault
     }
 }
 
-/// The text of the game of a system and its requirements, these, the vertex of each, and what the game was made of.
+/// The text of the game of a system and its requirements, these, the vertex of each, and the system.
 #[derive(Drop)]
 pub(crate) struct Modelled {
     pub(crate) game: Vec<u8>,
@@ -54,7 +54,7 @@ pub(crate) struct Modelled {
     pub(crate) behaviour: Behaviour,
 }
 
-/// The game of a system and its requirements over a diagram, by their texts.
+/// Returns the game of a system and its requirements over a diagram, by their texts.
 pub(crate) fn model_of(
     alloc: Global,
     diagram: &Diagram,

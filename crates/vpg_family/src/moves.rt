@@ -1,4 +1,4 @@
-//! What looks wrong in a game.
+//! Warnings of a game.
 ghost use Rattle.std.specs.Prelude.{◌≡◌, length, IfOk};
 
 use crate::warnings::{Sort, Warnings};
@@ -6,7 +6,7 @@ use std::alloc::{AllocError, Global};
 use vpg_game::GuardedGame;
 use vpg_places::{Number, numbers_of, start_at};
 
-/// Where the entry of a vertex begins.
+/// Returns the place where the entry of a vertex begins.
 fn entry_at(places: &[Number], v: usize) -> usize {
     match places.get(v) {
         Some(number) => number.at,
@@ -53,7 +53,7 @@ fn note_successors(
     Ok(())
 }
 
-/// Notes the vertices that can be reached from those that wait, of so many.
+/// Notes the vertices that can be reached from those that wait, of this many.
 fn reach(
     game: &GuardedGame,
     vertices: usize,
@@ -70,7 +70,7 @@ fn reach(
     Ok(())
 }
 
-/// For each vertex whether it can be reached from one, over edges with any guard.
+/// Returns for each vertex whether it can be reached from one, over edges with any guard.
 fn reached_from(alloc: Global, game: &GuardedGame, v: u32) -> Result<Vec<bool>, AllocError> {
     let vertices = game.vertices();
     let mut seen = vec![in alloc; false; vertices]?;
@@ -99,7 +99,7 @@ fn warn_of_unreached(
     Ok(())
 }
 
-/// The vertex of an identifier, where there is one.
+/// Returns the vertex of an identifier, if there is one.
 fn vertex_of(game: &GuardedGame, id: u64) -> Option<u32> {
     if id <= u32::MAX as u64 {
         game.find(id as u32)
@@ -108,7 +108,7 @@ fn vertex_of(game: &GuardedGame, id: u64) -> Option<u32> {
     }
 }
 
-/// Warns of where a game starts.
+/// Warns of the start of a game.
 fn warn_of_start(
     alloc: Global,
     text: &[u8],
@@ -146,9 +146,9 @@ fn warn_of_game(
     }
 }
 
-/// What looks wrong in a game that was read from a text and starts at the vertex of an identifier, where it says so:
-/// vertices without moves; a start that is no vertex, or vertices that can't be reached from it, whatever the guards
-/// are.
+/// Returns the warnings of a game that was read from a text. It starts at the vertex of an identifier, if the text says
+/// so. They are: vertices without moves; a start that is no vertex, or vertices that can't be reached from it, whatever
+/// the guards are.
 pub fn warnings_of_game(
     alloc: Global,
     text: &[u8],

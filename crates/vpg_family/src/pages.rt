@@ -1,8 +1,8 @@
 //! Pictures of a family on the page that a script leaves.
 //!
-//! A run keeps no names of vertices, and writes no picture of a diagram. But its line `draw` tells all that is drawn of
-//! a page. So decisions and verdicts are read from that picture, which is then made once more from them and compared:
-//! where the two differ in a byte nothing is drawn.
+//! A run keeps no names of vertices, and writes no picture of a diagram. But its line `draw` shows all parts of a page
+//! that are drawn. So decisions and verdicts are read from that picture. Then it is made once more from them and
+//! compared: if the two differ in a byte nothing is drawn.
 ghost use Rattle.std.specs.Prelude.{◌≡◌, ◌↔◌, ◌<◌, ◌≤◌, ◌++◌, [], All, IsTrue, length, map, take, IfOk, IfSome};
 ghost use Rattle.std.specs.Str.{bytes_eq};
 ghost use Rattle.vpg_diagram.specs.FeatureDiagram.{feature_count};
@@ -25,10 +25,10 @@ use vpg_names::VertexNames;
 use vpg_partial::{Decision, Partial, PartialFault};
 use vpg_verdict::Verdict;
 
-/// How the picture of a game begins, up to the decisions.
+/// The beginning of the picture of a game, up to the decisions.
 const OPENING: &[u8] = b"digraph game {\n  graph [label=\"decisions";
 
-/// How many lines of it come before those of the vertices.
+/// The number of its lines before those of the vertices.
 const HEADING: usize = 3;
 
 /// The colours of a vertex that is hopeless, or sure.
@@ -36,14 +36,15 @@ const HOPELESS: &[u8] = b", fillcolor=mistyrose, color=firebrick];";
 
 const SURE: &[u8] = b", fillcolor=honeydew, color=darkgreen];";
 
-/// What a picture of a game shows of a page: its decisions, and the verdicts of the vertices.
+/// The parts of a page that a picture of a game shows: its decisions, and the verdicts of the vertices.
 #[derive(Drop)]
 struct Shown {
     decisions: Vec<Decision>,
     verdicts: Vec<Verdict>,
 }
 
-/// The same, what the decisions make known, and where the picture begins in what was written.
+/// The shown parts of a page, the features that the decisions make known, and the place where the picture begins in the
+/// written text.
 #[derive(Drop)]
 pub(crate) struct Seen {
     pub(crate) decisions: Vec<Decision>,
@@ -52,7 +53,7 @@ pub(crate) struct Seen {
     begins: usize,
 }
 
-/// The last picture of a game in a text, and what stands behind it.
+/// Returns the last picture of a game in a text, and the text after it.
 fn last_picture(text: &[u8]) -> &[u8] {
     for at in (0..text.len()).rev() {
         let rest = &text[at..];
@@ -63,14 +64,14 @@ fn last_picture(text: &[u8]) -> &[u8] {
     text
 }
 
-/// What a picture that begins so names behind the word `decisions`.
+/// Returns the text after the word `decisions` in a picture of this beginning.
 fn label_of<'p>(picture: &'p [u8], opening: &[u8]) -> &'p [u8] {
     let behind = picture.strip_prefix(opening).unwrap_or(picture);
     let len = behind.iter().take_while(|b| **b != b'"').count();
     behind.get(..len).unwrap_or(behind)
 }
 
-/// The decision that a word `+F` or `-F` names.
+/// Returns the decision that a word `+F` or `-F` names.
 fn decision_of(names: &Names, word: &[u8]) -> Option<Decision> {
     let (sign, name) = word.split_first()?;
     let feature = names.get(name)?;
@@ -82,7 +83,7 @@ fn decision_of(names: &Names, word: &[u8]) -> Option<Decision> {
     })
 }
 
-/// The decisions that a picture names that begins so.
+/// Returns the decisions that a picture of this beginning names.
 pub(crate) fn decisions_of(
     alloc: Global,
     names: &Names,
@@ -98,7 +99,7 @@ pub(crate) fn decisions_of(
     Ok(decisions)
 }
 
-/// The verdict that the line of a vertex shows.
+/// Returns the verdict that the line of a vertex shows.
 pub(crate) fn verdict_of(line: &[u8]) -> Verdict {
     Verdict {
         hopeless: line.ends_with(HOPELESS),
@@ -106,7 +107,7 @@ pub(crate) fn verdict_of(line: &[u8]) -> Verdict {
     }
 }
 
-/// The verdicts that a picture of a game of so many vertices shows.
+/// Returns the verdicts that a picture of a game of this many vertices shows.
 fn verdicts_of(alloc: Global, picture: &[u8], vertices: usize) -> Result<Vec<Verdict>, AllocError> {
     let mut verdicts = Vec::new(alloc);
     let mut heading = HEADING;
@@ -120,7 +121,7 @@ fn verdicts_of(alloc: Global, picture: &[u8], vertices: usize) -> Result<Vec<Ver
     Ok(verdicts)
 }
 
-/// What the last picture in a text shows of a page.
+/// Returns the parts of a page that the last picture in a text shows.
 fn last_shown(
     alloc: Global,
     names: &Names,
@@ -134,14 +135,14 @@ fn last_shown(
     })
 }
 
-/// Whether each decision is of one of so many features.
+/// Whether each decision is on a feature below this count.
 pub(crate) fn are_below(features: usize, decisions: &[Decision]) -> bool
     ensures { IsTrue result ↔ All (λ d. d.feature < features) decisions.now }
 {
     decisions.iter().all(|d| (d.feature as usize) < features)
 }
 
-/// What decisions make known, where that is no contradiction.
+/// Returns the features that decisions make known, if they don't contradict each other.
 pub(crate) fn known_of(
     alloc: Global,
     diagram: &Diagram,
@@ -157,7 +158,7 @@ pub(crate) fn known_of(
     }
 }
 
-/// Where the end of a text begins that is another.
+/// Returns the place where the end of a text begins that equals another text.
 fn end_of(text: &[u8], end: &[u8]) -> Option<usize>
     ensures within { IfSome result (λ at. at ≤ length text.now) }
     ensures end { IfSome result (λ at. text.now ≡ take at text.now ++ end.now) }
@@ -173,7 +174,7 @@ pub(crate) fn same(a: &[u8], b: &[u8]) -> bool
     a == b
 }
 
-/// The picture of the game on a page, with these names of its vertices.
+/// Returns the picture of the game on a page, with these names of its vertices.
 fn game_shown(
     alloc: Global,
     diagram: &Diagram,
@@ -205,7 +206,7 @@ fn game_shown(
     Ok(picture)
 }
 
-/// The picture of the diagram on a page, from its text.
+/// Returns the picture of the diagram on a page, from its text.
 fn features_shown(
     alloc: Global,
     diagram: &Diagram,
@@ -225,8 +226,8 @@ fn features_shown(
     Ok(picture)
 }
 
-/// Where the picture of the game on a page begins, without names, in which something written ends. Where it ends in
-/// another, the log was full.
+/// Returns the place where the picture of the game on a page begins, without names, at the end of the written text. If
+/// the text has another end, the log was full.
 fn begin_of(
     alloc: Global,
     diagram: &Diagram,
@@ -251,7 +252,7 @@ fn begin_of(
     }
 }
 
-/// What is drawn of the page in the picture of whose game, without names, something written ends.
+/// Returns the parts of the page that are drawn, if the written text ends in the picture of its game without names.
 pub(crate) fn sight_in(
     alloc: Global,
     diagram: &Diagram,
@@ -281,7 +282,7 @@ pub(crate) fn sight_in(
     })
 }
 
-/// What was written before a picture, and the picture with these names of the game's vertices.
+/// Returns the text before a picture, and then the picture with these names of the game's vertices.
 fn named_behind(
     alloc: Global,
     diagram: &Diagram,
@@ -316,7 +317,7 @@ fn named_behind(
     }
 }
 
-/// What was written, with these names of the game's vertices in the picture in which it ends.
+/// Returns the written text, with these names of the game's vertices in the picture at its end.
 #[tactic(auto, using(crate::proofs::Sights::named))]
 pub(crate) fn with_names(
     alloc: Global,
@@ -336,7 +337,7 @@ pub(crate) fn with_names(
     }
 }
 
-/// The picture of a game on a page, with the names that its text tells.
+/// Returns the picture of a game on a page, with the names in its text.
 fn game_seen(
     alloc: Global,
     diagram: &Diagram,
@@ -368,7 +369,7 @@ fn game_seen(
     }
 }
 
-/// The picture of a page of which this is seen.
+/// Returns the picture of the page with these parts.
 fn sight_drawn(
     alloc: Global,
     subject: Subject,
@@ -397,8 +398,8 @@ fn sight_drawn(
     }
 }
 
-/// The picture of the page that a script left, of a family with these texts, from what the script wrote. Its last
-/// answer is the picture of the page's game without names. `LogFull` comes where it is none.
+/// Returns the picture of the page that a script left, of a family with these texts, from the text that the script
+/// wrote. Its last answer is the picture of the page's game without names. `LogFull` comes if it is none.
 #[tactic(auto, using(crate::proofs::Sights::redrawn))]
 pub fn redrawn(
     alloc: Global,

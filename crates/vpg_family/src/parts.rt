@@ -1,7 +1,7 @@
 //! Pictures of parts of a game on a page, with the names of vertices.
 //!
-//! A run keeps no names of vertices, but a picture of a part tells all that is drawn of it. So this is read from the
-//! picture, which is then made once more from it and compared: only where both agree in each byte it has names.
+//! A run keeps no names of vertices, but a picture of a part shows all that is drawn of it. So this is read from the
+//! picture. Then the picture is made once more from it and compared: it has names only if both agree in each byte.
 ghost use Rattle.std.specs.Prelude.{◌≡◌, ◌<◌, [], All, IsTrue, length, map, IfOk, IfSome};
 ghost use Rattle.std.specs.Str.{bytes_eq};
 ghost use Rattle.vpg_diagram.specs.FeatureDiagram.{feature_count};
@@ -21,19 +21,19 @@ use vpg_names::VertexNames;
 use vpg_partial::{Decision, Partial, PartialFault};
 use vpg_verdict::Verdict;
 
-/// How the picture of a part begins, up to the decisions.
+/// The beginning of the picture of a part, up to the decisions.
 const OPENING: &[u8] = b"digraph part {\n  graph [label=\"decisions";
 
-/// What the line of the vertex has that is told from the others.
+/// The mark in the line of the first vertex.
 const TOLD: &[u8] = b"penwidth=3,";
 
-/// How the line of a listed move ends.
+/// The end of the line of a listed move.
 const EVEN: &[u8] = b"color=\"#3f7d2c\", penwidth=2.6];";
 
 const ODD: &[u8] = b"color=\"#b03a1e\", penwidth=2.6];";
 
-/// What a picture of a part shows: decisions; for each vertex a verdict, whether it is drawn, and its listed move;
-/// whose moves are listed; and the vertex that is told from the others.
+/// The parts of a page that a picture of a part of the game shows. They are the decisions; for each vertex a verdict,
+/// whether it is drawn, and its listed move; the player of these moves; and the first vertex.
 struct PartShown {
     decisions: Vec<Decision>,
     verdicts: Vec<Verdict>,
@@ -43,7 +43,7 @@ struct PartShown {
     moves: Vec<Option<u32>>,
 }
 
-// Not derived, so that letting one go is one call: a derived way would be proved anew at each exit that owns one.
+// Not derived: a derived `drop` would be proved again at each exit that owns such a value.
 impl Drop for PartShown {
     fn drop(self) {
         let PartShown {
@@ -57,13 +57,13 @@ impl Drop for PartShown {
     }
 }
 
-/// The same, and what the decisions make known.
+/// The shown parts of a page, and the features that the decisions make known.
 pub(crate) struct PartSeen {
     shown: PartShown,
     known: Partial,
 }
 
-// As of what a picture shows.
+// Not derived, as that of `PartShown`.
 impl Drop for PartSeen {
     fn drop(self) {
         let PartSeen { shown: _, known: _ } = self;
@@ -86,21 +86,21 @@ impl Model for PartSeen {
     } };
 }
 
-/// The first word of a text, and what stands behind it.
+/// Returns the first word of a text, and the text after it.
 fn word_of(text: &[u8]) -> (&[u8], &[u8]) {
     let len = text.iter().take_while(|b| **b != b' ').count();
     let word = text.get(..len).unwrap_or(text);
     (word, text.get(len..).unwrap_or(&[]))
 }
 
-/// The vertex of the identifier that a word writes.
+/// Returns the vertex of the identifier that a word writes.
 fn vertex_of(game: &GuardedGame, word: &[u8]) -> Option<u32> {
     let word = str::from_utf8(word).ok()?;
     let id = word.parse::<u32>().ok()?;
     game.find(id)
 }
 
-/// Whose listed move a line shows.
+/// Returns the player of the listed move that a line shows.
 fn mover_of(line: &[u8]) -> Option<Player> {
     if line.ends_with(ODD) {
         Some(Player::Odd)
@@ -111,7 +111,7 @@ fn mover_of(line: &[u8]) -> Option<Player> {
     }
 }
 
-/// Takes in what the line of a vertex shows.
+/// Takes in the line of a vertex.
 fn see_vertex(v: u32, line: &[u8], shown: &mut PartShown) {
     let at = v as usize;
     if let Some(mark) = shown.marks.get_mut(at) {
@@ -125,7 +125,7 @@ fn see_vertex(v: u32, line: &[u8], shown: &mut PartShown) {
     }
 }
 
-/// Takes in a move from a vertex that is listed.
+/// Takes in a listed move from a vertex.
 fn see_move(v: u32, to: u32, mover: Player, shown: &mut PartShown) {
     shown.mover = Some(mover);
     if let Some(listed) = shown.moves.get_mut(v as usize) {
@@ -133,7 +133,7 @@ fn see_move(v: u32, to: u32, mover: Player, shown: &mut PartShown) {
     }
 }
 
-/// Takes in what the line of an edge from a vertex shows, behind its arrow.
+/// Takes in the line of an edge from a vertex, after its arrow.
 fn see_edge(game: &GuardedGame, v: u32, line: &[u8], shown: &mut PartShown) {
     let (word, _) = word_of(line);
     if let (Some(to), Some(mover)) = (vertex_of(game, word), mover_of(line)) {
@@ -141,7 +141,7 @@ fn see_edge(game: &GuardedGame, v: u32, line: &[u8], shown: &mut PartShown) {
     }
 }
 
-/// Takes in what a line shows.
+/// Takes in a line.
 fn see_line(game: &GuardedGame, line: &[u8], shown: &mut PartShown) {
     let (word, rest) = word_of(line.strip_prefix(b"  ").unwrap_or(line));
     if let Some(v) = vertex_of(game, word) {
@@ -152,7 +152,7 @@ fn see_line(game: &GuardedGame, line: &[u8], shown: &mut PartShown) {
     }
 }
 
-/// The part without vertices of a game of so many.
+/// Returns the part of a game of this many vertices that has none of them.
 fn nothing_shown(
     alloc: Global,
     decisions: Vec<Decision>,
@@ -172,7 +172,7 @@ fn nothing_shown(
     })
 }
 
-/// What a picture of a part shows.
+/// Returns the parts of a page that a picture of a part shows.
 fn shown_in(
     alloc: Global,
     names: &Names,
@@ -194,7 +194,7 @@ fn is_part(answer: &[u8]) -> bool
     answer.starts_with(b"digraph part {\n")
 }
 
-/// Whether what is shown may be that of a page of a family.
+/// Whether the shown parts may be those of a page of a family.
 fn is_of_family(diagram: &Diagram, game: &GuardedGame, shown: &PartShown) -> bool
     ensures features { IsTrue result →
         All (λ d. d.feature < feature_count diagram.now.lines) shown.now.decisions.items }
@@ -207,7 +207,7 @@ fn is_of_family(diagram: &Diagram, game: &GuardedGame, shown: &PartShown) -> boo
         && are_below(diagram.features(), &shown.decisions)
 }
 
-/// What decisions make known, `None` where they contradict each other.
+/// Returns the features that decisions make known, `None` if they contradict each other.
 fn known_if(
     alloc: Global,
     diagram: &Diagram,
@@ -223,7 +223,7 @@ fn known_if(
     }
 }
 
-/// What is seen in an answer as a part of the game, `None` where it is none.
+/// Returns the part of the game that an answer shows, `None` if it shows none.
 pub(crate) fn part_seen(
     alloc: Global,
     diagram: &Diagram,
@@ -246,7 +246,7 @@ pub(crate) fn part_seen(
     }
 }
 
-/// The picture of a part of which this is seen, with these names of vertices.
+/// Returns the picture of this part, with these names of vertices.
 fn part_drawn(
     alloc: Global,
     diagram: &Diagram,
@@ -281,7 +281,7 @@ fn part_drawn(
     Ok(picture)
 }
 
-/// Whether an answer is the picture of the part, without names, that is seen in it.
+/// Whether an answer is the picture of the part that it shows, without names.
 fn is_reproduced(
     alloc: Global,
     diagram: &Diagram,
@@ -300,8 +300,8 @@ fn is_reproduced(
     }
 }
 
-/// What is passed on of an answer in which this is seen: with these names of vertices where it is the part without
-/// names, else as it is.
+/// Returns the text to pass on for an answer that shows this part: with these names of vertices if it is the part
+/// without names, else as it is.
 pub(crate) fn part_passed(
     alloc: Global,
     diagram: &Diagram,

@@ -19,7 +19,7 @@ fn is_picture(answer: &[u8]) -> bool
     answer.starts_with(b"digraph game {\n")
 }
 
-/// Passes on an answer in which this is seen: a picture that is no whole game.
+/// Passes on an answer that shows this part and no whole game.
 fn put_seen<W: Sink>(
     alloc: Global,
     diagram: &Diagram,
@@ -43,7 +43,7 @@ fn put_seen<W: Sink>(
     writer.put(&text)
 }
 
-/// Passes on an answer in which this is seen: a picture with the names of vertices. It fails too where memory runs out.
+/// Passes on an answer that shows this part: a picture with the names of vertices. It also fails if memory runs out.
 fn put_pictured<W: Sink>(
     alloc: Global,
     diagram: &Diagram,
@@ -102,7 +102,7 @@ pub struct Pictured<'n, W> {
 }
 
 impl<'n, W: Sink> Pictured<'n, W> {
-    /// A sink that passes answers on to this writer.
+    /// Returns a sink that passes answers on to this writer.
     pub fn new(
         alloc: Global,
         diagram: &'n Diagram,
@@ -125,7 +125,7 @@ impl<'n, W: Sink> Pictured<'n, W> {
 }
 
 impl<W: Sink + Drop> Pictured<'_, W> {
-    /// What answers were passed on to.
+    /// Returns the writer that answers were passed on to.
     pub fn into_writer(self) -> W {
         self.writer
     }

@@ -1,4 +1,4 @@
-//! What propagation finds of a diagram's products.
+//! The products of a diagram that propagation finds.
 ghost use Rattle.std.specs.Prelude.{◌≡◌, ◌↔◌, ◌<◌, IsTrue, All};
 
 use std::alloc::{AllocError, Global};
@@ -7,21 +7,21 @@ use vpg_guards::Tri;
 use vpg_measure::known_under;
 use vpg_partial::{Decision, Partial, PartialFault};
 
-/// What decisions make known, or that they contradict each other.
+/// The features that decisions make known, or that they contradict each other.
 #[derive(Drop)]
 pub(crate) enum Closed {
     Known(Partial),
     Conflict,
 }
 
-/// Whether each decision is of one of so many features.
+/// Whether each decision is on a feature below this count.
 fn are_below(features: usize, decisions: &[Decision]) -> bool
     ensures { IsTrue result ↔ All (λ d. d.feature < features) decisions.now }
 {
     decisions.iter().all(|d| (d.feature as usize) < features)
 }
 
-/// What decisions make known. Those that are of no feature have a conflict.
+/// Returns the features that decisions make known. Decisions on no feature have a conflict.
 pub(crate) fn closure_of(
     alloc: Global,
     diagram: &Diagram,
@@ -38,7 +38,7 @@ pub(crate) fn closure_of(
     }
 }
 
-/// A decision.
+/// Returns a decision.
 pub(crate) fn decision(feature: u16, value: bool) -> Decision {
     Decision {
         serial: 1,
@@ -48,7 +48,7 @@ pub(crate) fn decision(feature: u16, value: bool) -> Decision {
     }
 }
 
-/// Whether decisions contradict each other.
+/// Returns whether decisions contradict each other.
 fn have_conflict(
     alloc: Global,
     diagram: &Diagram,
@@ -58,7 +58,7 @@ fn have_conflict(
     Ok(matches!(closed, Closed::Conflict))
 }
 
-/// Whether a feature is known out without decisions, or contradicts the diagram where it is chosen.
+/// Returns whether a feature is known out without decisions, or contradicts the diagram if it is chosen.
 pub(crate) fn is_dead(
     alloc: Global,
     diagram: &Diagram,
@@ -72,7 +72,7 @@ pub(crate) fn is_dead(
     }
 }
 
-/// The value of a feature under decisions.
+/// Returns the value of a feature under decisions.
 fn value_under(
     alloc: Global,
     diagram: &Diagram,
@@ -90,7 +90,7 @@ fn value_under(
     }
 }
 
-/// Decides a feature, out where that is no contradiction. Whether one of the values is none.
+/// Decides a feature, out if that is no contradiction. Returns whether one of the values is none.
 fn decide(
     alloc: Global,
     diagram: &Diagram,
@@ -107,8 +107,8 @@ fn decide(
     Ok(false)
 }
 
-/// Whether a product is found by propagation alone: each feature that is open is left out where that is no
-/// contradiction, and else taken.
+/// Returns whether propagation alone finds a product: each open feature is left out if that is no contradiction, and
+/// else taken.
 pub(crate) fn finds_product(alloc: Global, diagram: &Diagram) -> Result<bool, AllocError> {
     let mut decisions = Vec::new(alloc);
     let features = diagram.names().len() as u16;

@@ -1,4 +1,4 @@
-//! What looks wrong in a system and its requirements.
+//! Warnings of a system and its requirements.
 ghost use Rattle.std.specs.Prelude.{◌≡◌, length, IfOk};
 ghost use Rattle.vpg_diagram.specs.FeatureDiagram.{feature_count};
 
@@ -10,7 +10,7 @@ use vpg_places::{Line, lines_of};
 use vpg_system::System;
 use vpg_warnings::{unknown_actions, unmet_guards, unnamed_actions, unreached_states};
 
-/// The lines of a text that are not blank: the header of a system, and one for each transition.
+/// Returns the lines of a text that are not blank: the header of a system, and one for each transition.
 fn lines_in<'t>(alloc: Global, text: &'t [u8]) -> Result<Vec<Line<'t>>, AllocError> {
     let lines = lines_of(alloc, text)?;
     let mut found = Vec::new(alloc);
@@ -22,7 +22,7 @@ fn lines_in<'t>(alloc: Global, text: &'t [u8]) -> Result<Vec<Line<'t>>, AllocErr
     Ok(found)
 }
 
-/// Where a line of these begins, without the blanks in front.
+/// Returns the place where a line of these begins, without the blanks in front.
 fn line_at(lines: &[Line<'_>], number: usize) -> usize {
     match lines.get(number) {
         Some(line) => {
@@ -36,7 +36,7 @@ fn line_at(lines: &[Line<'_>], number: usize) -> usize {
     }
 }
 
-/// Where the guard of a line of these begins, behind the last `[`, and else the line.
+/// Returns the place where the guard of a line of these begins, after the last `[`; without a guard that of the line.
 fn guard_at(lines: &[Line<'_>], number: usize) -> usize {
     let Some(line) = lines.get(number) else {
         return 0;
@@ -47,7 +47,7 @@ fn guard_at(lines: &[Line<'_>], number: usize) -> usize {
     }
 }
 
-/// The line of the first transition from each state, and else that of the header.
+/// Returns the line of the first transition from each state, and else that of the header.
 fn lines_of_states(alloc: Global, system: &System) -> Result<Vec<usize>, AllocError> {
     let mut numbers = vec![in alloc; 0usize; system.states() as usize]?;
     for (index, transition) in system.transitions().iter().enumerate() {
@@ -60,7 +60,7 @@ fn lines_of_states(alloc: Global, system: &System) -> Result<Vec<usize>, AllocEr
     Ok(numbers)
 }
 
-/// The line of the first transition with each action.
+/// Returns the line of the first transition with each action.
 fn lines_of_actions(alloc: Global, system: &System) -> Result<Vec<usize>, AllocError> {
     let mut numbers = vec![in alloc; 0usize; system.actions()]?;
     for (index, transition) in system.transitions().iter().enumerate() {
@@ -73,7 +73,7 @@ fn lines_of_actions(alloc: Global, system: &System) -> Result<Vec<usize>, AllocE
     Ok(numbers)
 }
 
-/// The number of the line of a state or an action.
+/// Returns the number of the line of a state or an action.
 fn number_at(numbers: &[usize], index: usize) -> usize {
     match numbers.get(index) {
         Some(number) => *number,
@@ -81,7 +81,7 @@ fn number_at(numbers: &[usize], index: usize) -> usize {
     }
 }
 
-/// A number of a warning.
+/// Returns the index of a warning.
 fn index_of(number: usize) -> u32 {
     match u32::try_from(number) {
         Ok(index) => index,
@@ -107,7 +107,7 @@ fn warn_of_states(
     Ok(())
 }
 
-/// Warns of guards that no product meets, where the diagram has one.
+/// Warns of guards that no product meets, if the diagram has one.
 fn warn_of_guards(
     alloc: Global,
     diagram: &Diagram,
@@ -166,9 +166,9 @@ fn warn_of_system(
     warn_of_actions(alloc, system, requirements, &lines, warnings)
 }
 
-/// What looks wrong in a system that was read from a text: states that cannot be reached from the first one, whatever
-/// the guards are; guards that no product of the diagram meets, as far as propagation shows it; and actions that its
-/// requirements do not name.
+/// Returns the warnings of a system that was read from a text: states that cannot be reached from the first one,
+/// whatever the guards are; guards that no product meets, as far as propagation shows it; actions that its requirements
+/// do not name.
 pub fn warnings_of_system(
     alloc: Global,
     text: &[u8],
@@ -202,7 +202,7 @@ fn warn_of_requirements(
     Ok(())
 }
 
-/// What looks wrong in a text of requirements: actions that no transition of the system has.
+/// Returns the warnings of a text of requirements: actions that no transition of the system has.
 pub fn warnings_of_requirements(
     alloc: Global,
     text: &[u8],

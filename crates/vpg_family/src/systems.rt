@@ -18,7 +18,7 @@ use vpg_partial::{Decision, Partial};
 use vpg_system::{System, SystemFault};
 use vpg_system_draw::{draw_system, reachable};
 
-/// The system over the features of a diagram that a text spells.
+/// Returns the system over the features of a diagram that a text spells.
 pub(crate) fn read_system(alloc: Global, text: &[u8], diagram: &Diagram) -> Result<System, Fault>
     ensures found { IfOk result (IsTextOf diagram.now.names text.now) }
     ensures features { IfOk result (λ system. system.features ≡ feature_count diagram.now.lines) }
@@ -33,7 +33,7 @@ pub(crate) fn read_system(alloc: Global, text: &[u8], diagram: &Diagram) -> Resu
     }
 }
 
-/// The picture of a system under decisions and what they make known.
+/// Returns the picture of a system under decisions and the features that they make known.
 fn system_shown(
     alloc: Global,
     diagram: &Diagram,
@@ -63,7 +63,7 @@ fn system_shown(
     Ok(picture)
 }
 
-/// The picture of a system under what its diagram alone makes known.
+/// Returns the picture of a system under what its diagram alone makes known.
 fn drawn_alone(alloc: Global, diagram: &Diagram, system: &System) -> Result<Vec<u8>, Fault>
     requires { system.now.features ≡ feature_count diagram.now.lines }
     ensures drawn { IfOk result (λ picture. IsDrawnAlone diagram.now system.now picture.items) }
@@ -100,8 +100,8 @@ pub fn system_drawn(
     drawn_alone(alloc, &diagram, &system)
 }
 
-/// The picture of the system of a family with these texts on the page that a script left, from what the script wrote.
-/// Its last answer is the picture of the page's game without names. `LogFull` comes where it is none.
+/// Returns the picture of the system of a family with these texts on the page that a script left, from the text that
+/// the script wrote. Its last answer is the picture of the page's game without names. `LogFull` comes if it is none.
 pub fn system_redrawn(
     alloc: Global,
     diagram: &Diagram,

@@ -1,4 +1,4 @@
-//! The line that tells of a fault.
+//! The line that reports a fault.
 ghost use Rattle.std.specs.Prelude.{◌≡◌, [], ◌∷◌, ◌++◌, map, codes, IfOk, OnOk};
 ghost use Rattle.vpg_family.specs.Counts.{labelled};
 ghost use Rattle.vpg_family.specs.Faults.{shown_byte, guard_text, game_text, diagram_text, system_text, requirements_text, model_text, line_text, fault_text, fault_line};
@@ -14,7 +14,7 @@ use vpg_model::ModelFault;
 use vpg_script::LineFault;
 use vpg_system::SystemFault;
 
-/// A byte of a word as it is shown: `?` where it is a control character.
+/// Returns a byte of a word as it is shown: `?` for a control character.
 fn shown_byte(byte: u8) -> u8
     ensures { result ≡ shown_byte byte }
 {
@@ -25,7 +25,7 @@ fn shown_byte(byte: u8) -> u8
     }
 }
 
-/// Appends a word as it is shown.
+/// Appends a word with `?` for each control character.
 fn put_shown(word: &[u8], out: &mut Vec<u8>) -> Result<(), AllocError>
     ensures { OnOk result (out.new.items ≡ out.old.items ++ map shown_byte word.now) }
 {
@@ -241,7 +241,7 @@ fn put_fault(fault: &Fault, out: &mut Vec<u8>) -> Result<(), AllocError>
     }
 }
 
-/// The line that tells of a fault: `vpgdesk: `, the fault, and a line feed.
+/// Returns the line that reports a fault: `vpgdesk: `, the fault, and a line feed.
 pub fn line_of(alloc: Global, fault: &Fault) -> Result<Vec<u8>, AllocError>
     ensures { IfOk result (λ line. line.items ≡ fault_line fault.now) }
 {

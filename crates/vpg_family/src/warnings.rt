@@ -1,10 +1,10 @@
-//! Warnings, and where they stand.
+//! Warnings, and their places.
 ghost use Rattle.std.specs.Prelude.{◌≡◌, All};
 ghost use Rattle.vpg_family.specs.Warned.{StandsWithin};
 
 use std::alloc::{AllocError, Global};
 
-/// What a warning is of.
+/// The subject of a warning.
 #[derive(Clone, Copy, PartialEq, Eq)]
 pub enum Sort {
     /// The diagram has no product.
@@ -35,9 +35,9 @@ pub enum Sort {
 #[derive(Clone, Copy)]
 pub struct Warning {
     pub sort: Sort,
-    /// The offset in the text where it stands.
+    /// The offset of its place in the text.
     pub at: usize,
-    /// The feature, the vertex, the state or the action that it is of, or the length of a word; 0 where it is of none.
+    /// The feature, the vertex, the state or the action of the warning, or the length of a word; 0 if it has none.
     pub index: u32,
 }
 
@@ -51,7 +51,7 @@ pub struct Warnings {
 }
 
 impl Warnings {
-    /// None yet, of a text of this length.
+    /// Returns no warnings yet, of a text of this length.
     pub fn new(alloc: Global, length: usize) -> Warnings
         ensures { result.length ≡ length }
     {
@@ -61,7 +61,7 @@ impl Warnings {
         }
     }
 
-    /// Adds one, which stands at an offset, or at the end of the text where the offset is greater.
+    /// Adds one, which stands at an offset, or at the end of the text if the offset is greater.
     pub(crate) fn warn(&mut self, sort: Sort, at: usize, index: u32) -> Result<(), AllocError>
         ensures { self.new.length ≡ self.old.length }
     {

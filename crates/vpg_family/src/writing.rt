@@ -1,4 +1,4 @@
-//! How warnings are written.
+//! The text of warnings.
 ghost use Rattle.std.specs.Prelude.{◌≡◌, ◌≤◌, length};
 ghost use Rattle.vpg_diagram.specs.FeatureDiagram.{feature_count};
 
@@ -15,7 +15,7 @@ use vpg_names::VertexNames;
 use vpg_places::place_of;
 use vpg_system::System;
 
-/// Of each sort so many are written with their places.
+/// The number of warnings of each sort that are written with their places.
 const MOST_TOLD: usize = 10;
 
 /// The sorts, in the order in which they are written.
@@ -33,7 +33,7 @@ const SORTS: [Sort; 11] = [
     Sort::NoAction,
 ];
 
-/// What those of a sort are.
+/// Returns the words for the warnings of a sort.
 fn called(sort: Sort) -> &'static [u8] {
     match sort {
         Sort::NoProduct => b"diagrams without a product",
@@ -61,7 +61,7 @@ fn put_feature(names: &Names, f: u32, what: &[u8], out: &mut Vec<u8>) -> Result<
     out.extend_from_slice(what)
 }
 
-/// Appends a name in quotes, where there is one.
+/// Appends a name in quotes, if there is one.
 fn put_name(name: &[u8], out: &mut Vec<u8>) -> Result<(), AllocError> {
     if name.is_empty() {
         return Ok(());
@@ -89,7 +89,7 @@ fn put_vertex(
     out.extend_from_slice(what)
 }
 
-/// Who loses at a vertex without moves.
+/// Returns the player who loses at a vertex without moves.
 fn loss_of(game: &GuardedGame, v: u32) -> &'static [u8] {
     if v as usize >= game.vertices() {
         return b"has no moves";
@@ -117,7 +117,7 @@ fn put_action(system: &System, action: u32, out: &mut Vec<u8>) -> Result<(), All
     out.extend_from_slice(b"` is named by no requirement")
 }
 
-/// The names of a system's actions.
+/// Returns the names of a system's actions.
 fn names_of_actions(alloc: Global, system: &System) -> Result<Vec<&[u8]>, AllocError> {
     let mut names = Vec::new(alloc);
     for action in 0..system.actions() {
@@ -126,7 +126,7 @@ fn names_of_actions(alloc: Global, system: &System) -> Result<Vec<&[u8]>, AllocE
     Ok(names)
 }
 
-/// The name that a word names: the word without its quotes, if it stands in quotes.
+/// Returns the name that a word spells: the word without its quotes, if it stands in quotes.
 fn unquoted(word: &[u8]) -> &[u8] {
     match word {
         [b'"', inside @ .., b'"'] => inside,
@@ -156,7 +156,7 @@ fn put_unknown(
     }
 }
 
-/// The word of this length at an offset of a text.
+/// Returns the word of this length at an offset of a text.
 fn word_at(text: &[u8], at: usize, len: u32) -> &[u8] {
     match text.get(at..at.saturating_add(len as usize)) {
         Some(word) => word,
@@ -178,14 +178,14 @@ struct Named<'f> {
     names: &'f VertexNames,
 }
 
-/// What warnings are about, beside the features of a diagram.
+/// The subjects of warnings, beside the features of a diagram.
 #[derive(Clone, Copy)]
 enum Guarded<'f> {
     Game(Named<'f>),
     System(&'f System),
 }
 
-/// What warnings are about: features, and the vertices of a game, or the states and actions of a system.
+/// The subjects of warnings: features, and the vertices of a game, or the states and actions of a system.
 #[derive(Clone, Copy)]
 struct About<'f> {
     alloc: Global,
@@ -193,7 +193,7 @@ struct About<'f> {
     guarded: Guarded<'f>,
 }
 
-/// Appends what a warning of a diagram says.
+/// Appends the message of a warning of a diagram.
 fn put_of_feature(features: &Names, warning: Warning, out: &mut Vec<u8>) -> Result<(), AllocError> {
     let index = warning.index;
     match warning.sort {
@@ -209,7 +209,7 @@ fn put_of_feature(features: &Names, warning: Warning, out: &mut Vec<u8>) -> Resu
     }
 }
 
-/// Appends what a warning of a game says.
+/// Appends the message of a warning of a game.
 fn put_of_vertex(named: Named<'_>, warning: Warning, out: &mut Vec<u8>) -> Result<(), AllocError> {
     let (game, names, index) = (named.game, named.names, warning.index);
     match warning.sort {
@@ -222,7 +222,7 @@ fn put_of_vertex(named: Named<'_>, warning: Warning, out: &mut Vec<u8>) -> Resul
     }
 }
 
-/// Appends what a warning of a system, or of requirements with this text, says.
+/// Appends the message of a warning of a system, or of requirements with this text.
 fn put_of_system(
     alloc: Global,
     system: &System,
@@ -240,7 +240,7 @@ fn put_of_system(
     }
 }
 
-/// Appends what a warning of a text says.
+/// Appends the message of a warning of a text.
 fn put_said(
     text: &[u8],
     about: &About<'_>,
@@ -324,14 +324,14 @@ fn put_warnings(
     Ok(())
 }
 
-/// Appends a line that counts so many warnings.
+/// Appends a line that counts the warnings.
 fn put_count(count: usize, out: &mut Vec<u8>) -> Result<(), AllocError> {
     out.extend_from_slice(b"warnings ")?;
     put_number(count, out)?;
     out.extend_from_slice(b"\n")
 }
 
-/// Appends the warnings of a diagram, in a file of this name, of which guards name these features. How many they are.
+/// Appends the warnings of a diagram, in a file of this name; guards name these features. Returns how many they are.
 fn put_of_diagram(
     file: File<'_>,
     diagram: &Diagram,
@@ -344,7 +344,7 @@ fn put_of_diagram(
     Ok(warnings.list.len())
 }
 
-/// Appends the warnings of a game, in a file of this name. How many they are.
+/// Appends the warnings of a game, in a file of this name. Returns how many they are.
 fn put_of_game(
     file: File<'_>,
     named: Named<'_>,
@@ -356,7 +356,7 @@ fn put_of_game(
     Ok(warnings.list.len())
 }
 
-/// Appends a line for each warning of a family that was read from these files, `FILE:LINE:COLUMN: warning: ..`, and
+/// Appends a line for each warning of a family that was read from these files, `FILE:LINE:COLUMN: warning: ..`, and a
 /// last one that counts them. Of each sort at most ten are written with their places, and then how many more there are.
 pub fn put_warned(
     alloc: Global,
@@ -382,7 +382,7 @@ pub fn put_warned(
     put_count(in_diagram.saturating_add(in_game), out)
 }
 
-/// Appends the warnings of a system and of its requirements, in files of these names. How many they are.
+/// Appends the warnings of a system and of its requirements, in files of these names. Returns how many they are.
 fn put_of_model(
     of_system: File<'_>,
     of_requirements: File<'_>,
@@ -412,8 +412,8 @@ fn put_of_model(
     )
 }
 
-/// The same of a diagram, a system over its features, and the requirements that it has to meet. Of the game that is
-/// made from them nothing is said.
+/// Appends the warnings of a diagram, a system over its features, and the requirements that it has to meet. The game
+/// that is made from them gets no warnings.
 pub fn put_warned_of_system(
     alloc: Global,
     of_diagram: File<'_>,

@@ -1,4 +1,4 @@
-//! What no clause says: which fault is told first, and that the texts are those of `docs/FORMATS.md`.
+//! Facts that no clause states: which fault is reported first, and that the texts are those of `docs/FORMATS.md`.
 
 mod asked;
 mod explained;

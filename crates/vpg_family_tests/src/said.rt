@@ -1,9 +1,9 @@
-//! A text that is written. What finds no memory is noted.
+//! A text that is written. If memory runs out this is noted.
 use std::alloc::{AllocError, Global};
 use std::fmt::Write;
 use vpg_family::{Fault, line_of};
 
-/// Whether a text ends in the line that tells of a fault.
+/// Whether a text ends in the line that reports a fault.
 fn ends_in_line_of(alloc: Global, fault: &Fault, text: &[u8]) -> bool {
     match line_of(alloc, fault) {
         Ok(line) => text.ends_with(&line),
@@ -11,15 +11,15 @@ fn ends_in_line_of(alloc: Global, fault: &Fault, text: &[u8]) -> bool {
     }
 }
 
-/// What was written so far.
+/// The text written so far.
 pub(crate) struct Said {
     pub(crate) alloc: Global,
     text: String,
-    /// Whether something found no memory.
+    /// Whether memory ran out.
     lacks: bool,
 }
 
-// Not derived, so that letting one go is one call.
+// Not derived: a derived `drop` would be proved again at each exit that owns such a value.
 impl Drop for Said {
     fn drop(self) {
         let Said {
@@ -31,7 +31,7 @@ impl Drop for Said {
 }
 
 impl Said {
-    /// Nothing yet.
+    /// Returns a text without words.
     pub(crate) fn new(alloc: Global) -> Said {
         Said {
             alloc,
@@ -40,7 +40,7 @@ impl Said {
         }
     }
 
-    /// Notes whether something was done that takes memory.
+    /// Notes whether a step that takes memory was done.
     pub(crate) fn note(&mut self, done: bool) {
         self.lacks |= !done;
     }
@@ -68,7 +68,7 @@ impl Said {
         }
     }
 
-    /// Writes what a task on a family gives, or the line that tells of its fault.
+    /// Writes the result of a task on a family, or the line that reports its fault.
     pub(crate) fn put_answer(&mut self, answer: Result<Vec<u8>, Fault>) {
         match answer {
             Ok(text) => self.put_text(&text),
@@ -76,7 +76,7 @@ impl Said {
         }
     }
 
-    /// Writes a fault as it shows itself, in the line that tells of it.
+    /// Writes a fault by its `Display`, in the line that reports it.
     fn put_fault(&mut self, fault: &Fault) {
         self.lacks |= write!(self.text, "vpgdesk: {fault}\n").is_err();
         if !ends_in_line_of(self.alloc, fault, self.text.as_bytes()) {
@@ -84,7 +84,7 @@ impl Said {
         }
     }
 
-    /// What was written, where nothing found no memory.
+    /// Returns the written text, if memory did not run out.
     pub(crate) fn text(&self) -> &str {
         if self.lacks {
             "no memory"

@@ -1,4 +1,4 @@
-//! Lines that are typed: what is handed on as a script, and what is said beside the answers.
+//! Lines that are typed: the lines handed on as a script, and the text beside the answers.
 ghost use Rattle.std.specs.Prelude.{◌≡◌, ◌≤◌, length, IfSome};
 
 use std::alloc::Global;
@@ -8,8 +8,8 @@ use vpg_family::Family;
 use vpg_script::{Device, Sink, Source};
 use vpg_terminal::{Ear, Heard, Setting, Typed};
 
-/// What is typed where the game starts at 7, the answers to the lines that are handed on, these lines, and what is
-/// said.
+/// The typed text if the game starts at 7, the answers to the lines that are handed on, these lines, and the text
+/// beside the answers.
 struct Typing {
     typed: &'static str,
     answers: &'static [&'static str],
@@ -65,7 +65,7 @@ static TYPINGS: [Typing; 10] = [
         handed: "exclude f\nwhy -f\n2: select g\nwhy +g\nselect f\n",
         said: "> > > > ",
     },
-    // The start is shown behind each settling, and where it is hopeless it is said why.
+    // The start is shown after each settling, and if it is hopeless the session says why.
     Typing {
         typed: "settle\nsettle 3\nshow 7\n",
         answers: &[
@@ -101,7 +101,7 @@ static TYPINGS: [Typing; 10] = [
     },
 ];
 
-/// What stands in for the list of commands.
+/// A stand-in for the list of commands.
 const COMMANDS: &str =
     "select F, exclude F      decides\n  undo     takes back\n           a change";
 
@@ -117,7 +117,7 @@ fn answer<W: Sink>(answers: &[&str], lines: usize, writer: &mut W) -> Option<()>
     }
 }
 
-/// How often a row's lines are read at most.
+/// The most reads of a row's lines.
 const MOST_READS: u32 = 1_000;
 
 /// A source, and how often it was read.
@@ -135,7 +135,7 @@ impl<R: Source + Drop> Counted<R> {
         Counted { source, reads: 0 }
     }
 
-    /// Reads into the buffer, where that does not fail and is not once too often.
+    /// Reads into the buffer, if that does not fail and is not once too often.
     fn fill(&mut self, buf: &mut [u8]) -> Option<usize>
         ensures bound { IfSome result (λ n. n ≤ length buf.new) }
         ensures len { length buf.new ≡ length buf.old }
@@ -152,7 +152,7 @@ impl<R: Source + Drop> Counted<R> {
     }
 }
 
-/// Hands on what is typed, with so many bytes a read, and answers each line. `None` where that does not end.
+/// Hands on the typed text, with this many bytes a read, and answers each line. `None` if that does not end.
 fn hand_on<R: Source + Drop, W: Sink>(
     answers: &[&str],
     most: usize,
@@ -176,7 +176,7 @@ fn hand_on<R: Source + Drop, W: Sink>(
     None
 }
 
-/// Whether a row is handed on so, with so many bytes a read, and this is said.
+/// Whether a row is handed on so, with this many bytes a read, and this is the text beside the answers.
 fn holds(alloc: Global, family: &Family, row: &Typing, most: usize) -> bool {
     let heard = Cell::new(Heard::Nothing);
     let setting = Setting {
@@ -198,7 +198,7 @@ fn holds(alloc: Global, family: &Family, row: &Typing, most: usize) -> bool {
         && said.as_slice() == row.said.as_bytes()
 }
 
-/// What is typed in the first row that does not hold, with a byte or with 64 a read.
+/// Returns the typed text of the first row that does not hold, with a byte or with 64 a read.
 fn first_of_family(alloc: Global, family: &Family) -> Option<&'static str> {
     for row in &TYPINGS {
         if !holds(alloc, family, row, 1) || !holds(alloc, family, row, 64) {

@@ -1,4 +1,4 @@
-//! What the words of the command line ask for.
+//! The tasks that the words of the command line ask for.
 use crate::said::Said;
 use clap::Error;
 use clap::error::ErrorKind;
@@ -7,10 +7,10 @@ use std::test::*;
 use vpg_family::{GamePaths, Subject};
 use vpg_terminal::{Asked, Picture, Task, not_text, read};
 
-/// Words behind the program's name, with one blank between them, and behind ` = ` how they are taken.
+/// Words after the program's name, with one blank between them, and after ` = ` the task that they ask for.
 ///
-/// A task is its command, its files, and behind commas its number of lifters or its features, and its options. What is
-/// `shown` ends with status 0, and what is `wrong` with status 2.
+/// A task is its command, its files, and after commas its number of lifters or its features, and its options. `shown`
+/// ends with status 0, and `wrong` with status 2.
 const CALLS: &str = "\
 run g d s = run g d s, 1
  = built-in
@@ -140,7 +140,7 @@ fn add(word: &str, line: &mut Vec<String>, said: &mut Said) {
     }
 }
 
-/// Adds the words behind the program's name.
+/// Adds the words after the program's name.
 fn add_all(words: &str, line: &mut Vec<String>, said: &mut Said) {
     if !words.is_empty() {
         for word in words.split(' ') {
@@ -149,7 +149,7 @@ fn add_all(words: &str, line: &mut Vec<String>, said: &mut Said) {
     }
 }
 
-/// The command of a task.
+/// Returns the command of a task.
 fn command_of(task: &Task<'_>) -> &'static str {
     match task {
         Task::BuiltIn => "built-in",
@@ -197,7 +197,7 @@ fn put_paths(task: &Task<'_>, said: &mut Said) {
     }
 }
 
-/// Writes a word behind a comma, where that is so.
+/// Writes a word after a comma, if this holds.
 fn put_where(holds: bool, word: &str, said: &mut Said) {
     if holds {
         said.put(", ");
@@ -218,7 +218,7 @@ fn put_features(features: &[&str], said: &mut Said) {
     }
 }
 
-/// Writes what is drawn, where it is not the game.
+/// Writes the subject of a picture, if it is not the game.
 fn put_picture(picture: Picture, said: &mut Said) {
     put_where(
         picture == Picture::Family(Subject::Features),
@@ -228,7 +228,7 @@ fn put_picture(picture: Picture, said: &mut Said) {
     put_where(picture == Picture::System, "states", said);
 }
 
-/// Writes what a task says beside its files.
+/// Writes the words of a task beside its files.
 fn put_options(task: &Task<'_>, said: &mut Said) {
     match task {
         Task::Run {
@@ -253,7 +253,7 @@ fn put_options(task: &Task<'_>, said: &mut Said) {
     }
 }
 
-/// Writes what words ask for.
+/// Writes the task that words ask for.
 fn put_asked(asked: &Asked<'_>, said: &mut Said) {
     said.put(command_of(&asked.task));
     put_paths(&asked.task, said);
@@ -261,7 +261,7 @@ fn put_asked(asked: &Asked<'_>, said: &mut Said) {
     put_where(asked.explains, "explained", said);
 }
 
-/// Writes what is told of words that ask for no task, behind a line on where it is told.
+/// Writes the message about words that ask for no task, after a line on where it is written.
 fn put_told(told: &Error, said: &mut Said) {
     said.note(told.kind() != ErrorKind::OutOfMemory);
     said.put(if told.use_stderr() {
@@ -275,7 +275,7 @@ fn put_told(told: &Error, said: &mut Said) {
     }
 }
 
-/// Writes how words are taken.
+/// Writes the task of words.
 fn put_taken(words: &[String], said: &mut Said) {
     match read(said.alloc, words) {
         Ok(asked) => put_asked(&asked, said),
@@ -283,7 +283,7 @@ fn put_taken(words: &[String], said: &mut Said) {
     }
 }
 
-/// How words are taken.
+/// Returns the task of words.
 fn taken(alloc: Global, words: &str) -> Said {
     let mut said = Said::new(alloc);
     let mut line = Vec::new(alloc);
@@ -303,12 +303,12 @@ fn is_narrow(text: &str) -> bool {
     !text.is_empty()
 }
 
-/// A text's first line, and what stands behind it.
+/// Returns a text's first line, and the text after it.
 fn first_line(text: &str) -> (&str, &str) {
     text.split_once('\n').unwrap_or((text, ""))
 }
 
-/// Whether words are taken as their row says, and what is shown is no wider than a terminal.
+/// Whether words are taken as their row says, and the shown text is no wider than a terminal.
 fn holds(alloc: Global, row: &str) -> bool {
     let (words, wanted) = row.split_once(" = ").unwrap_or((row, ""));
     let taken = taken(alloc, words);
@@ -316,7 +316,7 @@ fn holds(alloc: Global, row: &str) -> bool {
     how == wanted && (wanted != "shown" || is_narrow(text))
 }
 
-/// The first row that does not hold.
+/// Returns the first row that does not hold.
 fn first_wrong(alloc: Global) -> Option<&'static str> {
     for row in CALLS.lines() {
         if !holds(alloc, row) {
@@ -332,7 +332,7 @@ fn words_are_taken(rt: HostRuntime) -> Result<(), Fail> {
     Ok(())
 }
 
-/// What is told of words that are not text.
+/// Returns the message about words that are not text.
 fn told_of_no_text(alloc: Global) -> Said {
     let mut said = Said::new(alloc);
     match not_text(alloc) {
@@ -342,7 +342,7 @@ fn told_of_no_text(alloc: Global) -> Said {
     said
 }
 
-/// What is told of a word too many.
+/// The message about a word too many.
 const TOO_MANY: &str = "\
 wrong
 error: unexpected argument 'x' found
@@ -353,7 +353,7 @@ Usage: vpgdesk check [OPTIONS] <GAME> <DIAGRAM>
 For more information, try '--help'.
 ";
 
-/// Whether the version, help and words that are not text are told so.
+/// Whether the version, help and words that are not text get these messages.
 fn are_told(version: &str, help: &str, no_text: &str) -> bool {
     version == "shown\nvpgdesk 0.1.0\n"
         && help.contains("Usage: vpgdesk [COMMAND]")
@@ -362,7 +362,7 @@ fn are_told(version: &str, help: &str, no_text: &str) -> bool {
         && no_text.starts_with("wrong\nerror: a word is not text in UTF-8\n")
 }
 
-/// The texts of help, of the version and of words that are not UTF-8.
+/// The texts of help, of the version and of words that are not UTF-8 are these.
 #[test]
 fn told_texts(rt: HostRuntime) -> Result<(), Fail> {
     let version = taken(rt.alloc(), "--version");

@@ -16,7 +16,7 @@ pub enum OpenFault {
     Memory,
 }
 
-/// Why a feature isn't decided. `Memory` comes last, and only where a growth was refused.
+/// Why a feature isn't decided. `Memory` comes last, and only if a growth was refused.
 #[derive(Clone, Copy, Debug, PartialEq, Eq, Error)]
 pub enum DecideFault {
     /// The diagram has no such feature.
@@ -35,7 +35,7 @@ pub enum DecideFault {
     Memory,
 }
 
-/// Why a decision isn't retracted. `Memory` comes last, and only where a growth was refused.
+/// Why a decision isn't retracted. `Memory` comes last, and only if a growth was refused.
 #[derive(Clone, Copy, Debug, PartialEq, Eq, Error)]
 pub enum RetractFault {
     /// The diagram has no such feature.
@@ -51,7 +51,7 @@ pub enum RetractFault {
     Memory,
 }
 
-/// Why a change isn't undone. `Memory` comes last, and only where a growth was refused.
+/// Why a change isn't undone. `Memory` comes last, and only if a growth was refused.
 #[derive(Clone, Copy, Debug, PartialEq, Eq, Error)]
 pub enum UndoFault {
     /// The past has no page of this serial.
@@ -64,7 +64,7 @@ pub enum UndoFault {
     Memory,
 }
 
-/// Why a change isn't redone. `Memory` comes last, and only where a growth was refused.
+/// Why a change isn't redone. `Memory` comes last, and only if a growth was refused.
 #[derive(Clone, Copy, Debug, PartialEq, Eq, Error)]
 pub enum RedoFault {
     /// The future has no page of this serial.
@@ -77,7 +77,7 @@ pub enum RedoFault {
     Memory,
 }
 
-/// Why a harvest isn't committed. `Memory` comes last, and only where a growth was refused.
+/// Why a harvest isn't committed. `Memory` comes last, and only if a growth was refused.
 #[derive(Clone, Copy, Debug, PartialEq, Eq, Error)]
 pub enum CommitFault {
     /// The order's game or diagram isn't the desk's.

@@ -1,4 +1,4 @@
--- Beginnings of histories: the laws that sheets ask of them. This project's own.
+-- Beginnings of histories: the laws that sheets require of them. This project's own.
 use Rattle.std.specs.Prelude.{◌≡◌, ℕ, ◌≤◌, Bool, List, [], ◌++◌, length, refl}
 use Rattle.std.proofs.Common.{sym, ap, ◌∙◌, append-nil, append_assoc, length-append, arith}
 use mathlib.Core.List.{IsPrefix}

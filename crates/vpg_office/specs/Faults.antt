@@ -14,7 +14,7 @@ use Rattle.vpg_office.specs.Story.{IsOf}
 use Rattle.vpg_office.specs.declared.fault.Fault.{Fault}
 use Rattle.vpg_office.specs.declared.fault.Fault.TheVariants.{LogFull, Doubled, Refused as DeskRefuses, Memory}
 
--- what a call tells that isn't made, of the log
+-- the log and the session's front if a call is stopped before the desk
 abbrev pub Stops : {L F : Type 0} → ℕ → List Event → ℕ → List Event → Fault L F → Type 0
 Stops limit front session log (LogFull f) = (f ≡ log) × (limit ≤ length log) × (length log ≤ limit)
 Stops limit front session log (Doubled f) =
@@ -22,8 +22,8 @@ Stops limit front session log (Doubled f) =
 Stops limit front session log (DeskRefuses fault) = ⊥
 Stops limit front session log Memory = ⊤
 
--- A call with this front lent gives nothing, and leaves this one. The desk's own refusal is logged. Else the front
--- stays: the log is full, or it has room and a further call of this session, or it is out of memory.
+-- A call with this front returns a fault and leaves the new front. The desk's own refusal is logged. Else the front
+-- stays: the log is full, or it has room and a further call of this session, or memory ran out.
 abbrev pub Tells : {L F : Type 0} → Family → ℕ → (F → Option Refusal) → Call → ℕ → List Event → List Event → Fault L F →
     Type 0
 Tells family limit refusal call session front new (LogFull f) =
@@ -34,16 +34,16 @@ Tells family limit refusal call session front new (DeskRefuses fault) =
     (r : Refusal) × ((refusal fault ≡ Some r) × Extends family front session call (Refused r) new)
 Tells family limit refusal call session front new Memory = new ≡ front
 
--- a refusal of the desk's leaves a front that begins with the token's
+-- after a refusal of the desk, the new front begins with the token's
 abbrev pub Begins : {L F : Type 0} → List Event → List Event → Fault L F → Type 0
 Begins history new (DeskRefuses fault) = IsPrefix history new
 Begins history new _ = ⊤
 
--- the refusal that a fault stands for, of a call that the desk never refuses: none
+-- none: the desk never refuses such a call
 abbrev pub never_refused : {F : Type 0} → F → Option Refusal
 never_refused fault = None
 
--- The same of a commit: the desk's own refusal says whether the harvest is of the office's game and diagram.
+-- As `Tells`, for a commit: the desk's own refusal says whether the harvest is of the office's game and diagram.
 abbrev pub CommitTells : {L : Type 0} → NamedGame → NamedDiagram → ℕ → HarvestView → ℕ → List Event → List Event →
     Fault L CommitFault → Type 0
 CommitTells game diagram limit harvest session front new (LogFull f) =

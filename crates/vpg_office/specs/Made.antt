@@ -1,4 +1,4 @@
--- What a session's call means for the desk and for the log.
+-- How a session's call changes the desk and the log.
 use Rattle.std.specs.Prelude.{◌≡◌, ℕ, List, [], ◌∷◌, ◌++◌, length, drop, Option, Some}
 use Rattle.vpg_diagram.specs.DiagramText.{NamedDiagram}
 use Rattle.vpg_game.specs.Game.{NamedGame, graph_of}
@@ -37,7 +37,7 @@ pub record IsRefused (game : NamedGame) (diagram : NamedDiagram) (refusal : Opti
   pub hands : HandsIn (IsLawful (family_between game diagram)) (call_of asked (Answered cause))
   pub named : IsNamed game diagram asked (Answered cause)
 
--- the log goes on with the call, and has no other one of the session since the front
+-- the log goes on with the call, the session's only one since the front
 pub record IsEntered (game : NamedGame) (diagram : NamedDiagram) (log front : List Event) (session : ℕ) (asked : Asked)
     (answer : Answer) (new : List Event) : Type 0 where
   pub is : new ≡ log ++ event session (call_of asked answer)
@@ -46,7 +46,7 @@ pub record IsEntered (game : NamedGame) (diagram : NamedDiagram) (log front : Li
   pub none : calls_by session (drop (length front) log) ≡ 0
   pub history : IsHistory (family_between game diagram) new
 
--- The call gives nothing: the log goes on with the desk's refusal, or stays.
+-- The call fails: the log goes on with the desk's refusal, or stays.
 abbrev pub Leaves : {L F : Type 0} → NamedGame → NamedDiagram → ℕ → (F → Option Refusal) → List Event → List Event → ℕ →
     Asked → List Event → Fault L F → Type 0
 Leaves game diagram limit refusal log front session asked new (DeskRefuses fault) =
@@ -64,7 +64,7 @@ Leaves {L} {F} game diagram limit refusal log front session asked new Memory =
     (new ≡ front) ×
     (IsHistory (family_between game diagram) log × Stops {L = L} {F = F} limit front session log Memory)
 
--- a page of the book's present entries, with what its decisions make of the game
+-- a page of the book's present entries, with the games that its decisions leave
 pub record IsPage (game : NamedGame) (diagram : NamedDiagram) (book : Book) (entries : List Entry)
     (decisions : List Decision) (hopeful dual : List ℕ) (games : GamesView) : Type 0 where
   pub present : entries ≡ book.present

@@ -1,4 +1,4 @@
--- What is published of an office's log. This project's own.
+-- The sheets that an office publishes of its log. This project's own.
 use Rattle.std.specs.Prelude.{◌≡◌, ℕ, Bool, List, length}
 use mathlib.Core.Option.{some}
 use lib.ListN.{get_elem?}
@@ -13,19 +13,19 @@ use Rattle.vpg_desk.specs.Setting.{Setting}
 use Rattle.vpg_desk.specs.State.{setting_between}
 use Rattle.vpg_office.specs.Fronts.{IsHistory, family_between}
 
--- each is what the book replies of its vertex
+-- each is the book's reply about its vertex
 abbrev pub AreSaid : Family → Book → List Said → Type 0
 AreSaid family book verdicts =
     (v : ℕ) (said : Said) → get_elem? verdicts v ≡ some said →
     IsReply family book (Verdict v) (VerdictIs said.hopeless said.sure)
 
--- each says who wins from its vertex in every product that is left on the page
+-- each says who wins from its vertex in every product left on the page
 abbrev pub EachMeans : Setting → List Entry → List Said → Type 0
 EachMeans setting page verdicts =
     (v : ℕ) (said : Said) → get_elem? verdicts v ≡ some said → VerdictMeans setting page v said.hopeless said.sure
 
--- A sheet of a history has its number of calls, and what the book replies at its end: whether the page is settled, and
--- the verdict of each vertex, which says who wins from it.
+-- A sheet of a history has its number of calls, and the book's replies at its end: whether the page is settled, and
+-- each vertex's verdict. The verdict says who wins from the vertex.
 pub record IsSheetOf (game : NamedGame) (diagram : NamedDiagram) (events : List Event) (at : ℕ) (settled : Bool)
     (verdicts : List Said) : Type 0 where
   pub history : IsHistory (family_between game diagram) events

@@ -16,13 +16,13 @@ pub record EndsWith (gives : Reply → Type 0) (history : List Event) : Type 0 w
   pub is : history ≡ before ++ own ∷ []
   pub gave : gives own.reply
 
--- what an office stands on: the name of its row, and its ledger's name and parts
+-- the base of an office: the name of its row, and its ledger's name and parts
 pub record Named : Type 0 where
   pub row : Shelves
   pub name : ℕ
   pub parts : ℕ
 
--- the numbers from 1 to this one, added up: the parts of the ledger that so many sessions have
+-- the sum of the numbers from 1 to this one: the parts of the ledger that this many sessions have
 abbrev pub up_to : ℕ → ℕ
 up_to zero = 0
 up_to (suc n) = suc n + up_to n

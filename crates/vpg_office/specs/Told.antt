@@ -1,4 +1,4 @@
--- What was told of a desk's page, and what keeps it so. This project's own.
+-- Verdicts of a desk's page, and the calls that keep them. This project's own.
 use Rattle.std.specs.Prelude.{◌≡◌, nat_le, Bool, true, false, List, length}
 use Rattle.vpg_verdict.specs.declared.verdict.Verdict.{Verdict as Said}
 use Rattle.vpg_trail.specs.Page.{Entry, Decided, Lifted}
@@ -14,7 +14,7 @@ pub record AreVerdictsOf (desk : DeskState) (verdicts : List Said) : Type 0 wher
   pub size : length verdicts ≡ length desk.game.vertices
   pub each : AreSaid (family_of (setting_of desk)) desk.book verdicts
 
--- for what is asked a desk puts entries behind its page, or none
+-- the desk only appends entries to its page for this call, or leaves it
 abbrev pub only_appends : Asked → Bool
 only_appends (Retract f) = false
 only_appends (Undo serial) = false

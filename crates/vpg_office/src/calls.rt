@@ -1,4 +1,4 @@
-//! What a session's call does at the desk.
+//! How a session's call is carried out at the desk.
 ghost use Rattle.std.specs.Prelude.{◌≡◌, ◌+◌, ◌≤◌, Some, IfSome};
 
 use crate::asked::{Answer, Cause};
@@ -7,7 +7,7 @@ use crate::terms::Terms;
 use std::sync::ledger::Share;
 use vpg_desk::Desk;
 
-/// What the desk gives for a call, and its answer.
+/// The desk's result of a call, and its answer.
 pub struct Made<T> {
     pub(crate) given: T,
     pub(crate) answer: Answer,
@@ -41,16 +41,16 @@ pub trait Call<L: Terms> {
     ghost use Rattle.vpg_office.specs.declared.asked.Answer.{Answer};
     ghost use Rattle.vpg_office.specs.declared.asked.Asked.{Asked};
 
-    /// What it gives.
+    /// The result of the call.
     type Given;
 
     /// Why the desk refuses it.
     type Refused: Drop;
 
-    /// What it asks.
+    /// The call to the desk.
     ghost asks: { Self → Asked };
 
-    /// The answer where it gives this.
+    /// The answer with this result.
     ghost answers: { Self.Given → Answer };
 
     /// The refusal of the book that a fault stands for.
@@ -59,10 +59,10 @@ pub trait Call<L: Terms> {
     /// When it may be made.
     ghost Takes: { Self → Type 0 };
 
-    /// What is known of what it gives, by the book before.
+    /// The facts about its result, by the book before.
     ghost Gives: { Self → Book → Self.Given → Type 0 };
 
-    /// Carries the call out. Where it isn't made, desk and purse stay, and it comes back.
+    /// Carries the call out. If it isn't made, desk and purse stay, and it comes back.
     fn carry_out(
         self,
         desk: &mut Desk,
@@ -85,7 +85,7 @@ pub trait Call<L: Terms> {
         ensures back { IfErr result (λ u. u.call ≡ self) };
 }
 
-/// The desk's refusal, where there is a cause; else the desk was out of memory.
+/// Returns the desk's refusal if there is a cause. Without one the desk was out of memory.
 pub(crate) fn reason<F: Drop>(cause: Option<Cause>, fault: F) -> Option<Because<F>>
     ensures some { IfSome result (λ w. (cause ≡ Some w.cause) × (w.fault ≡ fault)) }
 {
@@ -95,7 +95,7 @@ pub(crate) fn reason<F: Drop>(cause: Option<Cause>, fault: F) -> Option<Because<
     }
 }
 
-/// What a call is answered that gives a token for a change.
+/// Returns the result of a call that gives a token for a change.
 pub(crate) fn issue_token<L: Terms>(
     purse: &mut Purse<L>,
     token: vpg_desk::Undo,

@@ -10,7 +10,7 @@ use crate::terms::Terms;
 use std::alloc::Global;
 use vpg_desk::{DecideFault, Desk, RetractFault};
 
-/// Why the desk refuses to decide, where it isn't out of memory.
+/// Returns why the desk refuses to decide, or none if it is out of memory.
 fn decide_cause(fault: DecideFault) -> Option<Cause>
     ensures { option_map refusal_of result ≡ decide_refusal fault }
 {
@@ -23,7 +23,7 @@ fn decide_cause(fault: DecideFault) -> Option<Cause>
     }
 }
 
-/// Why the desk refuses to retract, where it isn't out of memory.
+/// Returns why the desk refuses to retract, or none if it is out of memory.
 fn retract_cause(fault: RetractFault) -> Option<Cause>
     ensures { option_map refusal_of result ≡ retract_refusal fault }
 {
@@ -79,7 +79,7 @@ impl<L: Terms> Call<L> for DecideCall {
     }
 }
 
-/// Takes the decision on a feature back.
+/// Retracts the decision on a feature.
 #[derive(Drop)]
 pub struct RetractCall {
     pub(crate) alloc: Global,

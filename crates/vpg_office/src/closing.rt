@@ -1,4 +1,4 @@
-//! How the log of an office ends.
+//! The end of an office's log.
 ghost use Rattle.std.specs.Prelude.{◌≡◌, ◌+◌, ℕ};
 ghost use Rattle.vpg_desk.specs.Book as book;
 ghost use Rattle.vpg_desk.specs.Book.{opened};
@@ -53,7 +53,7 @@ pub(crate) fn forget_one<L: Terms>(desk: &mut Desk, purse: &mut Purse<L>, redo: 
 }
 
 impl<L: Terms> Log<L> {
-    /// How many tokens are out.
+    /// Returns the number of tokens that are out.
     pub(crate) fn tokens(&self) -> u64
         ensures { result ≡ (book_after (family_between L.game L.diagram) opened self.now).tokens }
     {
@@ -78,7 +78,7 @@ impl<L: Terms> Log<L> {
     }
 }
 
-/// Closes the press, and lets the rest go, here alone.
+/// Closes the press, and drops the rest, here alone.
 fn let_go<L: Terms, R: Wait>(rt: &R, _row: Row, _calls: Calls<L>, press: Press<Front<L>>) {
     press.close(rt);
 }

@@ -1,4 +1,4 @@
-//! Committing what lifters bring back.
+//! Commits of lifters' harvests.
 ghost use Rattle.std.specs.Prelude.{◌≡◌, ℕ, Bool, true, IfOk, IfErr, OnOk, OnErr, IfSome, option_map};
 ghost use Rattle.std.specs.Bool.{Decides};
 ghost use Rattle.vpg_desk.specs.Book as book;
@@ -15,7 +15,7 @@ use std::snapshot::Snapshot;
 use vpg_desk::{CommitFault, CommitRefused, Desk};
 use vpg_measure::Harvest;
 
-/// Why the desk refuses to commit, where it isn't out of memory.
+/// Returns why the desk refuses to commit, or none if it is out of memory.
 fn commit_cause(fault: CommitFault) -> Option<Cause>
     ensures { option_map refusal_of result ≡ commit_refusal fault }
 {
@@ -52,7 +52,7 @@ fn hand_in(
     desk.commit(alloc, harvest)
 }
 
-/// Hands a harvest in; `own` where it is known to be of the desk's game and diagram.
+/// Commits a harvest; `own` if it is known to be of the desk's game and diagram.
 #[derive(Drop)]
 pub struct CommitCall {
     pub(crate) alloc: Global,

@@ -1,4 +1,4 @@
-//! What is left of an office that has ended: its ledger, which takes tokens that come late.
+//! The rest of an office that has ended: its ledger, which takes tokens that come late.
 ghost use Rattle.std.specs.Prelude.{◌≡◌, ◌+◌, length};
 
 use crate::closing::{forget_one, keep_one};
@@ -9,14 +9,14 @@ use crate::undo_token::Undo;
 use std::marker::Model;
 use vpg_desk::Desk;
 
-/// What is left of an office that has ended. Contracts see how many of its tokens are still out: each that comes back
-/// is one less, so where none is out nobody has one.
+/// The rest of an office that has ended. Contracts see how many of its tokens are still out. Each that comes back is
+/// one less, so if none is out nobody has one.
 pub struct Ended<L: Terms> {
     pub(crate) desk: Desk,
     pub(crate) purse: Purse<L>,
 }
 
-// Not derived, so that letting one go is one call: a derived way would be proved anew at each exit that owns one.
+// Not derived: a derived `drop` would be proved again at each exit that owns such a value.
 impl<L: Terms> Drop for Ended<L> {
     fn drop(self) {
         let Ended { desk: _, purse: _ } = self;
@@ -36,7 +36,7 @@ impl<L: Terms> Model for Ended<L> {
 }
 
 impl<L: Terms> Ended<L> {
-    /// How many tokens are out.
+    /// Returns the number of tokens that are out.
     pub fn further(&self) -> u64
         ensures { result ≡ self.now }
     {
@@ -80,7 +80,7 @@ impl<L: Terms> Ended<L> {
     }
 }
 
-/// Where no token of an office is out, nobody has an undo of it.
+/// If no token of an office is out, nobody has an undo of it.
 pub fn no_undo_is_out<L: Terms>(ended: Ended<L>, token: Undo<L>)
     requires { ended ≡ 0 }
     ensures { ⊥ }
@@ -89,7 +89,7 @@ pub fn no_undo_is_out<L: Terms>(ended: Ended<L>, token: Undo<L>)
     ended.keep(token);
 }
 
-/// Where no token of an office is out, nobody has a redo of it.
+/// If no token of an office is out, nobody has a redo of it.
 pub fn no_redo_is_out<L: Terms>(ended: Ended<L>, token: Redo<L>)
     requires { ended ≡ 0 }
     ensures { ⊥ }

@@ -1,4 +1,4 @@
-//! Why calls of sessions are not made, and what comes back.
+//! Why calls of sessions are not made, and the values that come back.
 ghost use Rattle.std.specs.Prelude.{◌≡◌};
 
 use crate::front::Front;
@@ -8,14 +8,14 @@ use std::fmt;
 use thiserror::Error;
 use vpg_desk::{CommitFault, DecideFault, RedoFault, RetractFault, UndoFault};
 
-/// Why a session's call gives nothing. `Refused` is the desk's own refusal, which is logged; the others are not.
+/// Why a session's call fails. `Refused` is the desk's own refusal, which is logged; the others are not.
 #[derive(Drop, Error)]
 #[error_bound(F: fmt::Display)]
 pub enum Fault<L: Terms, F> {
-    /// The log has as many calls as it takes.
+    /// The log is full.
     #[error("LogFull")]
     LogFull { front: Front<L> },
-    /// The log since the front lent has a call of this session.
+    /// The log has a call of this session since its front.
     #[error("Doubled")]
     Doubled { front: Front<L> },
     #[error("{fault}")]
@@ -37,7 +37,7 @@ pub enum NotWatched {
     /// There are 64 watches.
     #[error("NoPlace")]
     NoPlace,
-    /// The sheet of the log finds no memory.
+    /// There is no memory for the log's sheet.
     #[error("Memory")]
     Memory,
 }
@@ -45,14 +45,14 @@ pub enum NotWatched {
 /// The refusal of a call that the desk never refuses: there is none.
 pub type Never = Infallible;
 
-/// What a call took by value comes back beside the fault.
+/// A fault, with the value that the call took.
 pub struct Returned<L: Terms, F, T> {
     pub fault: Fault<L, F>,
     pub value: T,
 }
 
 impl<L: Terms, F, T: Drop> Returned<L, F, T> {
-    /// The fault alone.
+    /// Returns the fault alone.
     pub(crate) fn into_fault(self) -> Fault<L, F>
         ensures { result ≡ self.fault }
     {

@@ -23,7 +23,7 @@ pub struct Front<L: Terms> {
     pub(crate) of: PhantomData<L>,
 }
 
-// Not derived, so that letting a front go is one call: a derived way would be proved anew at each exit that owns one.
+// Not derived: a derived `drop` would be proved again at each exit that owns such a value.
 impl<L: Terms> Drop for Front<L> {
     fn drop(self) {
         let Front {
@@ -82,7 +82,7 @@ impl<L: Terms> Follows for Front<L> {
 }
 
 impl<L: Terms> Front<L> {
-    /// The front that has seen nothing.
+    /// Returns the front that has seen nothing.
     pub fn empty() -> Front<L>
         requires { IsOpened L.game L.diagram }
         ensures { result ≡ [] }
@@ -94,7 +94,7 @@ impl<L: Terms> Front<L> {
         }
     }
 
-    /// The front that ends at a place.
+    /// Returns the front that ends at a place.
     pub(crate) fn at(place: &Place, answer: Answer, count: usize) -> Front<L>
         requires row { Shows L.shelves place.now }
         requires count { count ≡ length (story place.now.value answer) }
@@ -109,17 +109,17 @@ impl<L: Terms> Front<L> {
         }
     }
 
-    /// How many calls it has: at most as many as the log takes.
+    /// Returns the number of its calls, which is at most the log's room.
     pub fn len(&self) -> usize
         ensures length { result ≡ length self.now }
         ensures fits { result ≤ L.limit }
-        // It is a legal history of the desk, into which lawful harvests alone were handed.
+        // It is a legal history of the desk, with lawful harvests only.
         ensures history { IsHistory (family_between L.game L.diagram) self.now }
     {
         self.count
     }
 
-    /// The same front once more.
+    /// Returns a copy of the front.
     pub fn copy(&self) -> Front<L>
         ensures same { result ≡ self.now }
         ensures history { IsHistory (family_between L.game L.diagram) self.now }
@@ -136,8 +136,8 @@ impl<L: Terms> Front<L> {
         }
     }
 
-    /// What holds of every legal history holds of it: undo and redo restore pages, each page's tables are below every
-    /// progress table, settled ones are the least, hopeless and sure mean what they say.
+    /// The laws of every legal history hold of it. Undo and redo restore pages, each page's tables are below every
+    /// progress table, settled ones are the least, and hopeless and sure mean what they say.
     pub fn headline(&self)
         ensures { Headline (setting_between L.game L.diagram) self.now }
     {
@@ -145,14 +145,14 @@ impl<L: Terms> Front<L> {
     }
 }
 
-/// A further front that the log has to have: a token's, or one that is met. With a serial the log's last call that gave
-/// a token of it has to be at the end of the front.
+/// A further front that the log has to have: a token's, or one to meet. With a serial, the front has to end with the
+/// log's last call that gave a token of it.
 pub struct Own<L: Terms> {
     pub(crate) front: Front<L>,
     pub(crate) serial: Option<u64>,
 }
 
-// Not derived, so that letting it go is one call.
+// Not derived: a derived `drop` would be proved again at each exit that owns such a value.
 impl<L: Terms> Drop for Own<L> {
     fn drop(self) {
         let Own {

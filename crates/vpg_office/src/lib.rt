@@ -1,12 +1,12 @@
-//! Offices: one desk that several sessions share, each call of theirs one event under a lock.
+//! Offices: one desk that several sessions share, each of their calls one event under a lock.
 //!
 //! A session lends a front to each call: a beginning of the log, which contracts see as a legal history of the desk
 //! (`vpg_desk`). The front grows to end with the call. Tokens carry the place of the call that gave them. `with_office`
 //! opens an office for a caller's work; `close` and `end` end it. Each change of the page publishes a sheet, which
 //! watches (`Office::watch`) read without the lock (`read`). Definitions: `specs/Fronts.antt` (histories and how a call
-//! extends them), `specs/Faults.antt` (what a refused call tells), `specs/Token.antt`, `specs/Sheets.antt` (what a
-//! sheet tells); what lies under the lock is in `specs/Kept.antt`, `specs/Locked.antt`, `specs/Story.antt` and
-//! `specs/Told.antt`, and what a call does there in `specs/Made.antt`.
+//! extends them), `specs/Faults.antt` (refused calls), `specs/Token.antt`, `specs/Sheets.antt` (the meaning of a
+//! sheet). The parts under the lock are in `specs/Kept.antt`, `specs/Locked.antt`, `specs/Story.antt` and
+//! `specs/Told.antt`, and the effect of a call on them in `specs/Made.antt`.
 #![tactic(auto)]
 
 mod asked;

@@ -1,5 +1,5 @@
-//! What lies under the office's lock: the log with the desk that replays it, the purse of tokens, and the press. Each
-//! of the three has a rule of its own; what joins them stands in `specs/Locked.antt`.
+//! The parts under the office's lock: the log with the desk that replays it, the purse of tokens, and the press. Each
+//! of the three has an invariant of its own; `specs/Locked.antt` joins them.
 ghost use Rattle.std.specs.Prelude.{◌≡◌, ◌+◌, ◌-◌, ◌<◌, ◌≤◌, ◌⊎◌, ℕ, List, [], ◌∷◌, ◌++◌, length, drop, true, false, Some, None, IfOk, IfErr, OnOk, OnErr, IfNone, IfSome, option_map};
 ghost use mathlib.Core.List.{IsPrefix};
 ghost use Rattle.boxcar.specs.Table.{Shows};
@@ -27,7 +27,7 @@ use std::marker::Model;
 use std::sync::Wait;
 use vpg_watch::Press;
 
-/// The calls that were made, and the history that they are.
+/// The calls that were made, and their history.
 #[derive(Drop)]
 pub struct Calls<L: Terms> {
     pub(crate) chronicle: Chronicle,
@@ -37,14 +37,14 @@ pub struct Calls<L: Terms> {
     pub(crate) room: usize,
 }
 
-/// What a session asks, and the row that its call is pushed to.
+/// A session's call, and the row that it is pushed to.
 pub struct Request<'a> {
     pub(crate) row: &'a Row,
     pub(crate) session: u32,
     pub(crate) asked: Asked,
 }
 
-// Not derived, so that letting it go is one call.
+// Not derived: a derived `drop` would be proved again at each exit that owns such a value.
 impl Drop for Request<'_> {
     fn drop(self) {
         let Request {
@@ -55,7 +55,7 @@ impl Drop for Request<'_> {
     }
 }
 
-/// The log with the desk that replays it, the purse and the press. Contracts see it as the history that the log is.
+/// The log with the desk that replays it, the purse and the press. Contracts see it as the log's history.
 pub struct Log<L: Terms> {
     pub(crate) calls: Calls<L>,
     pub(crate) desk: Replay,
@@ -82,7 +82,8 @@ impl<L: Terms> Model for Log<L> {
 }
 
 impl<L: Terms> Calls<L> {
-    /// Done where the front is a beginning of the log; else its place, where the log has another one, or none.
+    /// Succeeds if the front is a beginning of the log. Else returns the front's last place: the log has another one
+    /// there, or none.
     pub(crate) fn has(&self, row: &Row, front: &Front<L>) -> Result<(), Place>
         requires row { row.now ≡ L.shelves }
         requires kept { IsChronicle L.shelves L.game L.diagram self.now.chronicle self.now.newest }
@@ -105,7 +106,7 @@ impl<L: Terms> Calls<L> {
         Ok(())
     }
 
-    /// Takes a call in where the log has room for it and the session made none since the front, and gives it a place.
+    /// Admits a call if the log has room for it and the session made none since the front, and gives it a place.
     pub(crate) fn admit<F, R: Wait>(
         &mut self,
         rt: &R,
@@ -147,7 +148,7 @@ impl<L: Terms> Calls<L> {
         }
     }
 
-    /// Puts the call and its answer behind the log. The front becomes the whole log.
+    /// Appends the call and its answer to the log. The front becomes the whole log.
     pub(crate) fn enter(
         &mut self,
         request: &Request<'_>,
@@ -182,7 +183,7 @@ impl<L: Terms> Calls<L> {
         *front = self.newest.copy();
     }
 
-    /// Enters the desk's refusal, where there is one; else the desk was out of memory.
+    /// Enters the desk's refusal, if there is one; else the desk was out of memory.
     pub(crate) fn refuse<F: Drop>(
         &mut self,
         request: &Request<'_>,
@@ -254,7 +255,7 @@ impl<L: Terms> Log<L> {
         }
     }
 
-    /// A further session, and the log so far.
+    /// Returns a further session, and the log so far.
     pub(crate) fn joined(&mut self) -> Option<(Session<L>, Front<L>)>
         ensures same { self.new ≡ self.old }
         ensures number { IfSome result (λ r. (1 ≤ r.0) × (r.0 ≤ 1024)) }
@@ -264,7 +265,7 @@ impl<L: Terms> Log<L> {
         Some((Session::numbered(number, share), self.calls.newest.copy()))
     }
 
-    /// The front of all calls.
+    /// Returns the front of all calls.
     pub(crate) fn whole(&self) -> Front<L>
         ensures whole { result ≡ self.now }
         ensures history { IsHistory (family_between L.game L.diagram) self.now }
@@ -272,7 +273,7 @@ impl<L: Terms> Log<L> {
         self.calls.newest.copy()
     }
 
-    /// Makes a call of the session: it is taken in, the desk carries it out, and its answer is entered.
+    /// Makes a call of the session: it is admitted, the desk carries it out, and its answer is entered.
     pub(crate) fn make<C: Call<L>, R: Wait>(
         &mut self,
         rt: &R,

@@ -1,4 +1,4 @@
-//! Calls that look, and leave the desk.
+//! Calls that look at the desk, and leave it.
 use crate::asked::Answer;
 use crate::calls::{Call, Made, Unmade};
 use crate::fault::Never;
@@ -49,7 +49,7 @@ impl<L: Terms> Call<L> for SettledCall {
     }
 }
 
-/// What the present tables say of a vertex.
+/// The verdict of a vertex by the present tables.
 #[derive(Drop)]
 pub struct VerdictCall {
     pub(crate) vertex: u32,
@@ -96,7 +96,7 @@ impl<L: Terms> Call<L> for VerdictCall {
     }
 }
 
-/// The present page, with what its decisions make of the game: the desk holds that, so nothing of it is made anew.
+/// The present page, with the games that its decisions leave: the desk holds them, so they are not made again.
 #[derive(Drop)]
 pub struct PageCall {
     pub(crate) alloc: Global,
@@ -150,7 +150,7 @@ impl<L: Terms> Call<L> for PageCall {
     }
 }
 
-/// What lifters take along.
+/// An order of the present page, for lifters.
 #[derive(Drop)]
 pub struct OrderCall {
     pub(crate) alloc: Global,

@@ -63,7 +63,7 @@ pub struct Shared<W: Rowed, L: Terms, T> {
 
 pub type Office<L> = Shared<Row, L, Log<L>>;
 
-/// An office has 1,024 sessions.
+/// An office has at most 1,024 sessions.
 #[derive(Clone, Copy, Debug, PartialEq, Eq, Error)]
 #[error("TooManySessions")]
 pub struct TooManySessions;
@@ -75,7 +75,7 @@ pub struct TokensOut<L: Terms> {
     pub office: Unshared<L>,
 }
 
-/// An office that isn't opened, with what was handed in.
+/// An office that isn't opened, with the arguments.
 #[derive(Drop)]
 pub struct NotOpened {
     pub fault: OpenFault,
@@ -84,7 +84,7 @@ pub struct NotOpened {
     pub site: Site,
 }
 
-/// Further owners of both.
+/// Returns further owners of both.
 pub(crate) fn again(
     game: &Arc<GuardedGame>,
     diagram: &Arc<Diagram>,
@@ -95,7 +95,7 @@ pub(crate) fn again(
     Ok((game.clone()?, diagram.clone()?))
 }
 
-/// Why no office is opened where there is no memory: a game at the limit is told first.
+/// Returns why no office is opened if there is no memory: a game at the limit is reported first.
 pub(crate) fn memory_fault(game: &Arc<GuardedGame>) -> OpenFault
     ensures at_limit { (result ≡ OpenFault.AtLimit) ↔ IsAtLimit (arc_value game.now) }
     ensures conflict { (f : ℕ) → ¬ (result ≡ OpenFault.Conflict f) }
@@ -106,7 +106,7 @@ pub(crate) fn memory_fault(game: &Arc<GuardedGame>) -> OpenFault
     OpenFault::Memory
 }
 
-/// A desk on a game and a diagram, and a press that shows its sheet.
+/// Returns a desk on a game and a diagram, and a press that shows its sheet.
 fn opened_desk<L: Terms, R: Wait>(
     rt: &R,
     alloc: Global,
@@ -138,7 +138,7 @@ fn opened_desk<L: Terms, R: Wait>(
 }
 
 impl<L: Terms> Shared<Row, L, Log<L>> {
-    /// An office on a game and a diagram, whose log takes `room` calls.
+    /// Returns an office on a game and a diagram, with a log of `room` calls.
     pub fn open<R: Wait>(
         rt: &R,
         alloc: Global,
@@ -189,7 +189,7 @@ impl<L: Terms> Shared<Row, L, Log<L>> {
         }
     }
 
-    /// A further session, with the log so far. Refused where there are 1,024.
+    /// Returns a further session, with the log so far. Refused if there are 1,024.
     pub fn join<R: Wait>(&self, rt: &R) -> Result<(Session<L>, Front<L>), TooManySessions>
         ensures history { IfOk result (λ r. IsHistory (family_between L.game L.diagram) r.1) }
         ensures number { IfOk result (λ r. (1 ≤ r.0) × (r.0 ≤ 1024)) }
@@ -203,9 +203,9 @@ impl<L: Terms> Shared<Row, L, Log<L>> {
         }
     }
 
-    /// A watch of the sheets that the office publishes: one as it opens, and one with each accepted decide, retract,
-    /// undo, redo and commit, but for those that find no memory. Its first read gives the sheet that is shown now or a
-    /// later one. It takes no memory; the one refusal is that there are 64 watches.
+    /// Returns a watch of the sheets that the office publishes. There is one sheet from the opening, and one for each
+    /// accepted decide, retract, undo, redo and commit, if memory allows it. Its first read returns the sheet that is
+    /// shown now or a later one. It takes no memory; the one refusal is that there are 64 watches.
     pub fn watch<R: Wait>(&self, rt: &R) -> Result<Watch<Front<L>>, NoPlace>
         ensures history { IfOk result (IsHistory (family_between L.game L.diagram)) }
     {
@@ -215,8 +215,9 @@ impl<L: Terms> Shared<Row, L, Log<L>> {
         watch
     }
 
-    /// A watch whose first read gives a sheet of this front or of a later one, whatever was published before: the
-    /// sheet of the log is published first. Refused where that finds no memory, and where there are 64 watches.
+    /// Returns a watch that begins at this front: its first read returns a sheet of this front or of a later one,
+    /// whatever was published before. The sheet of the log is published first. Refused if there is no memory for that,
+    /// and if there are 64 watches.
     pub fn watch_from<R: Wait>(
         &self,
         rt: &R,
@@ -233,7 +234,7 @@ impl<L: Terms> Shared<Row, L, Log<L>> {
         watch
     }
 
-    /// The log, locked where it has the front and a token's.
+    /// Returns the log, locked, if it has the front and a token's.
     pub(crate) fn log_with<R: Wait>(
         &self,
         rt: &R,
@@ -253,7 +254,7 @@ impl<L: Terms> Shared<Row, L, Log<L>> {
         unreachable!()
     }
 
-    /// The first becomes the longer of both.
+    /// Sets the first front to the longer of both.
     pub fn meet<R: Wait>(&self, rt: &R, front: &mut Front<L>, other: &Front<L>)
         ensures mine { IsPrefix front.old front.new }
         ensures theirs { IsPrefix other.now front.new }
@@ -271,7 +272,7 @@ impl<L: Terms> Shared<Row, L, Log<L>> {
         }
     }
 
-    /// The office out of its lock: nobody shares it now.
+    /// Returns the office out of its lock: nobody shares it now.
     pub fn unshare(self) -> Unshared<L>
         ensures history { IsHistory (family_between L.game L.diagram) result }
     {
@@ -281,7 +282,7 @@ impl<L: Terms> Shared<Row, L, Log<L>> {
         Unshared { row, log }
     }
 
-    /// Ends the office, where no token of it is out; else it comes back, with their exact number.
+    /// Ends the office if no token of it is out; else it comes back, with their exact number.
     pub fn close<R: Wait>(self, rt: &R) -> Result<Ended<L>, TokensOut<L>>
         ensures closed { IfOk result (λ ended. ended ≡ 0) }
         ensures out { IfErr result
@@ -298,8 +299,8 @@ impl<L: Terms> Shared<Row, L, Log<L>> {
         Err(TokensOut { tokens, office })
     }
 
-    /// Spends the tokens handed in, and ends the office, whatever the log's room. It is never refused. What is left
-    /// tells how many further tokens are out.
+    /// Spends the tokens handed in, and ends the office, whatever the log's room. It is never refused. The result says
+    /// how many further tokens are out.
     pub fn end<R: Wait>(self, rt: &R, undos: Vec<Undo<L>>, redos: Vec<Redo<L>>) -> Ended<L>
         ensures further { (log : List Event) ×
             (IsHistory (family_between L.game L.diagram) log ×

@@ -1,4 +1,4 @@
-//! Sheets: what is published of the log, and how a watch reads it.
+//! Sheets: how the log publishes them, and how a watch reads them.
 ghost use Rattle.std.specs.Arc.{arc_value};
 ghost use Rattle.std.specs.Prelude.{◌≡◌, ◌≤◌, [], IfOk, OnOk, OnErr};
 ghost use mathlib.Core.List.{IsPrefix};
@@ -18,7 +18,7 @@ use std::alloc::{AllocError, Global};
 use std::sync::{Arc, Wait};
 use vpg_watch::{NoPlace, Press, Sheet, Watch, WatchFault};
 
-/// The sheet of the front at whose end the desk is.
+/// Returns the sheet of this front. The desk is at its end.
 fn sheet_of<L: Terms>(
     alloc: Global,
     desk: &mut Replay,
@@ -39,7 +39,7 @@ fn sheet_of<L: Terms>(
     Ok(Arc::new(alloc, sheet)?)
 }
 
-/// A press that shows the sheet of a desk that was just opened.
+/// Returns a press that shows the sheet of a desk that was just opened.
 pub(crate) fn opening_press<L: Terms, R: Wait>(
     rt: &R,
     alloc: Global,
@@ -59,7 +59,8 @@ pub(crate) fn opening_press<L: Terms, R: Wait>(
     }
 }
 
-/// Publishes the sheet of the front at whose end the desk is. Where it finds no memory the sheet shown before stays.
+/// Publishes the sheet of this front. The desk is at its end. If there is no memory for the sheet, the one shown before
+/// stays.
 fn publish<L: Terms, R: Wait>(
     rt: &R,
     alloc: Global,
@@ -84,8 +85,8 @@ fn publish<L: Terms, R: Wait>(
 }
 
 impl<L: Terms> Log<L> {
-    /// Publishes the sheet of the log, where the call was made. `sheet` is the allocator of a call that changes the
-    /// page, and none of any other. A sheet that finds no memory is left out.
+    /// Publishes the sheet of the log, if the call was made. `sheet` is the allocator of a call that changes the page,
+    /// and none of any other. A sheet without memory for it is left out.
     pub(crate) fn publish<R: Wait>(&mut self, rt: &R, sheet: Option<Global>, made: bool)
         ensures { self.new ≡ self.old }
     {
@@ -102,7 +103,7 @@ impl<L: Terms> Log<L> {
         }
     }
 
-    /// A watch of the log as it is: its sheet is published first.
+    /// Returns a watch of the log as it is: its sheet is published first.
     pub(crate) fn watch_whole<R: Wait>(
         &mut self,
         rt: &R,
@@ -127,7 +128,7 @@ impl<L: Terms> Log<L> {
         }
     }
 
-    /// A watch of what is published.
+    /// Returns a watch of the published sheets.
     pub(crate) fn watch(&mut self) -> Result<Watch<Front<L>>, NoPlace>
         ensures same { self.new ≡ self.old }
         ensures history { IfOk result (IsHistory (family_between L.game L.diagram)) }
@@ -137,10 +138,10 @@ impl<L: Terms> Log<L> {
 }
 
 /// Reads the sheet that is shown, as `Watch::read`: without the office's lock and without waiting. The sheet is of a
-/// front of the office: its `at` is the front's number of calls, and it tells what the desk replies there, of the page
-/// and of each vertex. From a hopeless vertex Odd wins in every product that is left, from a sure one Even; none is
-/// both. The front begins with the one that this watch read before, and at its first read with that of the sheet that
-/// was shown as it was given.
+/// front of the office: its `at` is the front's number of calls, and it has the desk's replies there, about the page
+/// and each vertex. From a hopeless vertex Odd wins in every product left, from a sure one Even; none is both. The
+/// front begins with the one that this watch read before, and at its first read with that of the sheet shown when the
+/// watch was made.
 ///
 /// The one refusal is `NoSheet`: the office is closed or has ended.
 pub fn read<L: Terms>(watch: &mut Watch<Front<L>>) -> Result<Arc<Sheet<Front<L>>>, WatchFault>
@@ -149,7 +150,7 @@ pub fn read<L: Terms>(watch: &mut Watch<Front<L>>) -> Result<Arc<Sheet<Front<L>>
         (arc_value (arc_value sheet).verdicts)) }
     ensures begins { IfOk result (λ sheet. IsPrefix watch.old (arc_value sheet).front) }
     ensures seen { IfOk result (λ sheet. watch.new ≡ (arc_value sheet).front) }
-    // Also where there is no sheet, whatever begins with what is seen then begins with what was seen.
+    // Without a sheet too, the new front begins with the old one.
     ensures kept { IsPrefix watch.old watch.new }
 {
     watch.read()

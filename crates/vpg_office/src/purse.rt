@@ -8,8 +8,8 @@ use std::sync::ledger::{Book, Share};
 /// The most sessions of an office.
 const MOST_SESSIONS: u32 = 1024;
 
-/// What counts the tokens that are out: each has a share of one part and amount 1. A session has a share of as many
-/// parts as its number says, and no amount. The other parts are here. Contracts see how many tokens are out.
+/// The count of tokens that are out: each has a share of one part and amount 1. A session has a share of as many parts
+/// as its number says, and no amount. The other parts are here. Contracts see how many tokens are out.
 #[derive(Drop)]
 pub struct Purse<L: Terms> {
     book: Book<L>,
@@ -33,7 +33,7 @@ impl<L: Terms> Model for Purse<L> {
 }
 
 impl<L: Terms> Purse<L> {
-    /// No token is out, and no session joined.
+    /// Returns a purse with no token out and no session joined.
     pub(crate) fn of(book: Book<L>, rest: Share<L>) -> Purse<L>
         requires { (book.total ≡ 0) × (rest.amount ≡ 0) × (rest.parts ≡ 2097153) }
         ensures { result ≡ 0 }
@@ -45,7 +45,7 @@ impl<L: Terms> Purse<L> {
         }
     }
 
-    /// The number of a further session, and its share. None where there are 1,024.
+    /// Returns the number of a further session, and its share. None if there are 1,024.
     pub(crate) fn seat(&mut self) -> Option<(u32, Share<L>)>
         requires { self.old ≤ 1048576 }
         ensures same { self.new ≡ self.old }
@@ -60,7 +60,7 @@ impl<L: Terms> Purse<L> {
         Some((self.sessions, share))
     }
 
-    /// The share of one token more.
+    /// Returns the share of one more token.
     pub(crate) fn issue(&mut self) -> Share<L>
         requires { self.old ≤ 1048576 }
         ensures more { self.new ≡ self.old + 1 }
@@ -72,7 +72,7 @@ impl<L: Terms> Purse<L> {
         share
     }
 
-    /// A token's share shows that it is out.
+    /// Checks a token's share, which shows that it is out.
     pub(crate) fn audit(&mut self, share: &mut Share<L>)
         ensures same { self.new ≡ self.old }
         ensures amount { share.new.amount ≡ share.old.amount }
@@ -82,7 +82,7 @@ impl<L: Terms> Purse<L> {
         self.book.audit(share);
     }
 
-    /// Takes the share of a token back that is spent.
+    /// Takes back the share of a spent token.
     pub(crate) fn take_back(&mut self, share: Share<L>)
         requires { (share.amount ≡ 1) × (share.parts ≡ 1) }
         ensures { self.new + 1 ≡ self.old }

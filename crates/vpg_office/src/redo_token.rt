@@ -7,8 +7,9 @@ use crate::terms::Terms;
 use std::marker::Model;
 use std::sync::ledger::Share;
 
-/// Stands for a change that was undone. It can be neither copied nor let go: `Session::redo` or `Session::forget`
-/// spends it, or `Office::end`. Contracts see the change's serial, and the history up to the call that gave the token.
+/// The right to redo a change that was undone. It can be neither copied nor dropped: `Session::redo` or
+/// `Session::forget` spends it, or `Office::end`. Contracts see the change's serial, and the history up to the call
+/// that gave the token.
 pub struct Redo<L: Terms> {
     pub(crate) token: vpg_desk::Redo,
     pub(crate) place: Front<L>,
@@ -38,7 +39,7 @@ impl<L: Terms> Redo<L> {
     ghost use Rattle.vpg_desk.specs.History.{gives_redo};
     ghost use Rattle.vpg_office.specs.Token.{EndsWith};
 
-    /// The token that the last call of the front gave.
+    /// Returns the token that the last call of the front gave.
     pub(crate) fn of(issued: Issued<L, vpg_desk::Redo>, front: &Front<L>) -> Redo<L>
         requires share { (issued.share.amount ≡ 1) × (issued.share.parts ≡ 1) }
         requires ends { EndsWith (λ reply. IsTrue (gives_redo issued.token reply)) front.now }
@@ -52,7 +53,7 @@ impl<L: Terms> Redo<L> {
         }
     }
 
-    /// The serial of the change.
+    /// Returns the serial of the change.
     pub fn serial(&self) -> u64
         ensures serial { result ≡ self.now.serial }
         // The history of the token ends with the call that gave it.

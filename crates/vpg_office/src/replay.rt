@@ -1,4 +1,4 @@
-//! The desk that replays the log, with what was last told of its page.
+//! The desk that replays the log, with the verdicts last read of its page.
 ghost use Rattle.std.specs.Arc.{arc_value};
 ghost use Rattle.std.specs.List.{list_any};
 ghost use Rattle.std.specs.Prelude.{◌≡◌, ◌≤◌, length, drop, IfOk, IfErr, IfSome, IsTrue, IsFalse, OnErr};
@@ -21,16 +21,16 @@ use vpg_trail::Entry;
 use vpg_verdict::Which;
 use vpg_watch::Verdicts;
 
-/// A desk, with what was last told of its page. Contracts see the desk.
+/// A desk, with the verdicts last read of its page. Contracts see the desk.
 pub struct Replay {
     desk: Desk,
-    // the verdicts of the present page, where it says the same as when they were told
+    // the verdicts of the present page, while they are still those last read
     told: Option<Arc<Verdicts>>,
     // a vertex of a table that a lift raised on the last page that was not settled
     raised: Option<(Which, u32)>,
 }
 
-// Not derived, so that letting one go is one call: a derived way would be proved anew at each exit that owns one.
+// Not derived: a derived `drop` would be proved again at each exit that owns such a value.
 impl Drop for Replay {
     fn drop(self) {
         let Replay {
@@ -59,7 +59,7 @@ impl Model for Replay {
     ghost invariant = { λ r. IfSome r.told (λ told. AreVerdictsOf r.desk (arc_value told)) };
 }
 
-/// What the desk says of each vertex.
+/// Returns the desk's verdict of each vertex.
 fn verdicts_of(alloc: Global, desk: &Desk) -> Result<Verdicts, AllocError>
     ensures { IfOk result (AreVerdictsOf desk.now) }
 {
@@ -76,7 +76,7 @@ fn raises_to_top(desk: &Desk, entry: &Entry) -> bool
     }
 }
 
-/// Whether one of the entries does.
+/// Whether one of the entries raises a value to the desk's top.
 fn one_raises_to_top(desk: &Desk, entries: &[Entry]) -> bool
     ensures { result ≡ list_any (λ e. to_top (family_of (setting_of desk.now)) (entry_of e)) entries.now }
 {
@@ -88,7 +88,7 @@ fn one_raises_to_top(desk: &Desk, entries: &[Entry]) -> bool
     false
 }
 
-/// Whether the desk only puts entries behind its page for what is asked.
+/// Whether the desk only appends entries to its page for this call, or leaves it.
 fn only_puts(asked: &Asked) -> bool
     ensures { result ≡ only_appends asked.now }
 {
@@ -98,8 +98,8 @@ fn only_puts(asked: &Asked) -> bool
     )
 }
 
-/// Whether the verdicts of a page with so many entries stay, of which what is asked made the desk's page: it put
-/// entries behind them, and none that raises a value to the top.
+/// Whether verdicts stay after a call that made the desk's page of one with `before` entries: it only appended entries,
+/// and none of them raises a value to the top.
 fn verdicts_stay(desk: &Desk, asked: &Asked, before: usize) -> bool
     requires { IsTrue (only_appends asked.now) → before ≤ length desk.now.book.present }
     ensures appends { IsTrue result → IsTrue (only_appends asked.now) }
@@ -141,8 +141,8 @@ impl Replay {
         desk
     }
 
-    /// Whether both tables of the present page are progress tables. The vertex that a lift raised the last time is
-    /// tried first.
+    /// Returns whether both tables of the present page are progress tables. It first tries the vertex that a lift
+    /// raised the last time.
     pub(crate) fn settled(&mut self) -> bool
         ensures same { self.new ≡ self.old }
         ensures reply { Replies self.old Settled (IsSettled result) }
@@ -155,7 +155,7 @@ impl Replay {
         self.looks_settled()
     }
 
-    /// The same by a look at the desk.
+    /// Returns whether the page is settled, by a look at the desk.
     fn looks_settled(&mut self) -> bool
         ensures same { self.new ≡ self.old }
         ensures reply { Replies self.old Settled (IsSettled result) }
@@ -167,7 +167,7 @@ impl Replay {
         false
     }
 
-    /// What the present page says of each vertex: the list that was told before, where the page still says the same.
+    /// Returns the present page's verdict of each vertex: the list that was read before, if it is still right.
     pub(crate) fn verdicts(&mut self, alloc: Global) -> Result<Arc<Verdicts>, AllocError>
         ensures same { self.new ≡ self.old }
         ensures are { IfOk result (λ told. AreVerdictsOf self.old (arc_value told)) }
@@ -181,8 +181,8 @@ impl Replay {
     }
 }
 
-/// Carries a call out. The verdicts that were told stay those of the page where it puts entries behind that of which
-/// none raises a value to the top.
+/// Carries a call out. The verdicts that were read stay if it only appends entries to their page, and none of them
+/// raises a value to the top.
 pub(crate) fn carry_out<L: Terms, C: Call<L>>(
     call: C,
     asked: &Asked,

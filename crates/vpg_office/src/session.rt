@@ -71,7 +71,7 @@ impl<L: Terms> Session<L> {
         Session { number, share }
     }
 
-    /// Its number.
+    /// Returns its number.
     pub fn number(&self) -> u32
         ensures number { result ≡ self.now }
         ensures range { (1 ≤ result) × (result ≤ 1024) }
@@ -109,7 +109,7 @@ impl<L: Terms> Session<L> {
         }
     }
 
-    /// Takes the decision on a feature back, as `Desk::retract`.
+    /// Retracts the decision on a feature, as `Desk::retract`.
     pub fn retract<R: Wait>(
         &mut self,
         rt: &R,
@@ -134,7 +134,7 @@ impl<L: Terms> Session<L> {
         }
     }
 
-    /// Takes the token's change back, as `Desk::undo`: the present page is the one just before the call that gave the
+    /// Undoes the token's change, as `Desk::undo`: the present page is the one just before the call that gave the
     /// token.
     pub fn undo<R: Wait>(
         &mut self,
@@ -176,7 +176,7 @@ impl<L: Terms> Session<L> {
         }
     }
 
-    /// Makes the token's change again, as `Desk::redo`: the present page is the one just before the call that gave the
+    /// Redoes the token's change, as `Desk::redo`: the present page is the one just before the call that gave the
     /// token.
     pub fn redo<R: Wait>(
         &mut self,
@@ -218,7 +218,7 @@ impl<L: Terms> Session<L> {
         }
     }
 
-    /// Spends a token, as `Desk::keep`.
+    /// Gives an undo up, as `Desk::keep`.
     pub fn keep<R: Wait>(
         &mut self,
         rt: &R,
@@ -257,7 +257,7 @@ impl<L: Terms> Session<L> {
         }
     }
 
-    /// Spends a token, as `Desk::forget`.
+    /// Gives a redo up, as `Desk::forget`.
     pub fn forget<R: Wait>(
         &mut self,
         rt: &R,
@@ -296,7 +296,7 @@ impl<L: Terms> Session<L> {
         }
     }
 
-    /// Whether both tables of the present page are progress tables.
+    /// Returns whether both tables of the present page are progress tables.
     pub fn settled<R: Wait>(
         &mut self,
         rt: &R,
@@ -317,8 +317,8 @@ impl<L: Terms> Session<L> {
         }
     }
 
-    /// What the present tables say of a vertex, as `Desk::verdict`. Where it is hopeless Odd wins from it in every
-    /// product that is left, and where it is sure Even does. It is never both.
+    /// Returns the verdict of a vertex by the present tables, as `Desk::verdict`. If it is hopeless Odd wins from it in
+    /// every product left, and if it is sure Even does. It is never both.
     pub fn verdict<R: Wait>(
         &mut self,
         rt: &R,
@@ -346,7 +346,7 @@ impl<L: Terms> Session<L> {
         }
     }
 
-    /// The present page, as `Desk::page`.
+    /// Returns the present page, as `Desk::page`.
     pub fn page<R: Wait>(
         &mut self,
         rt: &R,
@@ -384,8 +384,8 @@ impl<L: Terms> Session<L> {
         }
     }
 
-    /// The present page, as `Desk::page`, with what its decisions make of the game, as `Desk::games`: one call, so the
-    /// two are of one page. The games are shared with the desk, and not made anew.
+    /// Returns the present page, as `Desk::page`, with the games that its decisions leave, as `Desk::games`: one call,
+    /// so both are of one page. The games are shared with the desk, and not made again.
     pub fn page_with_games<R: Wait>(
         &mut self,
         rt: &R,
@@ -424,7 +424,7 @@ impl<L: Terms> Session<L> {
         }
     }
 
-    /// What lifters take along.
+    /// Returns an order of the present page, for lifters.
     pub fn order<R: Wait>(
         &mut self,
         rt: &R,
@@ -475,8 +475,8 @@ impl<L: Terms> Session<L> {
         self.hand_in(rt, alloc, office, front, harvest, false)
     }
 
-    /// As `commit`, of a harvest whose order has the office's game and diagram, as those of `order` have: the two are
-    /// not compared.
+    /// Commits as `commit` does, for a harvest of an order with the office's game and diagram, as those of `order`
+    /// have: the two are not compared.
     pub fn commit_own<R: Wait>(
         &mut self,
         rt: &R,
@@ -497,7 +497,7 @@ impl<L: Terms> Session<L> {
         self.hand_in(rt, alloc, office, front, harvest, true)
     }
 
-    /// Commits a harvest; `own` where it is known to be of the office's game and diagram.
+    /// Commits a harvest; `own` if it is known to be of the office's game and diagram.
     fn hand_in<R: Wait>(
         &self,
         rt: &R,

@@ -1,4 +1,4 @@
-//! What an office stands on.
+//! The base of an office.
 ghost use Rattle.std.specs.Prelude.{◌≡◌};
 
 use crate::chronicle::Row;
@@ -6,12 +6,12 @@ use std::alloc::{AllocError, Global};
 use std::marker::Model;
 use std::sync::ledger::Blank;
 
-/// One more than the most calls of a log, so than the most tokens that are out, and 1,048,576 for sessions, whose
-/// numbers add up to less.
+/// The parts of a ledger: 1,048,577 for tokens and 1,048,576 for sessions. No log has that many calls, so fewer tokens
+/// are out, and the numbers of all sessions add up to less.
 pub const PARTS: u64 = 2_097_153;
 
-/// An empty row of calls and a blank ledger, which no office has yet. Who opens an office picks its type parameter from
-/// them. Contracts see the row's name, and the ledger's name and parts.
+/// An empty row of calls and a blank ledger, which no office has yet. The opener of an office picks its type parameter
+/// from them. Contracts see the row's name, and the ledger's name and parts.
 #[derive(Drop)]
 pub struct Site {
     pub(crate) row: Row,

@@ -1,9 +1,9 @@
-//! What ties an office's row, lock, fronts and tokens together.
+//! The terms that tie an office's row, lock, fronts and tokens together.
 use std::marker::Brand;
 use std::sync::ledger::Ledger;
 
-/// Which row and which ledger an office has, of which game and diagram it is, and how many calls its log takes. Each
-/// call of a program that opens an office picks it.
+/// The terms of an office: its row and its ledger, its game and diagram, and how many calls its log takes. Each call of
+/// a program that opens an office picks them.
 pub trait Terms: Ledger {
     ghost use Rattle.std.specs.Prelude.{ℕ};
     ghost use Rattle.boxcar.specs.Table.{Shelves};

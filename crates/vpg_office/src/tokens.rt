@@ -20,7 +20,7 @@ use crate::undo_token::Undo;
 use std::alloc::Global;
 use vpg_desk::{Desk, RedoFault, RedoRefused, UndoFault, UndoRefused};
 
-/// Why the desk refuses to undo, where it isn't out of memory.
+/// Returns why the desk refuses to undo, or none if it is out of memory.
 fn undo_cause(fault: UndoFault) -> Option<Cause>
     ensures { option_map refusal_of result ≡ undo_refusal fault }
 {
@@ -31,7 +31,7 @@ fn undo_cause(fault: UndoFault) -> Option<Cause>
     }
 }
 
-/// Why the desk refuses to redo, where it isn't out of memory.
+/// Returns why the desk refuses to redo, or none if it is out of memory.
 fn redo_cause(fault: RedoFault) -> Option<Cause>
     ensures { option_map refusal_of result ≡ redo_refusal fault }
 {
@@ -42,15 +42,15 @@ fn redo_cause(fault: RedoFault) -> Option<Cause>
     }
 }
 
-/// What the log lacks: the place at the end of a front. None where its last call that gave a token of the serial isn't
-/// at the end of the token's front.
+/// A front that the log lacks, by the place at its end. Without a place, the token's front doesn't end with the log's
+/// last call that gave a token of the serial.
 #[derive(Drop)]
 pub(crate) struct Lacks {
     pub(crate) place: Option<Place>,
 }
 
 impl<L: Terms> Calls<L> {
-    /// Done where the log has a token's front, and its last call that gave a token of the serial is at the end of that.
+    /// Succeeds if the log has a token's front, which ends with the log's last call that gave a token of the serial.
     fn holds(&self, row: &Row, serial: u64, own: &Front<L>) -> Result<(), Lacks>
         requires row { row.now ≡ L.shelves }
         requires kept { IsChronicle L.shelves L.game L.diagram self.now.chronicle self.now.newest }
@@ -73,7 +73,7 @@ impl<L: Terms> Calls<L> {
         }
     }
 
-    /// Done where the log has the front and a token's.
+    /// Succeeds if the log has the front and a token's.
     pub(crate) fn has_both(
         &self,
         row: &Row,
@@ -104,7 +104,7 @@ impl<L: Terms> Calls<L> {
     }
 }
 
-/// Takes a token's change back.
+/// Undoes a token's change.
 pub struct UndoCall<L: Terms> {
     pub(crate) alloc: Global,
     pub(crate) token: Undo<L>,
@@ -173,7 +173,7 @@ impl<L: Terms> Call<L> for UndoCall<L> {
     }
 }
 
-/// Makes a token's change again.
+/// Redoes a token's change.
 pub struct RedoCall<L: Terms> {
     pub(crate) alloc: Global,
     pub(crate) token: Redo<L>,

@@ -7,9 +7,8 @@ use crate::terms::Terms;
 use std::marker::Model;
 use std::sync::ledger::Share;
 
-/// Stands for a change, which an undo takes back. It can be neither copied nor let go: `Session::undo` or
-/// `Session::keep` spends it, or `Office::end`. Contracts see the change's serial, and the history up to the call that
-/// gave the token.
+/// The right to undo a change. It can be neither copied nor dropped: `Session::undo` or `Session::keep` spends it, or
+/// `Office::end`. Contracts see the change's serial, and the history up to the call that gave the token.
 pub struct Undo<L: Terms> {
     pub(crate) token: vpg_desk::Undo,
     pub(crate) place: Front<L>,
@@ -39,7 +38,7 @@ impl<L: Terms> Undo<L> {
     ghost use Rattle.vpg_desk.specs.History.{gives_undo};
     ghost use Rattle.vpg_office.specs.Token.{EndsWith};
 
-    /// The token that the last call of the front gave.
+    /// Returns the token that the last call of the front gave.
     pub(crate) fn of(issued: Issued<L, vpg_desk::Undo>, front: &Front<L>) -> Undo<L>
         requires share { (issued.share.amount ≡ 1) × (issued.share.parts ≡ 1) }
         requires ends { EndsWith (λ reply. IsTrue (gives_undo issued.token reply)) front.now }
@@ -53,7 +52,7 @@ impl<L: Terms> Undo<L> {
         }
     }
 
-    /// The serial of the change.
+    /// Returns the serial of the change.
     pub fn serial(&self) -> u64
         ensures serial { result ≡ self.now.serial }
         // The history of the token ends with the call that gave it.

@@ -16,7 +16,7 @@ use crate::undo_token::Undo;
 use std::marker::{Model, PhantomData};
 use std::sync::{Mutex, Wait};
 
-/// An office that nobody shares: its log is out of the lock. It can't be let go: `share` puts it under the lock again,
+/// An office that nobody shares: its log is out of the lock. It can't be dropped: `share` puts it under the lock again,
 /// `end` ends it. Contracts see its log, as a front of all calls.
 pub struct Unshared<L: Terms> {
     pub(crate) row: Row,
@@ -40,14 +40,14 @@ impl<L: Terms> Model for Unshared<L> {
 }
 
 impl<L: Terms> Unshared<L> {
-    /// How many tokens are out.
+    /// Returns the number of tokens that are out.
     pub fn tokens(&self) -> u64
         ensures tokens { result ≡ (book_after (family_between L.game L.diagram) opened self.now).tokens }
     {
         self.log.tokens()
     }
 
-    /// Its log: a front of all calls.
+    /// Returns its log: a front of all calls.
     pub fn log(&self) -> Front<L>
         ensures whole { result ≡ self.now }
         ensures history { IsHistory (family_between L.game L.diagram) self.now }

@@ -1,4 +1,4 @@
-//! Opening an office without picking what ties its parts together.
+//! Opening an office without picking its terms.
 ghost use Rattle.std.specs.Arc.{arc_value};
 ghost use Rattle.std.specs.Prelude.{◌≡◌, ◌≤◌, ◌↔◌, ℕ, [], IfOk, IfErr};
 ghost use Rattle.vpg_diagram.specs.FeatureDiagram.{feature_count};
@@ -16,14 +16,14 @@ use vpg_desk::OpenFault;
 use vpg_diagram::Diagram;
 use vpg_game::GuardedGame;
 
-/// What is done with an office, whatever ties its parts together.
+/// Work with an office, whatever its terms.
 pub trait Work<R> {
     ghost use Rattle.std.specs.Arc.{arc_value};
     ghost use Rattle.std.specs.Prelude.{◌≡◌, ℕ, []};
 
     type Answer;
 
-    /// How many calls the log of its office takes.
+    /// The number of calls that the log of its office takes.
     ghost room: { Self → ℕ };
 
     /// Works with the office of this game and diagram, and ends it. The front has seen nothing.
@@ -40,7 +40,7 @@ pub trait Work<R> {
         requires room { L.limit ≡ room self };
 }
 
-/// Work that isn't begun, since no office is opened, with what was handed in.
+/// Work that isn't begun, since no office is opened, with the arguments.
 #[derive(Drop)]
 pub struct NotBegun<W> {
     pub fault: OpenFault,
@@ -49,8 +49,8 @@ pub struct NotBegun<W> {
     pub work: W,
 }
 
-/// Opens an office whose log takes `room` calls, as many as the work counts on, and hands it to the work. Refused as
-/// `Office::open`; what was handed in comes back.
+/// Opens an office with a log of `room` calls, as many as the work counts on, and hands it to the work. Refused as
+/// `Office::open`; the arguments come back then.
 pub fn with_office<R: Wait, W: Work<R>>(
     rt: &R,
     alloc: Global,
@@ -83,7 +83,7 @@ pub fn with_office<R: Wait, W: Work<R>>(
     }
 }
 
-/// A site, and further owners of both.
+/// Returns a site, and further owners of both.
 fn site_for(
     alloc: Global,
     game: &Arc<GuardedGame>,

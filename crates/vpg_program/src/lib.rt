@@ -1,20 +1,19 @@
-//! What the program `vpgdesk` does.
+//! The program `vpgdesk`.
 //!
-//! Without words it reads a script of commands from standard input, carries it out on a desk over the game and the
-//! diagram that are built in, and writes the answers to standard output. `run` does so with the files of a game, a
-//! diagram and a script, `project` writes the plain game of one product, `check` counts a game and tells its top
-//! measures, `lint` warns of what looks wrong in a family, and `draw` writes a picture, of the page that a script
-//! leaves where one is named. A system and its requirements may stand in place of the game, which `model` writes; and
-//! `draw` draws the system itself.
+//! Without words it reads a script of commands from standard input, carries it out on a desk over the built-in game and
+//! diagram, and writes the answers to standard output. `run` does so with the files of a game, a diagram and a script.
+//! `project` writes the plain game of one product, `check` writes the counts and top measures of a game, and `lint`
+//! warns of a family. `draw` writes a picture, of the page that a script leaves if one is named. A system and its
+//! requirements may stand in place of the game, which `model` writes; and `draw` draws the system itself.
 //!
-//! The status is 0; 1 where the input is refused or something fails, and then one line on standard error, `vpgdesk: `
-//! and the fault, says what, and with `--explain` further lines behind it say where and why; 2 where the words are
-//! wrong; 3 where an assertion of a script failed, or a line of a strict one was refused. Else an answer `refused ..`
-//! to a line of a script leaves 0. What was written before stays written. Formats, commands and faults are told in
-//! `docs/FORMATS.md`; what a run promises stands on `run` of `vpg_report`.
+//! The status is 0 if all goes well. It is 1 if the input is refused or something fails. Then one line on standard
+//! error, `vpgdesk: ` and the fault, says so, and with `--explain` further lines say where and why. It is 2 if the
+//! words are wrong, and 3 if an assertion of a script failed, or a line of a strict one was refused. Else an answer
+//! `refused ..` to a line of a script leaves 0. All that was written before stays written. Formats, commands and faults
+//! are described in `docs/FORMATS.md`; the contract of `run` in `vpg_report` is the promise of a run.
 //!
-//! It is no program itself: all that the `main` of `vpgdesk` calls is `program`, and so it is in each crate whose
-//! stored run ends with another status.
+//! It is no program itself: the `main` of `vpgdesk` only calls `program`, and so does each crate with a stored run that
+//! ends with another status.
 #![tactic(auto)]
 
 ghost use Rattle.std.specs.Io.KnownBytes.{Appends};
@@ -80,7 +79,7 @@ fn put_out(rt: &HostRuntime, text: &[u8]) -> Result<End, Fault> {
     put_last(Device::writer(rt.stdout().lock()), text)
 }
 
-/// Writes what was made, where nothing failed.
+/// Writes the text that was made, if nothing failed.
 fn put_made(rt: &HostRuntime, made: Result<Vec<u8>, Fault>) -> Result<End, Fault> {
     match made {
         Ok(text) => put_out(rt, &text),
@@ -88,7 +87,7 @@ fn put_made(rt: &HostRuntime, made: Result<Vec<u8>, Fault>) -> Result<End, Fault
     }
 }
 
-/// Carries a script out on a family, whose vertices are called so.
+/// Carries a script out on a family, with these names for its vertices.
 fn run<T: Threads + Wait + Sync, R: Source + Drop, W: Sink + Drop>(
     threads: &T,
     alloc: Global,
@@ -115,19 +114,19 @@ fn run<T: Threads + Wait + Sync, R: Source + Drop, W: Sink + Drop>(
     ))
 }
 
-/// What the program waits for, where a script comes from a terminal.
+/// The message while the program waits for a script from a terminal.
 const WAITS: &[u8] =
     b"vpgdesk reads a script, one command a line; `vpgdesk --help` lists commands\n";
 
-/// Says what the program waits for, where a person may type it.
+/// Says what the program waits for, if a person may type it.
 fn tell_waiting(rt: &HostRuntime) {
     if rt.stdin().is_terminal() {
-        // Where this fails the answers are still to come.
+        // If this fails the answers are still to come.
         let _ = Device::writer(rt.stderr().lock()).put(WAITS);
     }
 }
 
-/// Carries a script from standard input out on the family that is built in.
+/// Carries a script from standard input out on the built-in family.
 fn run_built_in<T: Threads + Wait + Sync>(
     rt: &HostRuntime,
     threads: &T,
@@ -145,7 +144,7 @@ fn run_built_in<T: Threads + Wait + Sync>(
     }
 }
 
-/// A sink that passes answers on to a writer with the names of vertices beside their lines, and in pictures.
+/// Returns a sink that passes answers on to a writer with the names of vertices beside their lines, and in pictures.
 fn named<'n, W: Sink>(alloc: Global, known: &'n Known, writer: W) -> Named<'n, Pictured<'n, W>>
     requires { (arc_value known.now.family.game).features ≡ feature_count (arc_value known.now.family.diagram).lines }
 {
@@ -154,7 +153,7 @@ fn named<'n, W: Sink>(alloc: Global, known: &'n Known, writer: W) -> Named<'n, P
     Named::new(alloc, game, &known.names, writer)
 }
 
-/// Carries a script of a file out on a family, whose vertices are called so.
+/// Carries a script of a file out on a family, with these names for its vertices.
 fn run_file<T: Threads + Wait + Sync, W: Sink + Drop>(
     rt: &HostRuntime,
     threads: &T,
@@ -210,7 +209,7 @@ fn run_named<T: Threads + Wait + Sync>(
     }
 }
 
-/// The same on a family of some files.
+/// Carries a script of a file out on a family of some files, with the names of vertices beside its answers.
 fn run_named_files<T: Threads + Wait + Sync>(
     rt: &HostRuntime,
     threads: &T,
@@ -272,28 +271,28 @@ fn run_files<T: Threads + Wait + Sync>(
     }
 }
 
-/// The identifier where a game starts, where it is that of a vertex.
+/// Returns the identifier where a game starts, if it is that of a vertex.
 fn start_of(known: &Known) -> Option<u32> {
     let id = u32::try_from(known.names.start()?).ok()?;
     known.family.game.find(id).map(|_| id)
 }
 
-/// What is said before the first line is read, behind the family's counts.
+/// The message before the first line is read, after the family's counts.
 const GREETING: &[u8] = b"one command a line; `help` lists commands, `quit` ends\n";
 
-/// Says what a session begins with. The family once more, for the session.
+/// Writes the first lines of a session. Returns the family once more, for the session.
 fn greet<S: Sink>(alloc: Global, family: &Family, talk: &mut S) -> Result<Family, AllocError>
     ensures game { IfOk result (λ again. arc_value again.game ≡ arc_value family.now.game) }
     ensures diagram { IfOk result (λ again. arc_value again.diagram ≡ arc_value family.now.diagram) }
 {
     let counts = family.counted(alloc)?;
-    // Where these fail the answers are still to come.
+    // If these fail the answers are still to come.
     let _ = talk.put(&counts);
     let _ = talk.put(GREETING);
     family.again()
 }
 
-/// Answers commands as they are typed, on a family. What is said beside the answers goes to `talk`.
+/// Answers commands as they are typed, on a family. The text beside the answers goes to `talk`.
 fn converse<T: Threads + Wait + Sync, R: Source + Drop, S: Sink + Drop, W: Sink + Drop>(
     threads: &T,
     alloc: Global,
@@ -358,7 +357,7 @@ fn converse_here<T: Threads + Wait + Sync, W: Sink + Drop>(
     )
 }
 
-/// The same, with the names of vertices beside the answers or without.
+/// Answers commands from standard input on a family, with the names of vertices beside the answers or without.
 fn sit_at<T: Threads + Wait + Sync>(
     rt: &HostRuntime,
     threads: &T,
@@ -379,7 +378,7 @@ fn sit_at<T: Threads + Wait + Sync>(
     converse_here(rt, threads, alloc, known, lifters, writer)
 }
 
-/// The same on a family of some files.
+/// Answers commands from standard input on a family of some files.
 fn sit<T: Threads + Wait + Sync>(
     rt: &HostRuntime,
     threads: &T,
@@ -396,7 +395,7 @@ fn sit<T: Threads + Wait + Sync>(
     }
 }
 
-/// The plain game of the product that has these features.
+/// Returns the plain game of the product that has these features.
 fn projected(
     rt: &HostRuntime,
     alloc: Global,
@@ -409,7 +408,7 @@ fn projected(
     }
 }
 
-/// The line that counts a family, and a line for each requirement where its game is made for some.
+/// Returns the line that counts a family, and a line for each requirement if its game is made for some.
 fn counted(rt: &HostRuntime, alloc: Global, paths: Paths<'_>) -> Result<Vec<u8>, Fault> {
     match read_texts(rt, alloc, paths) {
         Ok(texts) => checked(alloc, &texts),
@@ -417,7 +416,7 @@ fn counted(rt: &HostRuntime, alloc: Global, paths: Paths<'_>) -> Result<Vec<u8>,
     }
 }
 
-/// The text of a family's game.
+/// Returns the text of a family's game.
 fn game_text(rt: &HostRuntime, alloc: Global, paths: Paths<'_>) -> Result<Vec<u8>, Fault> {
     match read_texts(rt, alloc, paths) {
         Ok(Texts { game, .. }) => Ok(game),
@@ -425,7 +424,7 @@ fn game_text(rt: &HostRuntime, alloc: Global, paths: Paths<'_>) -> Result<Vec<u8
     }
 }
 
-/// A picture of a family of these texts.
+/// Returns a picture of a family of these texts.
 fn picture_of(alloc: Global, texts: &Texts, picture: Picture) -> Result<Vec<u8>, Fault> {
     match picture {
         Picture::Family(subject) => drawn(alloc, subject, &texts.diagram, &texts.game),
@@ -433,7 +432,7 @@ fn picture_of(alloc: Global, texts: &Texts, picture: Picture) -> Result<Vec<u8>,
     }
 }
 
-/// The same of some files.
+/// Returns a picture of a family of some files.
 fn picture_of_files(
     rt: &HostRuntime,
     alloc: Global,
@@ -446,7 +445,7 @@ fn picture_of_files(
     }
 }
 
-/// What looks wrong in a family.
+/// Returns the warnings of a family.
 fn warned(rt: &HostRuntime, alloc: Global, paths: Paths<'_>) -> Result<Vec<u8>, Fault> {
     match read_texts(rt, alloc, paths) {
         Ok(texts) => linted(alloc, paths, &texts),
@@ -454,7 +453,7 @@ fn warned(rt: &HostRuntime, alloc: Global, paths: Paths<'_>) -> Result<Vec<u8>, 
     }
 }
 
-/// The picture of a family, of which these are the texts, on the page that a script leaves, and how the script ends.
+/// Returns the picture of a family of these texts on the page that a script leaves, and the script's end.
 fn drawn_after_script<T: Threads + Wait + Sync>(
     threads: &T,
     alloc: Global,
@@ -475,7 +474,7 @@ fn drawn_after_script<T: Threads + Wait + Sync>(
     }
 }
 
-/// The same of a script of a file.
+/// Returns the picture on the page that a script of a file leaves, and the script's end.
 fn drawn_after_file<T: Threads + Wait + Sync>(
     rt: &HostRuntime,
     threads: &T,
@@ -493,7 +492,7 @@ fn drawn_after_file<T: Threads + Wait + Sync>(
     }
 }
 
-/// The same of texts that are read.
+/// Returns the picture of the family of these texts on the page that a script of a file leaves, and the script's end.
 fn drawn_after_texts<T: Threads + Wait + Sync>(
     rt: &HostRuntime,
     threads: &T,
@@ -508,7 +507,7 @@ fn drawn_after_texts<T: Threads + Wait + Sync>(
     }
 }
 
-/// The same of some files.
+/// Returns the picture of the family of some files on the page that a script of a file leaves, and the script's end.
 fn drawn_after_files<T: Threads + Wait + Sync>(
     rt: &HostRuntime,
     threads: &T,
@@ -541,7 +540,8 @@ fn draw_after<T: Threads + Wait + Sync>(
     }
 }
 
-/// Does what the words ask for. The runtime is handed in twice: for its files, and for the threads of the lifters.
+/// Carries out the task of the words. The runtime is handed in twice: for its files, and for the threads of the
+/// lifters.
 fn carry_out<T: Threads + Wait + Sync>(
     rt: &HostRuntime,
     threads: &T,
@@ -597,7 +597,7 @@ fn carry_out<T: Threads + Wait + Sync>(
     }
 }
 
-/// Lines that say where and why an input is refused. There are none where memory runs out.
+/// Returns lines that say where and why an input is refused. There are none if memory runs out.
 fn explanation_of(rt: &HostRuntime, alloc: Global, task: &Task<'_>, fault: &Fault) -> Vec<u8> {
     let Some(paths) = task.paths() else {
         return Vec::new(alloc);
@@ -608,7 +608,7 @@ fn explanation_of(rt: &HostRuntime, alloc: Global, task: &Task<'_>, fault: &Faul
     }
 }
 
-/// Does what the words ask for. Where it is refused, and they ask for it, the lines are what explains it.
+/// Carries out the task of the words. If it is refused, and they ask for it, the lines explain why.
 fn carry_out_asked<T: Threads + Wait + Sync>(
     rt: &HostRuntime,
     threads: &T,
@@ -625,13 +625,13 @@ fn carry_out_asked<T: Threads + Wait + Sync>(
     ended
 }
 
-/// Writes a line and the lines that explain it. Where this fails, the status is all that tells of the fault.
+/// Writes a line and the lines that explain it. If this fails, only the status reports the fault.
 fn put_told<W: Sink + Drop>(mut writer: W, line: &[u8], lines: &[u8]) {
     let _ = writer.put(line);
     let _ = writer.put(lines);
 }
 
-/// Tells of a fault, or where a strict script was refused, in one line on standard error, and then in the lines that
+/// Reports a fault, or the refusal of a strict script, in one line on standard error, and then in the lines that
 /// explain it.
 fn tell(rt: &HostRuntime, line: Result<Vec<u8>, AllocError>, lines: &[u8]) {
     let writer = Device::writer(rt.stderr().lock());
@@ -641,8 +641,7 @@ fn tell(rt: &HostRuntime, line: Result<Vec<u8>, AllocError>, lines: &[u8]) {
     }
 }
 
-/// Prints what is told of the words: help and the version to standard output, what is wrong with them to standard
-/// error.
+/// Prints the message about the words: help and the version to standard output, their fault to standard error.
 fn print(rt: &HostRuntime, told: &clap::Error) -> Result<End, Fault> {
     let kind = told.kind();
     if matches!(kind, ErrorKind::OutOfMemory) {
@@ -652,12 +651,12 @@ fn print(rt: &HostRuntime, told: &clap::Error) -> Result<End, Fault> {
     match kind {
         ErrorKind::DisplayHelp | ErrorKind::DisplayVersion if is_printed => Ok(End::Done),
         ErrorKind::DisplayHelp | ErrorKind::DisplayVersion => Err(Fault::Write),
-        // Where it isn't printed, the status is all that tells of the words.
+        // If it isn't printed, only the status says that the words are wrong.
         _ => Ok(End::WrongWords),
     }
 }
 
-/// Does what these words ask for.
+/// Carries out the task of these words.
 fn obey_words<T: Threads + Wait + Sync>(
     rt: &HostRuntime,
     threads: &T,
@@ -671,7 +670,7 @@ fn obey_words<T: Threads + Wait + Sync>(
     }
 }
 
-/// Tells that the words can't be read, for this reason.
+/// Reports that the words can't be read, for this reason.
 fn refuse_words(rt: &HostRuntime, alloc: Global, why: io::ErrorKind) -> Result<End, Fault> {
     if why == io::ErrorKind::OutOfMemory {
         return Err(Fault::Memory);
@@ -682,7 +681,7 @@ fn refuse_words(rt: &HostRuntime, alloc: Global, why: io::ErrorKind) -> Result<E
     }
 }
 
-/// Reads the words, and does what they ask for.
+/// Reads the words, and carries out their task.
 fn obey<T: Threads + Wait + Sync>(
     rt: &HostRuntime,
     threads: &T,
@@ -701,8 +700,8 @@ fn obey<T: Threads + Wait + Sync>(
     }
 }
 
-/// Does what the program's words ask for, and tells what fails. Returns the status that the program ends with. The
-/// runtime is handed in twice: for its files, and for the threads of the lifters.
+/// Carries out the task of the program's words, and reports what fails. Returns the status that the program ends with.
+/// The runtime is handed in twice: for its files, and for the threads of the lifters.
 pub fn program<T: Threads + Wait + Sync>(rt: &HostRuntime, threads: &T) -> ExitCode {
     let mut lines = Vec::new(rt.alloc());
     let ended = obey(rt, threads, rt.alloc(), &mut lines);

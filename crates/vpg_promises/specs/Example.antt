@@ -1,4 +1,4 @@
--- The small family as a desk's game: so what the theorem asks of a desk's game can be had. This project's own.
+-- The small family as a desk's game: so some game meets the theorem's conditions. This project's own.
 use Rattle.std.specs.Prelude.{[], ◌∷◌}
 use Rattle.vpg_diagram.specs.FeatureDiagram.{Optional}
 use Rattle.vpg_desk.specs.Setting.{Setting, IsSetting}

@@ -1,5 +1,5 @@
--- What the verdicts of a desk's pages say of a requirement: the theorem on games made from systems and formulas, joined
--- with the desk's headline. This project's own.
+-- The meaning of the verdicts of a desk's pages for a requirement: the theorem on games made from systems and formulas,
+-- joined with the desk's headline. This project's own.
 use Rattle.std.specs.Prelude.{◌≡◌, ℕ, ◌<◌, List, [], length, Bool, slice_index}
 use Rattle.vpg_guards.specs.declared.tri.Tri.{Tri}
 use Rattle.vpg_guards.specs.Formula.{Formula as Guard, truth}
@@ -23,8 +23,7 @@ use Rattle.vpg_checking.specs.Checking.{EntryHoldsIn, IsModelOfTexts}
 abbrev pub HoldsIn : System Guard → Formula → ℕ → List Bool → Type 0
 HoldsIn system formula s set = Means (product_system (truth set) system) [] formula s
 
--- The page leaves one product, and in it the requirement holds where the vertex is possible, and fails where it is
--- unsure.
+-- The page leaves one product, and in it the requirement holds if the vertex is possible, and fails if it is unsure.
 pub record Settles (setting : Setting) (Holds : List Bool → Type 0) (v : ℕ) (page : List Entry)
     (set : List Bool) : Type 0 where
   pub remaining : IsRemaining setting.lines (choices_of page) set
@@ -32,8 +31,8 @@ pub record Settles (setting : Setting) (Holds : List Bool → Type 0) (v : ℕ) 
   pub possible : ¬ (IsTopAt setting page Hopeful v) → Holds set
   pub unsure : ¬ (IsTopAt setting page Dual v) → Holds set → ⊥
 
--- What the page says at the vertex is so of the requirement: where it is hopeless the requirement holds in no product
--- that is left, and where it is sure it holds in each. A full and settled page says which of the two is so.
+-- The page's verdict at the vertex is true of the requirement: if it is hopeless the requirement holds in no product
+-- left, and if sure in each. A full and settled page says which of the two is so.
 pub record Promises (setting : Setting) (Holds : List Bool → Type 0) (v : ℕ) (page : List Entry) : Type 0 where
   pub hopeless : IsTopAt setting page Hopeful v → (set : List Bool) → IsRemaining setting.lines (choices_of page) set →
       Holds set → ⊥
@@ -43,9 +42,8 @@ pub record Promises (setting : Setting) (Holds : List Bool → Type 0) (v : ℕ)
       AreAllKnown (feature_count setting.lines) known → IsSettledPage (family_of setting) page →
       (set : List Bool) × Settles setting Holds v page set
 
--- On each page, present, past and future, of each legal history of a desk over a game that is a model of a formula,
--- hopeless and sure speak of the formula. Harvests that are handed in are lawful, as those of this project's lifters
--- are.
+-- Hopeless and sure speak of the formula on each page, present, past and future, of each legal history of a desk over a
+-- game that is a model of it. Harvests that are handed in are lawful, as those of this project's lifters are.
 abbrev pub VerdictsSpeakOfRequirements : Type 0
 VerdictsSpeakOfRequirements = (setting : Setting) (history : List Event) → IsSetting setting →
     IsLegal (family_of setting) history → AllHandIn (IsLawful (family_of setting)) history →
@@ -53,8 +51,8 @@ VerdictsSpeakOfRequirements = (setting : Setting) (history : List Event) → IsS
     IsModel setting.lines setting.game system formula s v →
     EachPage (Promises setting (HoldsIn system formula s) v) (book_after (family_of setting) opened history)
 
--- The same over the game of two texts, those of a system and of requirements: at the vertex of an entry hopeless and
--- sure speak of what the entry says, as it is written, at the first state of the system that the text spells.
+-- As `VerdictsSpeakOfRequirements`, over the game of the texts of a system and of requirements. At an entry's vertex
+-- hopeless and sure speak of the entry's requirement, as it is written, at the first state of the system.
 abbrev pub VerdictsSpeakOfTexts : Type 0
 VerdictsSpeakOfTexts = (setting : Setting) (history : List Event) → IsSetting setting →
     IsLegal (family_of setting) history → AllHandIn (IsLawful (family_of setting)) history →

@@ -1,4 +1,5 @@
--- What commands ask of a desk, and how its replies are written. Questions about the page stand in `specs/Requests`.
+-- The calls that commands make at a desk, and the texts of its replies. Questions about the page are defined in
+-- `specs/Requests`.
 use Rattle.std.specs.Prelude.{◌≡◌, ◌⊎◌, ℕ, ◌+◌, ◌<◌, ◌≤◌, Bool, true, false, if◌then◌else◌, List, [], ◌∷◌, ◌++◌, length, map, sum, Option, Some, None, Result, Ok, Err, slice_index, codes, ⊤}
 use Rattle.vpg_guards.specs.declared.tri.Tri.{Tri}
 use Rattle.vpg_features.specs.Names.{index_of}
@@ -58,8 +59,8 @@ settled_text settled n = numbered (if settled then codes "settled" else codes "u
 
 -- ---- what commands ask
 
--- What is refused without a call: a name that the diagram lacks, a token or a harvest that isn't held, a vertex that
--- the game lacks, a trace where there is no system.
+-- A reason to refuse a line without a call. The diagram lacks a name, the game lacks a vertex, a token or a harvest
+-- isn't held, or a trace has no system.
 pub data Own : Type 0 where
   NoFeature : Own
   NoToken : Own
@@ -67,7 +68,7 @@ pub data Own : Type 0 where
   NoVertex : Own
   NoSystem : Own
 
--- the word of what is refused without a call
+-- the word for a reason to refuse a line without a call
 abbrev pub own_text : Own → List ℕ
 own_text NoFeature = codes "UnknownFeature"
 own_text NoToken = codes "NoToken"
@@ -83,7 +84,7 @@ abbrev pub call_or : {X : Type 0} → Own → (X → Call) → Option X → Resu
 call_or own call None = Err own
 call_or own call (Some x) = Ok (call x)
 
--- what is looked at of the page, where the game has the vertices that are named
+-- the page is asked for if the game has the vertices that are named
 abbrev pub page_if : Bool → Result Call Own
 page_if true = Ok Page
 page_if false = Err NoVertex
@@ -113,7 +114,7 @@ first_call scene held (script.Ask inquiry) = Ok Order
 
 -- ---- harvests that lines make
 
--- a harvest of the order that was answered: lawful, with one value for each vertex, on or above its tables
+-- a harvest of the order in the reply: lawful, with one value for each vertex, on or above its tables
 pub record IsOf (family : Family) (decisions : List Decision) (hopeful dual : List ℕ) (made : Harvest) : Type 0 where
   pub of_this_desk : made.is_of_this_desk ≡ true
   pub same_decisions : made.decisions ≡ decisions
@@ -129,14 +130,14 @@ Checks family made =
     family.IsProgress (map literal_of made.decisions) Hopeful made.hopeful ×
     family.IsProgress (map literal_of made.decisions) Dual made.dual
 
--- Which harvest sweeps make is free, but one that doesn't check exceeds the order's tables, in sum, by as many as there
--- were sweeps.
+-- Sweeps may make any such harvest, but the sum of one that doesn't check exceeds that of the order's tables by at
+-- least the number of sweeps.
 pub record IsSwept (family : Family) (sweeps : ℕ) (decisions : List Decision) (hopeful dual : List ℕ)
     (made : Harvest) : Type 0 where
   pub of_order : IsOf family decisions hopeful dual made
   pub moved : ¬ (Checks family made) → sum hopeful + sum dual + sweeps ≤ sum made.hopeful + sum made.dual
 
--- the order's tables with one vertex of one table lifted once, where that is greater
+-- the order's tables with one vertex of one table lifted once, if that is greater
 pub record IsLifted (setting : Setting) (table : Which) (v : ℕ) (decisions : List Decision) (hopeful dual : List ℕ)
     (made : Harvest) : Type 0 where
   pub of_order : IsOf (family_of setting) decisions hopeful dual made
@@ -179,8 +180,8 @@ Makes scene held label call P [] text new = ⊥
 Makes scene held label call P (e ∷ calls) text new =
     (e.session ≡ label) × (e.call ≡ call) × Follows scene held P e.reply calls text new
 
--- So many calls were made before. While there are fewer than the room the call is made; a full log takes none: that
--- answers the line, and leaves what is held as it was.
+-- `made` calls were made before. If they are fewer than the room, the call is made. Else the log is full: that is the
+-- answer, and what is held stays as it was.
 abbrev pub Asks : Scene → Held → (made : ℕ) → ℕ → Call → (Reply → Rest) → Rest
 Asks scene held made label call P calls text new =
     ((made < room) × Makes scene held label call P calls text new) ⊎
@@ -203,21 +204,21 @@ abbrev pub TellsAdded : Held → Reply → Rest
 TellsAdded held (Added n) calls text new = Ends (numbered (codes "added") n) held calls text new
 TellsAdded held _ calls text new = ⊥
 
--- an order is swept, and what was made is committed
+-- an order is swept, and the harvest is committed
 abbrev pub Sweeps : Scene → Held → (made : ℕ) → ℕ → ℕ → Reply → Rest
 Sweeps scene held made label sweeps (Ordered decisions hopeful dual) calls text new =
     (harvest : Harvest) × IsSwept (family_of (setting_in scene)) sweeps decisions hopeful dual harvest
     × Asks scene held made label (Commit harvest) (AsksSettled scene held (made + 1) label) calls text new
 Sweeps scene held made label sweeps _ calls text new = ⊥
 
--- an order is swept, and what was made is kept
+-- an order is swept, and the harvest is kept
 abbrev pub Keeps : Scene → Held → Reply → Rest
 Keeps scene held (Ordered decisions hopeful dual) calls text new =
     (made : Harvest) × IsSwept (family_of (setting_in scene)) most_sweeps decisions hopeful dual made
     × Ends (numbered (codes "harvest") (length held.harvests + 1)) (with_harvest held made) calls text new
 Keeps scene held _ calls text new = ⊥
 
--- a vertex of an order is lifted, and what was made is committed
+-- a vertex of an order is lifted, and the harvest is committed
 abbrev pub Lifts : Scene → Held → (made : ℕ) → ℕ → Which → script.Vertex → Reply → Rest
 Lifts scene held made label table vertex (Ordered decisions hopeful dual) calls text new =
     (v : ℕ) × (harvest : Harvest) × (vertex_of scene vertex ≡ Some v) ×
@@ -237,25 +238,25 @@ abbrev pub TellsRedone : Held → Reply → Rest
 TellsRedone held (Redone s) calls text new = Ends (numbered (codes "redone") s) (after_redo held s) calls text new
 TellsRedone held _ calls text new = ⊥
 
--- a token is spent, with this answer
+-- the reply says that a token is spent, and the line has this answer
 abbrev pub TellsSpent : List ℕ → Held → Reply → Rest
 TellsSpent answer held Spent calls text new = Ends answer held calls text new
 TellsSpent answer held _ calls text new = ⊥
 
 -- ---- texts of a page
 
--- what is looked at
+-- the text of a lookup on a page
 abbrev pub Sees : Scene → script.Lookup → List Entry → List ℕ → Type 0
 Sees scene lookup page text =
     IsSeen scene lookup page (decisions_of page) (table_of Hopeful page (length scene.game))
     (table_of Dual page (length scene.game)) text
 
--- what is known of the feature of this name
+-- the text of what is known of the feature of this name
 abbrev pub TellsNamed : Scene → (name : List ℕ) → List Entry → List ℕ → Type 0
 TellsNamed scene name page text =
     (f : ℕ) × ((index_of scene.names name ≡ Some f) × TellsFeature scene (decisions_of page) f text)
 
--- this is told of the page
+-- the answer is such a text of the page
 abbrev pub TellsPage : (List Entry → List ℕ → Type 0) → Held → Reply → Rest
 TellsPage Tells held (PageIs page) calls text new = Tells page text × (calls ≡ []) × (new ≡ held)
 TellsPage Tells held _ calls text new = ⊥
@@ -265,14 +266,14 @@ abbrev pub verdicts_on : Scene → List Entry → List Verdict
 verdicts_on scene page =
     verdicts_by scene.game (table_of Hopeful page (length scene.game)) (table_of Dual page (length scene.game))
 
--- The verdicts of the page are told against those that are held as seen, and are then held in their place.
+-- The answer compares the page's verdicts with those held as seen, and takes their place there.
 abbrev pub TellsVerdicts : Scene → Held → Reply → Rest
 TellsVerdicts scene held (PageIs page) calls text new =
     Ends (changed_text scene.identifiers held.seen (verdicts_on scene page)) (with_seen held (verdicts_on scene page))
     calls text new
 TellsVerdicts scene held _ calls text new = ⊥
 
--- after the reply to a command's first call; so many calls were made then
+-- the rest after the reply to a command's first call, with `made` calls made by then
 abbrev pub Continues : Scene → Held → (made : ℕ) → ℕ → script.Command → Reply → Rest
 Continues scene held made label (script.Select name) reply calls text new = TellsChanged held reply calls text new
 Continues scene held made label (script.Exclude name) reply calls text new = TellsChanged held reply calls text new
@@ -297,8 +298,8 @@ Continues scene held made label (script.Known name) reply calls text new =
     TellsPage (TellsNamed scene name) held reply calls text new
 Continues scene held made label (script.Ask inquiry) reply calls text new = ⊥
 
--- A line that begins with this call and goes on so after its reply, or that is refused without a call; so many calls
--- were made before.
+-- The line begins with this call and has this rest after its reply, or is refused without a call. `made` calls were
+-- made before.
 abbrev pub Begins : Scene → Held → (made : ℕ) → ℕ → (Reply → Rest) → Result Call Own → Rest
 Begins scene held made label P (Err own) calls text new = Ends (refused_line (own_text own)) held calls text new
 Begins scene held made label P (Ok call) calls text new = Asks scene held made label call P calls text new

@@ -1,4 +1,4 @@
--- What a client of an office is: the desk that it serves, and how many calls it has made. This project's own.
+-- The state of an office's client: the desk that it serves, and how many calls it has made. This project's own.
 use Rattle.std.specs.Prelude.{◌≡◌, ℕ, ◌+◌, ◌<◌, List, length}
 use Rattle.vpg_diagram.specs.DiagramText.{NamedDiagram}
 use Rattle.vpg_game.specs.Game.{NamedGame}
@@ -24,7 +24,7 @@ abbrev pub client_after : NamedGame → NamedDiagram → List Event → ClientSt
 client_after game diagram events =
     record { desk = record { game = game; diagram = diagram; book = book_after (family_between game diagram) opened events }; calls = length events }
 
--- The log, which takes so many calls, had room for the call. It is one step of the desk under the label, and is
+-- The log, with room for `room` calls, had room for this one. The call is one step of the desk under the label, and is
 -- counted.
 pub record IsLogged (room : ℕ) (old : ClientState) (label : ℕ) (call : Call) (reply : Reply)
     (new : ClientState) : Type 0 where

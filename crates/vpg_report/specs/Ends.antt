@@ -7,13 +7,13 @@ use Rattle.vpg_family.specs.declared.fault.Fault.{Fault}
 use Rattle.vpg_serving.specs.declared.serving.Ending.{Ending}
 use Rattle.vpg_serving.specs.declared.serving.Ending.TheVariants as endings
 
--- how the program ends behind a script that ended so
+-- the program's end after this end of a script
 abbrev pub ended : Ending → End
 ended endings.Whole = ends.Done
 ended endings.Failed = ends.Failed
 ended (endings.Refused n) = ends.Refused n
 
--- 1 where it fails, 2 where the words are wrong, 3 where a line of a strict script was refused or an assertion failed
+-- 1 if it fails, 2 if the words are wrong, 3 if a line of a strict script was refused or an assertion failed
 abbrev pub status_of : Result End Fault → ℕ
 status_of (Ok ends.Done) = 0
 status_of (Ok (ends.Refused n)) = 3
@@ -21,6 +21,6 @@ status_of (Ok ends.Failed) = 3
 status_of (Ok ends.WrongWords) = 2
 status_of (Err fault) = 1
 
--- what is told of a strict script that was refused at line n
+-- the message about a strict script that was refused at line n
 abbrev pub refused_text : ℕ → List ℕ
 refused_text n = codes "vpgdesk: script Line " ++ decimal n ++ codes " Refused\n"

@@ -1,4 +1,4 @@
--- What the engine does with a request.
+-- How the engine serves a request.
 use Rattle.std.specs.Prelude.{◌≡◌, ℕ, ◌+◌, List, [], ◌++◌, ⊤, ◌==◌, Bool, true, false, position, Option, Some, None, Result}
 use Rattle.vpg_diagram.specs.DiagramText.{NamedDiagram}
 use Rattle.vpg_game.specs.Game.{NamedGame, IsAtLimit}
@@ -20,7 +20,7 @@ use Rattle.vpg_texts.specs.Scene.{Scene, scene_of}
 use Rattle.vpg_script.specs.Script as script
 use Rattle.vpg_script.specs.Script.{Request}
 
--- the client of an office, and what is held beside it
+-- the client of an office, and what is held with it
 pub record EngineState : Type 0 where
   pub client : ClientState
   pub held : Held
@@ -35,8 +35,8 @@ between_of state = record { book = state.client.desk.book; calls = state.client.
 abbrev pub engine_of : NamedGame → NamedDiagram → EngineState
 engine_of game diagram = record { client = client_of game diagram; held = nothing_held }
 
--- A line begins with this call and goes on so after its reply, or is refused without a call. A text is appended that
--- answers it; game and diagram stay.
+-- The line begins with this call and has this rest after its reply, or is refused without a call. A text is appended
+-- that answers it; game and diagram stay.
 pub record AnswersBy (old : EngineState) (label : ℕ) (first : Result Call Own) (P : Reply → Rest)
     (before after : List ℕ) (new : EngineState) : Type 0 where
   pub text : List ℕ
@@ -45,12 +45,12 @@ pub record AnswersBy (old : EngineState) (label : ℕ) (first : Result Call Own)
   pub game : new.client.desk.game ≡ old.client.desk.game
   pub diagram : new.client.desk.diagram ≡ old.client.desk.diagram
 
--- A text is appended with which the engine answers the request; game and diagram stay.
+-- A text is appended that is the engine's answer to the request; game and diagram stay.
 pub record AnswersTo (old : EngineState) (request : Request) (before after : List ℕ) (new : EngineState) : Type 0 where
   pub by : AnswersBy old request.label (first_call (scene_at old) old.held request.command)
       (Continues (scene_at old) old.held (old.client.calls + 1) request.label request.command) before after new
 
--- The same, where what is committed or kept was made by sweeps of this many lifters.
+-- As `AnswersTo`, and what is committed or kept was made by sweeps of this many lifters.
 pub record SweepsTo (old : EngineState) (lifters : ℕ) (request : Request) (before after : List ℕ)
     (new : EngineState) : Type 0 where
   pub answers : AnswersTo old request before after new
@@ -61,7 +61,7 @@ abbrev pub deciding : Bool → List ℕ → script.Command
 deciding true name = script.Select name
 deciding false name = script.Exclude name
 
--- what an inquiry names that game or diagram lack, or that there is no system
+-- the reason for a name that game or diagram lack, or that there is no system
 abbrev pub own_of : Missing → Own
 own_of Vertex = NoVertex
 own_of Feature = NoFeature

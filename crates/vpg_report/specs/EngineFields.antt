@@ -38,7 +38,7 @@ pub record IsOwnHarvest (of_game : NamedGame) (of_diagram : NamedDiagram) (harve
 abbrev pub AreOwnHarvests : NamedGame → NamedDiagram → List (Option HarvestView) → Type 0
 AreOwnHarvests game diagram harvests = AllByRecursion (λ h. IfSome h (IsOwnHarvest game diagram)) harvests
 
--- what every engine keeps
+-- the invariant of every engine
 pub record IsEngine (limit : ℕ) (of_game : NamedGame) (of_diagram : NamedDiagram) (desk : DeskState)
     (kept : List (Option HarvestView)) : Type 0 where
   pub room_is : limit ≡ room

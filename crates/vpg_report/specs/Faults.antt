@@ -13,8 +13,8 @@ use Rattle.vpg_report.specs.Client.{ClientState, IsLogged}
 use Rattle.vpg_report.specs.declared.fault.ClientFault.{ClientFault}
 use Rattle.vpg_report.specs.declared.fault.ClientFault.TheVariants.{LogFull, Refused, Stray, Memory}
 
--- The log is full, exactly where it has as many calls as it takes, and nothing changes. The desk's own refusal is
--- logged. Out of memory, nothing changes. A stray leaves the desk's game and diagram.
+-- The log is full exactly if it has as many calls as it takes; then nothing changes. The desk's own refusal is logged.
+-- Out of memory, nothing changes. A stray leaves the desk's game and diagram.
 abbrev pub Tells : {F : Type 0} → ℕ → (F → Option Refusal) → ClientState → ℕ → Call → ClientState → ClientFault F →
     Type 0
 Tells room refusal old label call new LogFull = (old.calls ≡ room) × (new ≡ old)
@@ -23,7 +23,7 @@ Tells room refusal old label call new (Refused fault) =
 Tells room refusal old label call new Stray = (new.desk.game ≡ old.desk.game) × (new.desk.diagram ≡ old.desk.diagram)
 Tells room refusal old label call new Memory = new ≡ old
 
--- The same of a commit, whose harvest may be of another game or diagram.
+-- As `Tells`, for a commit of a harvest that may be of another game or diagram.
 abbrev pub CommitTells : ℕ → ClientState → ℕ → HarvestView → ClientState → ClientFault CommitFault → Type 0
 CommitTells room old label harvest new (Refused fault) =
     (b : Bool) ×
@@ -45,7 +45,7 @@ IsAbsent Stray = ⊤
 IsAbsent Memory = ⊤
 IsAbsent _ = ⊥
 
--- What the office's fault is to a client whose front had so many calls before the call, and has so many now.
+-- The client's fault for the office's, if its front had `before` calls before the call and has `now` after it.
 abbrev pub Sorts : {L F : Type 0} → ℕ → ℕ → Fault L F → ClientFault F → Type 0
 Sorts before now told LogFull = (log : List Event) × ((told ≡ office.LogFull log) × (length log ≡ before))
 Sorts before now told (Refused fault) = (told ≡ office.Refused fault) × (now ≡ before + 1)

@@ -1,5 +1,5 @@
--- What the engine holds from one line to the next: tokens, seen by their serials, harvests, and the verdicts that were
--- told last.
+-- What the engine holds from one line to the next: tokens by their serials, harvests, and the verdicts that were
+-- reported last.
 use Rattle.std.specs.Prelude.{ℕ, zero, suc, ◌-◌, max, ◌==◌, if◌then◌else◌, List, [], ◌∷◌, ◌++◌, length, Option, Some, None, slice_get, slice_index_or, slice_set}
 use Rattle.std.specs.List.{reduce}
 use Rattle.vpg_verdict.specs.declared.verdict.Verdict.{Verdict}
@@ -33,7 +33,7 @@ abbrev pub redo_meant : List ℕ → Option ℕ → Option ℕ
 redo_meant redos (Some s) = if_among redos s
 redo_meant redos None = slice_get redos (length redos - 1)
 
--- harvest K, where it is kept
+-- harvest K, if it is kept
 abbrev pub harvest_kept : {H : Type 0} → List (Option H) → ℕ → Option H
 harvest_kept harvests zero = None
 harvest_kept harvests (suc k) = slice_index_or harvests k None
@@ -63,13 +63,13 @@ after_keep held s = record held { undos = without s held.undos }
 abbrev pub after_forget : Held → ℕ → Held
 after_forget held s = record held { redos = without s held.redos }
 
--- the next harvest is kept; harvest K is gone
+-- the next harvest is kept; harvest K is removed
 abbrev pub with_harvest : Held → Harvest → Held
 with_harvest held made = record held { harvests = held.harvests ++ Some made ∷ [] }
 
 abbrev pub without_harvest : Held → ℕ → Held
 without_harvest held k = record held { harvests = slice_set held.harvests (k - 1) None }
 
--- what was told of the vertices is what is seen from now on
+-- the verdicts that were just reported are the ones seen from now on
 abbrev pub with_seen : Held → List Verdict → Held
 with_seen held verdicts = record held { seen = verdicts }

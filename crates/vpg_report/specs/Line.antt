@@ -1,4 +1,4 @@
--- What a line of a script does to the book of an office's desk, what the engine holds, and what it writes.
+-- How a line of a script changes the book of an office's desk and what the engine holds, and what it writes.
 use Rattle.std.specs.Prelude.{◌≡◌, ℕ, ◌+◌, List, length, Result}
 use Rattle.vpg_desk.specs.Book.{Book, Call, Reply, opened}
 use Rattle.vpg_desk.specs.History.{Event, IsLegalFrom, book_after}
@@ -18,8 +18,8 @@ pub record Between : Type 0 where
 abbrev pub begun : Between
 begun = record { book = opened; calls = 0; held = nothing_held }
 
--- A line that begins so makes calls, each with the reply that the book gives at that point, is answered with this text,
--- and leaves the book after them.
+-- A line of this beginning makes calls, each with the reply that the book gives at that point. It is answered with this
+-- text, and leaves the book after the calls.
 abbrev pub beginning : Scene → ℕ → Result Call Own → (Reply → Rest) → Between → List ℕ → Between → Type 0
 beginning scene label first P old text new =
     (calls : List Event) ×

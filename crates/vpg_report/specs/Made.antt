@@ -13,8 +13,8 @@ use Rattle.vpg_settle.specs.Sweeping.{Settles}
 use Rattle.vpg_report.specs.Answers.{most_sweeps, sweeps_of}
 use Rattle.vpg_report.specs.Held.{Held}
 
--- So many sweeps at most, each by this many lifters, and certified guesses made the harvest of the order that was
--- answered. No sweep raises nothing.
+-- At most `most` sweeps, each by this many lifters, and certified guesses made the harvest of the order in the reply.
+-- Without sweeps nothing is raised.
 pub record IsMadeBy (setting : Setting) (lifters most : ℕ) (decisions : List Decision) (hopeful dual : List ℕ)
     (made : Harvest) : Type 0 where
   pub order : OrderView
@@ -29,21 +29,21 @@ pub record IsMadeBy (setting : Setting) (lifters most : ℕ) (decisions : List D
   pub settles : Settles lifters sweeps order harvest
   pub none : most ≡ 0 → (which : Which) → harvest_table which harvest ≡ order_table which order
 
--- what was committed, of the order that was answered
+-- a commit's harvest was made from the order in the reply
 abbrev pub IsCommittedBy : Setting → ℕ → ℕ → Reply → Call → Type 0
 IsCommittedBy setting lifters most (Ordered decisions hopeful dual) (Commit made) =
     IsMadeBy setting lifters most decisions hopeful dual made
 IsCommittedBy setting lifters most _ _ = ⊤
 
--- what was kept last, of the order that was answered
+-- the harvest that was kept last was made from the order in the reply
 abbrev pub IsKeptBy : Setting → ℕ → ℕ → Reply → Held → Type 0
 IsKeptBy setting lifters most (Ordered decisions hopeful dual) held =
     (before : List (Option Harvest)) × (made : Harvest) ×
     ((held.harvests ≡ before ++ Some made ∷ []) × IsMadeBy setting lifters most decisions hopeful dual made)
 IsKeptBy setting lifters most _ held = ⊤
 
--- Of a command's calls, and what is held after them: what a settle committed, and what a harvest kept, was made so. (Of
--- the others there is nothing to say.)
+-- The harvest that a settle committed, and the one that a harvest kept, were made so. (Of other commands it says
+-- nothing.)
 abbrev pub AreMadeBy : Setting → ℕ → script.Command → List Event → Held → Type 0
 AreMadeBy setting lifters (script.Settle n) (order ∷ commit ∷ calls) held =
     IsCommittedBy setting lifters (sweeps_of n) order.reply commit.call

@@ -1,4 +1,5 @@
--- What requests ask of a desk, and how its replies are written: as an engine does it, and what is asked of the page.
+-- The calls that requests make at a desk and the texts of its replies: those of an engine, and those of questions about
+-- the page.
 use Rattle.std.specs.Prelude.{◌≡◌, ℕ, ◌+◌, ◌==◌, Bool, true, false, [], length, Option, Some, None, Result, Ok, Err}
 use Rattle.vpg_features.specs.Names.{index_of}
 use Rattle.vpg_desk.specs.Book.{Call, Order, Reply, Ordered}
@@ -20,22 +21,22 @@ abbrev pub query_or : Own → (ℕ → Query) → Option ℕ → Result Query Ow
 query_or own query None = Err own
 query_or own query (Some place) = Ok (query place)
 
--- whether the game was made of a system over so many features
+-- whether the game was made of a system over this many features
 abbrev pub is_over : ℕ → Option Behaviour → Bool
 is_over features None = false
 is_over features (Some behaviour) = behaviour.features == features
 
--- whether a question has what it needs beside the page: a trace needs such a system
+-- whether a question has all that it needs beside the page: a trace needs such a system
 abbrev pub is_answerable : ℕ → Option Behaviour → VertexQuestion → Bool
 is_answerable features behaviour questions.Trace = is_over features behaviour
 is_answerable features behaviour _ = true
 
--- what is asked of the vertex at a place, if that can be answered
+-- the query about the vertex at a place, if it can be answered
 abbrev pub query_if : Bool → VertexQuestion → Option ℕ → Result Query Own
 query_if false question place = Err NoSystem
 query_if true question place = query_or NoVertex (queries.OfVertex question) place
 
--- What is asked of the page, by places in the game and the diagram; or what is named there that they lack. A trace is
+-- The inquiry as a query, by places in the game and the diagram; or the reason for a name that they lack. A trace is
 -- first of all refused without a system over the diagram's features.
 abbrev pub query_of : Option Behaviour → Scene → script.Inquiry → Result Query Own
 query_of behaviour scene (script.OfVertex question vertex) =
@@ -46,11 +47,11 @@ query_of behaviour scene (script.OfChoice value name) =
     query_or NoFeature (λ f. queries.OfChoice f value) (index_of scene.names name)
 query_of behaviour scene (script.OfPage question) = Ok (queries.OfPage question)
 
--- how far it is followed
+-- the limits of an answer
 abbrev pub answer_limits : Limits
 answer_limits = record { budget = 134217728; rounds = 1000; trials = 10000 }
 
--- what is asked of the page is answered of an order
+-- a query takes an order
 abbrev pub order_or : Result Query Own → Result Call Own
 order_or (Err own) = Err own
 order_or (Ok query) = Ok Order
@@ -60,7 +61,7 @@ abbrev pub first_call : Option Behaviour → Scene → Held → script.Command �
 first_call behaviour scene held (script.Ask inquiry) = order_or (query_of behaviour scene inquiry)
 first_call behaviour scene held command = engine.first_call scene held command
 
--- what is asked is answered of an order
+-- the query is answered from an order
 abbrev pub TellsAnswer : Option Behaviour → Scene → Held → script.Inquiry → Reply → Rest
 TellsAnswer behaviour scene held inquiry (Ordered decisions hopeful dual) calls text new =
     ((query : Query) ×
@@ -69,7 +70,7 @@ TellsAnswer behaviour scene held inquiry (Ordered decisions hopeful dual) calls 
     (calls ≡ []) × (new ≡ held)
 TellsAnswer behaviour scene held inquiry _ calls text new = ⊥
 
--- after the reply to a command's first call; so many calls were made then
+-- the rest after the reply to a command's first call, with `made` calls made by then
 abbrev pub Continues : Option Behaviour → Scene → Held → (made : ℕ) → ℕ → script.Command → Reply → Rest
 Continues behaviour scene held made label (script.Ask inquiry) reply calls text new =
     TellsAnswer behaviour scene held inquiry reply calls text new
@@ -80,8 +81,8 @@ abbrev pub Begins : Option Behaviour → Scene → Held → (made : ℕ) → ℕ
 Begins behaviour scene held made label command first calls text new =
     engine.Begins scene held made label (Continues behaviour scene held (made + 1) label command) first calls text new
 
--- While this is held, and so many calls were made before, a request makes these calls with these replies, gives this
--- answer, and leaves so much held.
+-- With this held and `made` calls made before, the request makes these calls with these replies, has this answer, and
+-- leaves this held.
 abbrev pub Serves : Option Behaviour → Scene → Held → (made : ℕ) → Request → Rest
 Serves behaviour scene held made request calls text new =
     Begins behaviour scene held made request.label request.command (first_call behaviour scene held request.command)

@@ -1,9 +1,9 @@
--- What the result of a run says.
+-- The facts that a run's result states.
 use Rattle.std.specs.Prelude.{Result, Ok, Err, ⊤}
 use Rattle.vpg_serving.specs.declared.fault.RunFault.{RunFault}
 use Rattle.vpg_serving.specs.declared.fault.RunFault.TheVariants as stops
 
--- This holds of a run that opened an office: of each but one that ends in Open, or in Memory, which may have come
+-- This holds of each run that opened an office: of each except one that ends in Open, or in Memory, which may have come
 -- before.
 abbrev pub Opens : {A : Type 0} → Result A RunFault → Type 0 → Type 0
 Opens (Err (stops.Open fault)) P = ⊤

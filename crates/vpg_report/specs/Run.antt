@@ -1,4 +1,4 @@
--- What a run of a script does to the book of an office's desk, what the engine holds, and what it writes.
+-- How a run of a script changes the book of an office's desk and what the engine holds, and what it writes.
 use Rattle.std.specs.Prelude.{◌≡◌, ℕ, ◌+◌, Option, List, [], ◌++◌, length}
 use Rattle.vpg_desk.specs.History.{Event, IsLegalFrom, book_after}
 use Rattle.vpg_desk.specs.Desk.{family_of}
@@ -17,8 +17,8 @@ use Rattle.vpg_script.specs.Script.{Request}
 use Rattle.vpg_texts.specs.Scene.{Scene, scene_of}
 use Rattle.vpg_report.specs.Requests.{Serves}
 
--- Where the game was made of this, a request makes calls, each with the reply that the book gives at that point, is
--- answered with this text, and leaves the book after them.
+-- If the game was made of this, a request makes calls, each with the reply that the book gives at that point. It is
+-- answered with this text, and leaves the book after the calls.
 abbrev pub calling : Option Behaviour → Scene → Machine Between
 calling behaviour scene old request text new =
     (calls : List Event) ×
@@ -26,7 +26,8 @@ calling behaviour scene old request text new =
     IsLegalFrom (family_of (setting_in scene)) old.book calls
     × (new.book ≡ book_after (family_of (setting_in scene)) old.book calls) × (new.calls ≡ old.calls + length calls))
 
--- The same, and what is committed or kept was made by at most the line's number of sweeps, each by this many lifters.
+-- As `calling`, and what is committed or kept was made by at most the line's number of sweeps, each by this many
+-- lifters.
 abbrev pub answering : Option Behaviour → Scene → ℕ → Machine Between
 answering behaviour scene lifters old request text new =
     (so : calling behaviour scene old request text new) ×
@@ -38,7 +39,7 @@ answering behaviour scene lifters old request text new =
 abbrev pub as_meant : {S : Type 0} → (Request → Request) → Machine S → Machine S
 as_meant meaning serves old request text new = serves old (meaning request) text new
 
--- a scene, the names by which lines call its vertices, and what its game was made of
+-- a scene, the names that lines may give its vertices, and the system that its game was made of
 pub record Called : Type 0 where
   pub scene : Scene
   pub callings : List Calling
@@ -52,7 +53,7 @@ called_at scene context = record { scene = scene; callings = context.callings; b
 abbrev pub called_in : NamedGame → NamedDiagram → Context → Called
 called_in game diagram context = called_at (scene_of game diagram) context
 
--- A line is answered as the one in which the identifier of each vertex stands in place of its name.
+-- A line is answered as if the identifier of each vertex stood in place of its name.
 abbrev pub answering_called : Called → ℕ → Machine Between
 answering_called called lifters =
     as_meant (meant called.callings called.scene.names) (answering called.behaviour called.scene lifters)
@@ -73,9 +74,8 @@ asking behaviour scene old request text new =
     (calls : List Event) ×
     (Serves behaviour scene old.held (length old.calls) request calls text new.held × (new.calls ≡ old.calls ++ calls))
 
--- What is written for lines without a fault are the answers to the calls of a legal history, into which lawful harvests
--- alone were handed. These are exactly the calls of these lines in their order, whatever they are taken to mean, and
--- they leave the book.
+-- The texts written for lines without a fault answer the calls of a legal history, with lawful harvests only. These are
+-- exactly the calls of these lines in their order, under any meaning of the lines, and they leave the book.
 abbrev pub AnswersAreHistories : Type 0
 AnswersAreHistories =
     (meaning : Request → Request) (behaviour : Option Behaviour) (scene : Scene) (lifters : ℕ)

@@ -1,4 +1,4 @@
--- What a run of a script on a family reads and writes, and how its end is told.
+-- The text that a run of a script on a family reads and writes, and how its end is reported.
 use Rattle.std.specs.Prelude.{◌≡◌, ℕ, List, Option, Some, Result, Ok, Err, slice_get, ⊤}
 use Rattle.std.specs.String.{string_bytes}
 use Rattle.vpg_diagram.specs.DiagramText.{NamedDiagram}
@@ -19,40 +19,40 @@ use Rattle.vpg_serving.specs.declared.serving.Ending.{Ending}
 use Rattle.vpg_family.specs.declared.fault.Fault.{Fault}
 use Rattle.vpg_family.specs.declared.fault.Fault.TheVariants as told
 
--- what is told of an office that isn't opened
+-- the fault that reports an office that isn't opened
 abbrev pub TellsOpening : List (List ℕ) → OpenFault → Fault → Type 0
 TellsOpening names opens.AtLimit fault = fault ≡ told.AtLimit
 TellsOpening names (opens.Conflict f) fault = TellsConflict names f fault
 TellsOpening names opens.Memory fault = fault ≡ told.Memory
 
--- An office on the family answered the lines that were read in a manner, in this context, sweeping with this many
--- lifters, and ended so; what was read, and what was written, is known where the devices tell.
+-- An office on the family answered the lines that were read, in this manner and context and with this many lifters, and
+-- ended so. The texts read and written are known if the devices report them.
 pub record Ends (manner : Manner) (diagram : NamedDiagram) (game : NamedGame) (context : Context) (lifters : ℕ)
     (script rest before after : Option (List ℕ)) (ended : Result Ending RunFault) : Type 0 where
   pub answered : OutcomeAs manner (answering_called (called_in game diagram context) lifters)
       (IsOpenRefusal game diagram) begun script rest before after ended
   pub opened : Opens ended (IsOpened game diagram)
 
--- What is told of a run's end, with the script before and after the run, and what stood in the output before and after.
+-- The run has this result, with the script before and after the run, and the output before and after.
 abbrev pub IsRun : Manner → NamedDiagram → NamedGame → Context → ℕ → (script rest before after : Option (List ℕ)) → Result Ending Fault → Type 0
 IsRun manner diagram game context lifters script rest before after (Ok ending) = Ends manner diagram game context lifters script rest before after (Ok ending)
 IsRun manner diagram game context lifters script rest before after (Err (told.Line n fault)) = Ends manner diagram game context lifters script rest before after (Err (stops.Line n fault))
 IsRun manner diagram game context lifters script rest before after (Err told.Read) = Ends manner diagram game context lifters script rest before after (Err stops.Read)
 IsRun manner diagram game context lifters script rest before after (Err told.Write) = Ends manner diagram game context lifters script rest before after (Err stops.Write)
 IsRun manner diagram game context lifters script rest before after (Err told.AtLimit) = Ends manner diagram game context lifters script rest before after (Err (stops.Open opens.AtLimit))
--- the root is named
+-- the fault names the root
 IsRun manner diagram game context lifters script rest before after (Err (told.Conflict name)) =
     Ends manner diagram game context lifters script rest before after (Err (stops.Open (opens.Conflict 0))) × (slice_get diagram.names 0 ≡ Some (string_bytes name))
 IsRun manner diagram game context lifters script rest before after (Err told.Memory) = Ends manner diagram game context lifters script rest before after (Err stops.Memory)
 IsRun manner diagram game context lifters script rest before after (Err told.Stray) = Ends manner diagram game context lifters script rest before after (Err stops.Stray)
 IsRun manner diagram game context lifters script rest before after (Err fault) = ⊥
 
--- This holds of each run but one whose script could not be read to its end.
+-- This holds of each run except one that could not read its script to the end.
 abbrev pub UnlessScriptFails : Result Ending Fault → Type 0 → Type 0
 UnlessScriptFails (Err told.Read) P = ⊤
 UnlessScriptFails result P = P
 
--- This holds of each run but one whose answers could not be written.
+-- This holds of each run except one that could not write its answers.
 abbrev pub UnlessOutputFails : Result Ending Fault → Type 0 → Type 0
 UnlessOutputFails (Err told.Write) P = ⊤
 UnlessOutputFails result P = P

@@ -1,4 +1,4 @@
--- What a server answers, also where the page is asked about, by places; and how an office isn't opened.
+-- The answers of a server, also to questions about the page, by places; and why an office isn't opened.
 use Rattle.std.specs.Prelude.{◌≡◌, ℕ, ◌+◌, Option, List, Result, Ok, Err}
 use Rattle.vpg_diagram.specs.DiagramText.{NamedDiagram}
 use Rattle.vpg_game.specs.Game.{NamedGame}
@@ -12,7 +12,7 @@ use Rattle.vpg_checking.specs.Behaviours.{Behaviour}
 use Rattle.vpg_report.specs.Requests.{Continues, first_call}
 use Rattle.vpg_script.specs.Script.{Request}
 
--- what is asked by places, or what is missing
+-- the query by places, or the kind of name that is missing
 abbrev pub IsQuery : Result Query Own → Result Query Missing → Type 0
 IsQuery asked (Ok query) = asked ≡ Ok query
 IsQuery asked (Err missing) = asked ≡ Err (own_of missing)
@@ -23,7 +23,7 @@ AnswersTo behaviour old request before after new =
     AnswersBy old request.label (first_call behaviour (scene_at old) old.held request.command)
     (Continues behaviour (scene_at old) old.held (old.client.calls + 1) request.label request.command) before after new
 
--- why an office isn't opened, but for out of memory, which is reported otherwise
+-- why an office isn't opened; out of memory is reported separately
 abbrev pub IsOpenRefusal : NamedGame → NamedDiagram → OpenFault → Type 0
 IsOpenRefusal game diagram Memory = ⊥
 IsOpenRefusal game diagram fault = IsOpenFault game diagram fault

@@ -1,4 +1,4 @@
--- What the desk of a scene is opened with.
+-- The setting of a scene's desk.
 use Rattle.vpg_desk.specs.Setting.{Setting}
 use Rattle.vpg_texts.specs.Scene.{Scene}
 

@@ -1,5 +1,5 @@
--- Runs in which each settle is answered `settled`, no answer about the page has a doubt, and each harvest that a line
--- keeps passes `check`.
+-- Runs with each settle answered `settled`, no doubt in an answer about the page, and each harvest that a line keeps
+-- passing `check`.
 use Rattle.std.specs.Prelude.{◌≡◌, ℕ, List, IfSome, Option, Some, Result, true, ⊤}
 use Rattle.std.specs.List.{AllByRecursion}
 use Rattle.vpg_answers.specs.Answers.{HasDoubt}
@@ -17,7 +17,7 @@ use Rattle.vpg_texts.specs.Scene.{Scene}
 use Rattle.vpg_serving.specs.declared.fault.RunFault.{RunFault}
 use Rattle.vpg_report.specs.Setting.{setting_in}
 
--- a settle is answered `settled`, and what is asked of the page without a doubt: no limit was met
+-- a settle is answered `settled`, and a question about the page without a doubt: no limit was met
 abbrev pub TellsSettle : script.Command → List ℕ → Type 0
 TellsSettle (script.Settle sweeps) text = (n : ℕ) × (text ≡ settled_text true n)
 TellsSettle (script.Ask inquiry) text = ¬ (HasDoubt text)
@@ -33,8 +33,8 @@ abbrev pub settling : Option Behaviour → Scene → Machine Between
 settling behaviour scene old request text new =
     calling behaviour scene old request text new × TellsSettle request.command text × AreChecked scene new.held
 
--- Then the text, the book, the number of calls and what is held are one function of the scene, of the lines and of what
--- these are taken to mean, whichever lawful harvests the lines made.
+-- In such runs the text, the book, the calls and what is held are one function of the scene, the lines and their
+-- meaning, whichever lawful harvests the lines made.
 abbrev pub SettledAnswersAreOne : Type 0
 SettledAnswersAreOne =
     (meaning : Request → Request) (behaviour : Option Behaviour) (scene : Scene) (lines : List (List ℕ))
@@ -43,8 +43,8 @@ SettledAnswersAreOne =
     Answered (as_meant meaning (settling behaviour scene)) begun lines other newer →
     (text ≡ other) × (new ≡ newer)
 
--- So are what a run writes and its result, where it goes through a known script (it was opened then, so no cause of a
--- refusal matters).
+-- So are the text that a run writes and its result, if it goes through a known script. (It was opened then, so no cause
+-- of a refusal matters.)
 abbrev pub SettledRunsAreOne : Type 0
 SettledRunsAreOne =
     (meaning : Request → Request) (behaviour : Option Behaviour) (scene : Scene) (script before after later : List ℕ)

@@ -1,4 +1,4 @@
--- Who wins, by what a run writes. This project's own.
+-- The winners, by the text that a run writes. This project's own.
 use Rattle.std.specs.Prelude.{◌≡◌, ◌⊎◌, ℕ, ◌<◌, Bool, Option, List, ◌++◌, length, map, Some, flat_map, slice_index, decimal, ⊤}
 use Rattle.std.specs.List.{range_with_len}
 use Rattle.vpg_diagram.specs.DiagramText.{NamedDiagram}
@@ -19,8 +19,8 @@ use Rattle.vpg_report.specs.Answers.{refused_line, vertex_of}
 use Rattle.vpg_report.specs.Run.{Between, begun, answering, as_meant}
 use Rattle.vpg_report.specs.Setting.{setting_in}
 
--- The verdicts of all vertices are true of the page: from a hopeless one Odd wins in every product that is left, from a
--- sure one Even does, and none is both.
+-- The verdicts of all vertices are true of the page: from a hopeless one Odd wins in every product left, from a sure
+-- one Even does, and none is both.
 pub record AreTrue (scene : Scene) (page : List Entry) (verdicts : List Verdict) : Type 0 where
   pub size : length verdicts ≡ length scene.game
   pub each : (v : ℕ) → v < length scene.game →
@@ -38,7 +38,7 @@ verdict_line scene hopeful dual verdicts v =
 abbrev pub verdict_lines : Scene → (hopeful dual : List ℕ) → List Verdict → List ℕ → List ℕ
 verdict_lines scene hopeful dual verdicts vertices = flat_map (verdict_line scene hopeful dual verdicts) vertices
 
--- What the answer to a command says of vertices are these verdicts.
+-- The answer to a command says these verdicts of vertices.
 abbrev pub SaysVerdicts : Scene → script.Command → List Verdict → List ℕ → Type 0
 -- it ends with a line for each vertex
 SaysVerdicts scene (script.Look script.Show) verdicts text =
@@ -49,11 +49,11 @@ SaysVerdicts scene (script.Look (script.Vertices named)) verdicts text =
     (vertices : List ℕ) × (hopeful : List ℕ) × (dual : List ℕ) ×
     (map (vertex_of scene) named ≡ map Some vertices) ×
     (text ≡ verdict_lines scene hopeful dual verdicts vertices)
--- it compares the vertex's verdict with what is asserted
+-- it compares the vertex's verdict with the asserted ones
 SaysVerdicts scene (script.Look (script.Assert (script.Verdicts named claims))) verdicts text =
     (v : ℕ) × (settled : Bool) × (vertex_of scene named ≡ Some v) ×
     (text ≡ verdicts_text settled (seen_at verdicts v).hopeless (seen_at verdicts v).sure claims)
--- it tells those that are other than some that were told before
+-- it lists those that differ from the ones reported before
 SaysVerdicts scene script.Changed verdicts text =
     (seen : List Verdict) × (text ≡ changed_text scene.identifiers seen verdicts)
 SaysVerdicts scene _ verdicts text = ⊤
@@ -73,8 +73,8 @@ abbrev pub naming : Option Behaviour → Scene → ℕ → Machine Between
 naming behaviour scene lifters old request text new =
     answering behaviour scene lifters old request text new × NamesWinners scene old.book.present request.command text
 
--- What a run of an office writes in answer to `show`, `assert` and `changed` names the winners: the verdicts that it
--- says are true of the page at that point, whatever the lines are taken to mean.
+-- The answers of an office's run to `show`, `assert` and `changed` name the winners. The verdicts that they say are
+-- true of the page at that point, under any meaning of the lines.
 abbrev pub AnswersNameWinners : Type 0
 AnswersNameWinners =
     (meaning : Request → Request) (behaviour : Option Behaviour) (game : NamedGame) (diagram : NamedDiagram)

@@ -1,4 +1,4 @@
-//! A server of scripts: an engine, and what is asked of the page beside it.
+//! A server of scripts: an engine, with questions about the page.
 ghost use Rattle.std.specs.Prelude.{◌≡◌, ◌≤◌, ◌++◌, ℕ, List, OnOk};
 ghost use Rattle.vpg_report.specs.Server.{AnswersTo};
 ghost use Rattle.vpg_report.specs.Run.{answering};
@@ -19,15 +19,15 @@ use vpg_office::Terms;
 use vpg_script::{Command, Inquiry, Request, meant};
 use vpg_serving::{ServeFault, Server};
 
-/// How far a question about the page is followed: 2^27 edges and vertices looked at for the bounds of a trial's table,
-/// 1,000 rounds of lifts where these do not settle it, and 10,000 trials of a search.
+/// The limits of a question about the page. The bounds of a trial's table may look at 2^27 edges and vertices; if they
+/// do not settle it, it has 1,000 rounds of lifts. A search has 10,000 trials.
 const LIMITS: Limits = Limits {
     budget: 134_217_728,
     rounds: 1_000,
     trials: 10_000,
 };
 
-/// Answers what is asked of the present page.
+/// Answers a question about the present page.
 fn ask<L: Terms, R: Wait>(
     engine: &mut Engine<L>,
     rt: &R,
@@ -53,7 +53,7 @@ fn ask<L: Terms, R: Wait>(
     Ok(())
 }
 
-/// Answers a request: the engine's, or a question of the present page.
+/// Answers a request: the engine's, or a question about the present page.
 fn answer<L: Terms, T: Threads + Wait + Sync>(
     engine: &mut Engine<L>,
     rt: &T,
@@ -76,8 +76,8 @@ fn answer<L: Terms, T: Threads + Wait + Sync>(
     }
 }
 
-/// An engine that is asked about the page too, and what lines may speak of beside the family. It can't be let go, as
-/// the engine.
+/// An engine that also answers questions about the page, with the context of lines. It can't be dropped, as the engine
+/// can't.
 pub(crate) struct Answering<'c, L: Terms> {
     pub(crate) engine: Engine<L>,
     pub(crate) context: &'c Context,

@@ -1,4 +1,4 @@
-//! What the office's answers are to a client: its front has to have grown by the one call.
+//! Turns the office's answers into the client's: the front has to have grown by exactly one call.
 ghost use Rattle.std.specs.Prelude.{◌≡◌, ◌+◌, ◌≤◌, None, Some, Ok, length, IfOk, IfErr, OnOk, MatchResult};
 ghost use Rattle.vpg_report.specs.Faults.{Sorts};
 
@@ -7,7 +7,8 @@ use crate::fault::{ClientFault, Returned, Token, sorted};
 use vpg_desk::{RedoFault, UndoFault};
 use vpg_office::{Fault, Front, Redo, Terms, Undo};
 
-/// What a session made, where the front had so many calls before the call. It comes back where the call strayed.
+/// Returns the value that a session made, if the front has one call more than `calls`. The value comes back if the call
+/// strayed.
 pub(crate) fn answered<L: Terms, T, F: Drop>(
     answer: Result<T, Fault<L, F>>,
     calls: usize,
@@ -39,7 +40,7 @@ pub(crate) fn answered<L: Terms, T, F: Drop>(
     }
 }
 
-/// What a session saw, where the front had so many calls before the call.
+/// Returns the value that a session read, if the front has one call more than `calls`.
 pub(crate) fn looked<L: Terms, T: Drop, F: Drop>(
     answer: Result<T, Fault<L, F>>,
     calls: usize,
@@ -65,8 +66,8 @@ pub(crate) fn looked<L: Terms, T: Drop, F: Drop>(
     }
 }
 
-/// What a session answered to what it was handed, where the front had so many calls before the call. That comes back
-/// unless it was taken.
+/// Returns a session's answer to a value that was handed in, if the front has one call more than `calls`. The value
+/// comes back unless it was taken.
 pub(crate) fn handed_in<L: Terms, T: Drop, F: Drop, V>(
     answer: Result<T, vpg_office::Returned<L, F, V>>,
     calls: usize,
@@ -98,7 +99,7 @@ pub(crate) fn handed_in<L: Terms, T: Drop, F: Drop, V>(
     }
 }
 
-/// What a session answered to an undo, where the front had so many calls before the call. A token comes back with each
+/// Returns a session's answer to an undo, if the front has one call more than `calls`. A token comes back with each
 /// refusal.
 pub(crate) fn undone<L: Terms>(
     answer: Result<Redo<L>, vpg_office::Returned<L, UndoFault, Undo<L>>>,
@@ -131,7 +132,7 @@ pub(crate) fn undone<L: Terms>(
     }
 }
 
-/// What a session answered to a redo, where the front had so many calls before the call. A token comes back with each
+/// Returns a session's answer to a redo, if the front has one call more than `calls`. A token comes back with each
 /// refusal.
 pub(crate) fn redone<L: Terms>(
     answer: Result<Undo<L>, vpg_office::Returned<L, RedoFault, Redo<L>>>,

@@ -35,16 +35,17 @@ fn is_over(features: usize, behaviour: &Option<Behaviour>) -> bool
 }
 
 /// Whether what a question needs beside the family is there: a trace needs a system.
-fn is_answerable(features: usize, behaviour: &Option<Behaviour>, question: VertexQuestion) -> bool
-    ensures { result ≡ is_answerable features behaviour.now question }
+fn is_answerable(behaviour: &Option<Behaviour>, diagram: &Diagram, question: VertexQuestion) -> bool
+    ensures { result ≡ is_answerable (length diagram.now.names) behaviour.now question }
 {
     match question {
-        VertexQuestion::Trace => is_over(features, behaviour),
+        VertexQuestion::Trace => is_over(diagram.names().len(), behaviour),
         _ => true,
     }
 }
 
 /// What is asked of a vertex, or what it needs that isn't there.
+#[tactic(auto, using(crate::proofs::Inquired::has_system, crate::proofs::Inquired::not_asked, crate::proofs::Inquired::none_asked, crate::proofs::Inquired::one_asked))]
 fn query_of_vertex(
     behaviour: &Option<Behaviour>,
     game: &GuardedGame,
@@ -56,12 +57,13 @@ fn query_of_vertex(
         (OfVertex question (vertex_shown named.entry))) result }
     ensures within { IfOk result (IsWithin behaviour.now (length game.now.vertices) (length diagram.now.names)) }
 {
-    if !is_answerable(diagram.names().len(), behaviour, question) {
-        return Err(Missing::System);
-    }
-    match vertex_at(game, named) {
-        Some(vertex) => Ok(Query::OfVertex { question, vertex }),
-        None => Err(Missing::Vertex),
+    if is_answerable(behaviour, diagram, question) {
+        match vertex_at(game, named) {
+            Some(vertex) => Ok(Query::OfVertex { question, vertex }),
+            None => Err(Missing::Vertex),
+        }
+    } else {
+        Err(Missing::System)
     }
 }
 

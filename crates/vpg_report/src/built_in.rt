@@ -1,7 +1,7 @@
-//! The family that is built in.
+//! The built-in family.
 
-/// The diagram that is built in: a root with two features, each of which may be left out.
+/// The built-in diagram: a root with two features, each of which may be left out.
 pub const DIAGRAM: &str = "root r\noptional r f\noptional r g\n";
 
-/// The game that is built in: two vertices, each with an edge to itself and one to the other.
+/// The built-in game: two vertices, each with an edge to itself and one to the other.
 pub const GAME: &str = "parity 1; 0 1 0 1[f],0; 1 2 1 0[g],1;";

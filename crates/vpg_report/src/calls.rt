@@ -1,4 +1,4 @@
-//! The calls of a client, each that of the desk under the label as session number.
+//! The calls of a client. Each is that of the desk, under the label as session number.
 ghost use Rattle.std.specs.Arc.{arc_value};
 ghost use Rattle.std.specs.Prelude.{◌≡◌, true, None, Some, length, IfOk, IfErr, OnOk};
 ghost use Rattle.vpg_game.specs.Game.{graph_of};
@@ -28,8 +28,8 @@ use vpg_office::{Never, Redo, Terms, Undo};
 use vpg_trail::Page;
 
 impl<L: Terms> Client<L> {
-    /// Decides a feature in or out, as `Desk::decide`. The token stands for the page that was present. It comes back
-    /// where the decision strayed.
+    /// Decides a feature in or out, as `Desk::decide`. The token stands for the page that was present. If the decision
+    /// strayed, the token comes back with the fault.
     pub fn decide<R: Wait>(
         &mut self,
         rt: &R,
@@ -61,8 +61,8 @@ impl<L: Terms> Client<L> {
         answered(answer, calls, &self.front)
     }
 
-    /// Takes the decision on a feature back, as `Desk::retract`. The token stands for the page that was present. It
-    /// comes back where the call strayed.
+    /// Retracts the decision on a feature, as `Desk::retract`. The token stands for the page that was present. If the
+    /// call strayed, the token comes back with the fault.
     pub fn retract<R: Wait>(
         &mut self,
         rt: &R,
@@ -92,8 +92,8 @@ impl<L: Terms> Client<L> {
         answered(answer, calls, &self.front)
     }
 
-    /// Takes the token's change back, as `Desk::undo`: the page that the token stands for is present again. A refusal
-    /// gives the token back; a stray gives it or the one that it was exchanged for.
+    /// Undoes the token's change, as `Desk::undo`: the page that the token stands for is present again. A refusal
+    /// returns the token; a stray returns it or its replacement.
     pub fn undo<R: Wait>(
         &mut self,
         rt: &R,
@@ -121,8 +121,8 @@ impl<L: Terms> Client<L> {
         undone(answer, calls, &self.front)
     }
 
-    /// Makes the token's change again, as `Desk::redo`: the page that the token stands for is present again. A refusal
-    /// gives the token back; a stray gives it or the one that it was exchanged for.
+    /// Redoes the token's change, as `Desk::redo`: the page that the token stands for is present again. A refusal
+    /// returns the token; a stray returns it or its replacement.
     pub fn redo<R: Wait>(
         &mut self,
         rt: &R,
@@ -150,7 +150,7 @@ impl<L: Terms> Client<L> {
         redone(answer, calls, &self.front)
     }
 
-    /// Spends a token, as `Desk::keep`. The token comes back unless it was spent.
+    /// Gives an undo up, as `Desk::keep`. The token comes back unless it was spent.
     pub fn keep<R: Wait>(
         &mut self,
         rt: &R,
@@ -174,7 +174,7 @@ impl<L: Terms> Client<L> {
         handed_in(answer, calls, &self.front)
     }
 
-    /// Spends a token, as `Desk::forget`. The token comes back unless it was spent.
+    /// Gives a redo up, as `Desk::forget`. The token comes back unless it was spent.
     pub fn forget<R: Wait>(
         &mut self,
         rt: &R,
@@ -199,7 +199,7 @@ impl<L: Terms> Client<L> {
         handed_in(answer, calls, &self.front)
     }
 
-    /// What lifters take along, as `Desk::order`.
+    /// Returns an order of the present page, as `Desk::order`.
     pub fn order<R: Wait>(
         &mut self,
         rt: &R,
@@ -254,8 +254,8 @@ impl<L: Terms> Client<L> {
         handed_in(answer, calls, &self.front)
     }
 
-    /// As `commit`, of a harvest whose order has this desk's game and diagram, as those of `order` have: they are not
-    /// compared.
+    /// Commits as `commit` does, for a harvest of an order with this desk's game and diagram, as those of `order` have:
+    /// they are not compared.
     pub fn commit_own<R: Wait>(
         &mut self,
         rt: &R,
@@ -289,7 +289,7 @@ impl<L: Terms> Client<L> {
         handed_in(answer, calls, &self.front)
     }
 
-    /// Whether both tables of the present page are progress tables.
+    /// Returns whether both tables of the present page are progress tables.
     pub fn settled<R: Wait>(&mut self, rt: &R, label: u32) -> Result<bool, ClientFault<Never>>
         ensures accepted { IfOk result
             (λ settled. IsLogged L.limit self.old label book.Settled (book.IsSettled settled) self.new) }
@@ -304,8 +304,8 @@ impl<L: Terms> Client<L> {
         looked(answer, calls, &self.front)
     }
 
-    /// The present page, as `Desk::page`, and the games that its decisions leave, as `Desk::games`. It shares the games
-    /// with the desk.
+    /// Returns the present page, as `Desk::page`, and the games that its decisions leave, as `Desk::games`. It shares
+    /// the games with the desk.
     pub fn page_with_games<R: Wait>(
         &mut self,
         rt: &R,

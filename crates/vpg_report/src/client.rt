@@ -1,4 +1,4 @@
-//! The client: an office, the one front that its sessions are lent, and the sessions by their labels.
+//! The client: an office, the one front that its sessions share, and the sessions by their labels.
 ghost use Rattle.std.specs.Arc.{arc_value};
 ghost use Rattle.std.specs.Prelude.{◌≡◌, ◌+◌, ◌<◌, ◌≤◌, ◌↔◌, ℕ, [], length, slice_index, true, IfOk, IfErr, IfSome, OnOk};
 ghost use Rattle.vpg_diagram.specs.FeatureDiagram.{feature_count};
@@ -18,7 +18,7 @@ use vpg_game::GuardedGame;
 use vpg_office::{Front, NotOpened, Office, Redo, Session, Site, Terms, Undo};
 
 /// The one caller of an office, for labels from 1 to 1,024. Contracts see the desk that it serves and the number of
-/// calls in the log. A client can't be let go: `end` ends it.
+/// calls in the log. A client can't be dropped: `end` ends it.
 pub struct Client<L: Terms> {
     pub(crate) office: Office<L>,
     pub(crate) front: Front<L>,
@@ -41,8 +41,8 @@ impl<L: Terms> Model for Client<L> {
 }
 
 impl<L: Terms> Client<L> {
-    /// A client of an office of its own, whose log takes `room` calls. Refused as `Office::open`; what was handed in
-    /// comes back.
+    /// Returns the client of a new office with a log of `room` calls. Refused as `Office::open`; the arguments come
+    /// back then.
     pub fn open<R: Wait>(
         rt: &R,
         alloc: Global,
@@ -75,8 +75,8 @@ impl<L: Terms> Client<L> {
         }
     }
 
-    /// Spends the tokens handed in, and ends the office. Answers how many further tokens are out, or `None` where the
-    /// log has calls that this client didn't make.
+    /// Spends the tokens handed in, and ends the office. Returns how many further tokens are out, or `None` if the log
+    /// has calls that this client didn't make.
     pub fn end<R: Wait>(self, rt: &R, undos: Vec<Undo<L>>, redos: Vec<Redo<L>>) -> Option<u64>
         ensures { IfSome result (λ further. further + length undos.items + length redos.items ≡ self.desk.book.tokens) }
     {
@@ -96,8 +96,8 @@ impl<L: Terms> Client<L> {
     }
 }
 
-/// The place of a label's session. Where the label is new, the sessions up to it are joined. A label that no session
-/// bears strays.
+/// Returns the place of a label's session. If the label is new, joins the sessions up to it. `Stray` if no session has
+/// this label.
 pub(crate) fn seat<L: Terms, R: Wait, F>(
     rt: &R,
     office: &Office<L>,
@@ -121,7 +121,7 @@ pub(crate) fn seat<L: Terms, R: Wait, F>(
     }
 }
 
-/// Joins one session more, which has to find the log as the client left it.
+/// Joins one more session, which has to find the log as the client left it.
 fn join<L: Terms, R: Wait, F>(
     rt: &R,
     office: &Office<L>,
@@ -143,7 +143,7 @@ fn join<L: Terms, R: Wait, F>(
     Ok(())
 }
 
-/// Whether the front has one call more than so many.
+/// Whether the front has exactly one call more than `calls`.
 pub(crate) fn has_one_more<L: Terms>(front: &Front<L>, calls: usize) -> bool
     ensures yes { result ≡ true → length front.now ≡ calls + 1 }
     ensures fits { length front.now ≤ L.limit }

@@ -12,7 +12,7 @@ use vpg_family::{Context, Family, Fault, Subject, Texts, redrawn, system_redrawn
 use vpg_script::Device;
 use vpg_serving::{Ending, Manner};
 
-/// The text of a script with a line `draw` behind it.
+/// Returns the script with a line `draw` at its end.
 fn with_draw(alloc: Global, script: &[u8]) -> Result<Vec<u8>, AllocError>
     ensures { IfOk result (λ text. text.items ≡ drawing_script script.now) }
 {
@@ -21,7 +21,7 @@ fn with_draw(alloc: Global, script: &[u8]) -> Result<Vec<u8>, AllocError>
     Ok(text)
 }
 
-/// What an office of a family writes for the lines of a script and a line `draw` behind them, and how they end.
+/// Returns the text that an office of a family writes for the script's lines and a last line `draw`, and their end.
 #[tactic(auto, using(crate::proofs::Draws::is_written))]
 fn answered<T: Threads + Wait + Sync>(
     rt: &T,
@@ -56,8 +56,8 @@ fn answered<T: Threads + Wait + Sync>(
     }
 }
 
-/// The picture of a family, of which these are the texts, on the page that a script leaves, and how the script ends.
-/// Its lines speak of what the context has too.
+/// Returns the picture of the family of these texts on the page that a script leaves, and the script's end. Its lines
+/// are read in this context.
 #[tactic(auto, using(crate::proofs::Draws::drawn))]
 pub fn drawn_after<T: Threads + Wait + Sync>(
     rt: &T,
@@ -87,8 +87,8 @@ pub fn drawn_after<T: Threads + Wait + Sync>(
     }
 }
 
-/// The picture of the system of a family, of which these are the texts, on the page that a script leaves, and how the
-/// script ends. Its lines speak of what the context has too.
+/// Returns the picture of the system of the family of these texts on the page that a script leaves, and the script's
+/// end. Its lines are read in this context.
 #[tactic(auto, using(crate::proofs::Draws::system_drawn))]
 pub fn system_drawn_after<T: Threads + Wait + Sync>(
     rt: &T,

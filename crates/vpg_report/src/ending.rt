@@ -1,4 +1,4 @@
-//! How the program ends.
+//! The program's end.
 ghost use Rattle.std.specs.Prelude.{◌≡◌, Ok, Err, IfOk, IfErr};
 ghost use Rattle.std.specs.Process.{exit_status};
 ghost use Rattle.vpg_report.specs.Ends.{ended, status_of, refused_text};
@@ -8,20 +8,20 @@ use std::process::ExitCode;
 use vpg_family::Fault;
 use vpg_serving::Ending;
 
-/// How the program ends where it doesn't fail.
+/// The program's end if it doesn't fail.
 #[derive(Clone, Copy)]
 pub enum End {
-    /// What the words ask for is done.
+    /// The program did what its words asked for.
     Done,
-    /// A strict script was refused at the line of this number, from 1, and this is told.
+    /// A strict script was refused at the line of this number, from 1; a message says so.
     Refused { line: u64 },
     /// An assertion of the script failed.
     Failed,
-    /// The words are wrong, and this is told.
+    /// The words are wrong; a message says so.
     WrongWords,
 }
 
-/// How the program ends behind a script that ended so.
+/// Turns a script's end into the program's.
 pub fn ended(ending: Ending) -> End
     ensures { result ≡ ended ending }
 {
@@ -32,7 +32,7 @@ pub fn ended(ending: Ending) -> End
     }
 }
 
-/// How the program ends behind a run that ended so, or failed.
+/// Turns a run's result into the program's.
 pub fn end_of(run: Result<Ending, Fault>) -> Result<End, Fault>
     ensures ok { IfOk run (λ ending. result ≡ Ok (ended ending)) }
     ensures fault { IfErr run (λ fault. result ≡ Err fault) }
@@ -43,7 +43,7 @@ pub fn end_of(run: Result<Ending, Fault>) -> Result<End, Fault>
     }
 }
 
-/// The status of the program.
+/// Returns the program's exit status.
 pub fn status(ended: &Result<End, Fault>) -> ExitCode
     ensures { exit_status result ≡ status_of ended.now }
 {
@@ -55,7 +55,7 @@ pub fn status(ended: &Result<End, Fault>) -> ExitCode
     }
 }
 
-/// The line that tells where a strict script was refused.
+/// Returns the message that names the line at which a strict script was refused.
 pub fn refused_line(alloc: Global, line: u64) -> Result<Vec<u8>, AllocError>
     ensures { IfOk result (λ text. text.items ≡ refused_text line) }
 {

@@ -1,5 +1,5 @@
-//! The engine: an office that this run alone serves, with the tokens and harvests that a script's lines leave, which
-//! carries out what they request.
+//! The engine carries out what a script's lines request. It is an office that this run alone serves, with the tokens
+//! and harvests that lines leave.
 ghost use Rattle.std.specs.Arc.{arc_value};
 ghost use Rattle.std.specs.Prelude.{◌≡◌, ◌+◌, ◌≤◌, OnOk, IfOk, IfErr, IfSome, length};
 ghost use Rattle.vpg_diagram.specs.FeatureDiagram.{feature_count};
@@ -40,16 +40,16 @@ use vpg_settle::swept;
 use vpg_texts::{has_vertices, look_over, put_changed, put_known_over, verdicts_over, vertex_at};
 use vpg_verdict::{Verdict, Which};
 
-/// How many calls the log of a run's office takes.
+/// The number of calls that the log of a run's office takes.
 pub(crate) const ROOM: u32 = 1_048_576;
 
 /// The sweeps of a `harvest`, and of a `settle` without a number.
 const SWEEPS: u64 = 1_000_000;
 
-/// The client of an office, with its game and its diagram, the tokens that are held, the harvests that were kept, and
-/// the verdicts that were told last, none before the first time. Harvest K stands at place K - 1 until it is committed.
-/// What guesses make of the game alone is kept from the first of them on. Contracts see the client, and what is held.
-/// An engine can't be let go: `end` spends its tokens.
+/// The client of an office, with its game and its diagram. It holds tokens, the harvests that were kept, and the
+/// verdicts that were reported last, none before the first time. Harvest K stands at place K - 1 until it is committed.
+/// What guesses derive from the game alone is kept from the first guess on. Contracts see the client, and what is held.
+/// An engine can't be dropped: `end` spends its tokens.
 pub struct Engine<L: Terms> {
     game: Arc<GuardedGame>,
     diagram: Arc<Diagram>,
@@ -78,7 +78,7 @@ impl<L: Terms> Model for Engine<L> {
     ghost invariant = { λ e. IsEngine L.limit (arc_value e.game) (arc_value e.diagram) e.client.desk e.harvests.items };
 }
 
-/// The same game and diagram once more.
+/// Returns the game and the diagram, shared once more.
 fn shared(
     game: &Arc<GuardedGame>,
     diagram: &Arc<Diagram>,
@@ -90,7 +90,7 @@ fn shared(
 }
 
 impl<L: Terms> Engine<L> {
-    /// The names of the features.
+    /// Returns the names of the features.
     fn names(&self) -> &Names
         ensures { result.now ≡ self.now.client.desk.diagram.names }
     {
@@ -148,7 +148,7 @@ impl<L: Terms> Engine<L> {
         }
     }
 
-    /// Undoes the change of the undo that is meant.
+    /// Undoes the change of the undo that the command means.
     fn undo<R: Wait>(
         &mut self,
         rt: &R,
@@ -174,7 +174,7 @@ impl<L: Terms> Engine<L> {
         }
     }
 
-    /// Redoes the change of the redo that is meant.
+    /// Redoes the change of the redo that the command means.
     fn redo<R: Wait>(
         &mut self,
         rt: &R,
@@ -200,7 +200,7 @@ impl<L: Terms> Engine<L> {
         }
     }
 
-    /// Spends an undo, by its serial.
+    /// Gives an undo up, by its serial.
     fn keep<R: Wait>(
         &mut self,
         rt: &R,
@@ -224,7 +224,7 @@ impl<L: Terms> Engine<L> {
         }
     }
 
-    /// Spends a redo, by its serial.
+    /// Gives a redo up, by its serial.
     fn forget<R: Wait>(
         &mut self,
         rt: &R,
@@ -248,7 +248,7 @@ impl<L: Terms> Engine<L> {
         }
     }
 
-    /// Lifts a vertex of the present page once, and commits what was raised.
+    /// Lifts a vertex of the present page once, and commits the harvest.
     fn lift<R: Wait>(
         &mut self,
         rt: &R,
@@ -277,7 +277,7 @@ impl<L: Terms> Engine<L> {
         lines::numbered(b"added", added as u64, out)
     }
 
-    /// Sweeps the present page, and keeps what was raised.
+    /// Sweeps the present page, and keeps the harvest.
     fn harvest<T: Threads + Wait + Sync>(
         &mut self,
         rt: &T,
@@ -325,7 +325,7 @@ impl<L: Terms> Engine<L> {
         }
     }
 
-    /// Sweeps the present page, this many times at most, and commits what was raised.
+    /// Sweeps the present page, this many times at most, and commits the harvest.
     fn settle<T: Threads + Wait + Sync>(
         &mut self,
         rt: &T,
@@ -364,7 +364,7 @@ impl<L: Terms> Engine<L> {
         lines::settled(settled, added, out)
     }
 
-    /// Shows what is looked at of the present page.
+    /// Answers a lookup on the present page.
     fn look<R: Wait>(
         &mut self,
         rt: &R,
@@ -388,7 +388,7 @@ impl<L: Terms> Engine<L> {
         Ok(())
     }
 
-    /// Tells which verdicts of the present page are other than those told last.
+    /// Writes the verdicts of the present page that differ from those reported last.
     fn changed<R: Wait>(
         &mut self,
         rt: &R,
@@ -409,7 +409,7 @@ impl<L: Terms> Engine<L> {
         Ok(())
     }
 
-    /// Tells what the present decisions make known of a feature, by its name.
+    /// Writes what the present decisions make known of a feature, by its name.
     fn known<R: Wait>(
         &mut self,
         rt: &R,
@@ -432,7 +432,7 @@ impl<L: Terms> Engine<L> {
         Ok(())
     }
 
-    /// An engine whose office was opened, with room for 1,048,576 calls; nothing is held. Refused as `Client::open`.
+    /// Returns an engine with a new office, with room for 1,048,576 calls; nothing is held. Refused as `Client::open`.
     pub fn open<R: Wait>(
         rt: &R,
         alloc: Global,
@@ -466,8 +466,8 @@ impl<L: Terms> Engine<L> {
         }
     }
 
-    /// Spends all tokens, and ends the office. Answers how many further tokens are out, or `None` where the log has
-    /// calls that this engine didn't make.
+    /// Spends all tokens, and ends the office. Returns how many further tokens are out, or `None` if the log has calls
+    /// that this engine didn't make.
     pub fn end<R: Wait>(self, rt: &R) -> Option<u64>
         ensures { IfSome result
             (λ further. further + length self.held.undos + length self.held.redos ≡ self.client.desk.book.tokens) }
@@ -485,21 +485,21 @@ impl<L: Terms> Engine<L> {
         client.end(rt, undos, redos)
     }
 
-    /// Its game.
+    /// Returns its game.
     pub fn game(&self) -> &GuardedGame
         ensures { result.now ≡ self.now.client.desk.game }
     {
         &self.game
     }
 
-    /// Its diagram.
+    /// Returns its diagram.
     pub fn diagram(&self) -> &Diagram
         ensures { result.now ≡ self.now.client.desk.diagram }
     {
         &self.diagram
     }
 
-    /// An order of the present page, as `Client::order`. What is held stays.
+    /// Returns an order of the present page, as `Client::order`. What is held stays.
     pub fn order<R: Wait>(
         &mut self,
         rt: &R,
@@ -519,8 +519,8 @@ impl<L: Terms> Engine<L> {
         self.client.order(rt, alloc, session)
     }
 
-    /// Carries a request out, sweeping with 1 to 64 lifters, and appends its answer. A question about the page is not
-    /// the engine's, and never answered: the fault is `Stray`.
+    /// Carries a request out, with 1 to 64 lifters for sweeps, and appends its answer. A question about the page is not
+    /// the engine's, and is never answered: the fault is `Stray`.
     pub fn carry_out<T: Threads + Wait + Sync>(
         &mut self,
         rt: &T,

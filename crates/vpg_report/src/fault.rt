@@ -1,4 +1,4 @@
-//! Why a client's calls are not answered, and what comes back.
+//! Why a client's calls are not answered, and the values that come back.
 ghost use Rattle.std.specs.Prelude.{◌≤◌, length};
 ghost use Rattle.vpg_report.specs.Faults.{Sorts};
 
@@ -11,19 +11,19 @@ use vpg_office::{Fault, Front, Redo, Terms, Undo};
 #[derive(Debug, Drop, Error)]
 #[error_bound(F: Display)]
 pub enum ClientFault<F> {
-    /// The log has as many calls as it takes.
+    /// The log is full.
     #[error("LogFull")]
     LogFull,
     #[error("{fault}")]
     Refused { fault: F },
-    /// The log has a call that this client didn't make, or a session has another number than its label's.
+    /// The log has a call that this client didn't make, or the number of a session isn't its label.
     #[error("Stray")]
     Stray,
     #[error("Memory")]
     Memory,
 }
 
-/// What a call took, or made before it strayed, comes back beside the fault.
+/// A fault, with the value that the call took, or made before it strayed.
 pub struct Returned<F, T> {
     pub fault: ClientFault<F>,
     pub value: T,
@@ -35,7 +35,7 @@ pub enum Token<L: Terms> {
     Redo(Redo<L>),
 }
 
-/// What the office's fault is to a client whose front had so many calls before the call.
+/// Turns the office's fault into the client's, if its front had `calls` calls before the call.
 pub(crate) fn sorted<L: Terms, F: Drop>(
     fault: Fault<L, F>,
     calls: usize,

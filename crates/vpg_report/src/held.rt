@@ -16,7 +16,7 @@ use vpg_measure::Harvest;
 use vpg_office::{Redo, Terms, Undo};
 use vpg_serving::ServeFault;
 
-/// The place of the undo that a command means: that of the serial, or without one that of the greatest.
+/// Returns the place of the undo that a command means: that of the serial, or without one that of the greatest.
 pub(crate) fn undo_place<L: Terms>(undos: &[Undo<L>], serial: Option<u64>) -> Option<usize>
     ensures { IsPlaceOf (undo_meant (serials undos.now) serial) (serials undos.now) result }
 {
@@ -38,7 +38,7 @@ fn greatest<L: Terms>(undos: &[Undo<L>]) -> Option<u64>
     undos.iter().map(|undo| undo.serial()).max()
 }
 
-/// The place of the redo that a command means: that of the serial, or without one the latest.
+/// Returns the place of the redo that a command means: that of the serial, or without one the latest.
 pub(crate) fn redo_place<L: Terms>(redos: &[Redo<L>], serial: Option<u64>) -> Option<usize>
     ensures { IsPlaceOf (redo_meant (serials redos.now) serial) (serials redos.now) result }
 {
@@ -54,7 +54,7 @@ fn place_of_redo<L: Terms>(redos: &[Redo<L>], serial: u64) -> Option<usize>
     redos.iter().position(|redo| redo.serial() == serial)
 }
 
-/// Holds an undo, and tells its serial.
+/// Holds an undo, and writes its serial.
 pub(crate) fn hold_undo<L: Terms>(
     undos: &mut Vec<Undo<L>>,
     undo: Undo<L>,
@@ -70,7 +70,7 @@ pub(crate) fn hold_undo<L: Terms>(
     lines::numbered(word, serial, out)
 }
 
-/// Holds a redo, and tells its serial.
+/// Holds a redo, and writes its serial.
 pub(crate) fn hold_redo<L: Terms>(
     redos: &mut Vec<Redo<L>>,
     redo: Redo<L>,
@@ -86,7 +86,7 @@ pub(crate) fn hold_redo<L: Terms>(
     lines::numbered(word, serial, out)
 }
 
-/// Holds the undo of a change that strayed, where there is one.
+/// Holds the undo of a change that strayed, if there is one.
 pub(crate) fn hold_strayed<L: Terms>(undos: &mut Vec<Undo<L>>, undo: Option<Undo<L>>)
     requires { vec_len undos.old < vec_capacity undos.old }
     ensures { IfNone undo (undos.new.items ≡ undos.old.items) }
@@ -119,7 +119,7 @@ pub(crate) fn put_back_unspent<T>(tokens: &mut Vec<T>, place: usize, token: Opti
     }
 }
 
-/// Holds what an undo gave back: its own token where it was, or the redo of an undo that strayed.
+/// Holds the token that an undo returned: its own, where it was, or the redo of an undo that strayed.
 pub(crate) fn hold_undone<L: Terms>(
     undos: &mut Vec<Undo<L>>,
     redos: &mut Vec<Redo<L>>,
@@ -138,7 +138,7 @@ pub(crate) fn hold_undone<L: Terms>(
     }
 }
 
-/// Holds what a redo gave back: its own token where it was, or the undo of a redo that strayed.
+/// Holds the token that a redo returned: its own, where it was, or the undo of a redo that strayed.
 pub(crate) fn hold_redone<L: Terms>(
     undos: &mut Vec<Undo<L>>,
     redos: &mut Vec<Redo<L>>,
@@ -157,7 +157,7 @@ pub(crate) fn hold_redone<L: Terms>(
     }
 }
 
-/// The place of harvest K, where there was one.
+/// Returns the place of harvest K, if there was one.
 fn harvest_place(harvests: &[Option<Harvest>], number: u64) -> Option<usize>
     ensures place { IfSome result (λ place. (number ≡ place + 1) × (place < length harvests.now)) }
     ensures none { IfNone result (harvest_kept harvests.now number ≡ None) }
@@ -168,7 +168,7 @@ fn harvest_place(harvests: &[Option<Harvest>], number: u64) -> Option<usize>
     Some((number - 1) as usize)
 }
 
-/// Takes harvest K out, where it is kept.
+/// Takes harvest K out, if it is kept.
 pub(crate) fn take_harvest(harvests: &mut Vec<Option<Harvest>>, number: u64) -> Option<Harvest>
     ensures kept { result ≡ harvest_kept harvests.old.items number }
     ensures gone { IfSome result (λ _. harvests.new.items ≡ slice_set harvests.old.items (number - 1) None) }

@@ -1,38 +1,37 @@
-//! Runs: a script is carried out on a desk, and each of its lines answered; and how the program ends behind them.
+//! Runs: they carry a script out on a desk and answer each of its lines. Here is also how the program ends after them.
 //!
-//! The program above uses `run_script`, which carries a script out at an office of a family in a manner and tells a
-//! fault as the program does; `drawn_after` draws the page that a script leaves, and `system_drawn_after` the system on
-//! it. `End` is how the program ends where nothing fails, `end_of` what a run makes of it, `status` its exit status,
-//! and `refused_line` tells where a strict script was refused. `DIAGRAM` and `GAME` are the family that is built in.
-//! Below it, `run_as` opens a desk and carries a script out on it; `run` does so without a manner, and `run_called`
-//! where lines call vertices by their names. At the end of a run, also after a fault, all tokens are spent and the desk
-//! is closed.
+//! The program above uses `run_script`, which carries a script out at an office of a family in a manner and returns the
+//! program's fault. `drawn_after` draws the page that a script leaves, and `system_drawn_after` the system on it. `End`
+//! is the program's end if nothing fails, and `end_of` makes it of a run's result. `status` returns its exit status,
+//! `refused_line` the message about a strict script that was refused. `DIAGRAM` and `GAME` are the built-in family.
+//! Below it, `run_as` opens a desk and carries a script out on it; `run` does so without a manner, and `run_called` for
+//! lines that name vertices. At the end of a run, also after a fault, all tokens are spent and the desk is closed.
 //!
-//! The texts of a page are `show` (its decisions, tables and verdicts), `trail` (its entries), `products` (what is
-//! known of each feature), `put_known` (the same of one), `plan` (what Even does where everything is known and settled)
-//! and `count` (how many vertices have which verdict). How a script is read stands in the crate of scripts, the texts
-//! in the crate of texts, those of what is asked of the page (`why`, `example`, `counterexample`, `offer`, `needs`,
-//! `repair`) in the crate of answers, and how an order is swept in the crate of settling.
+//! Texts of a page: `show` writes its decisions, tables and verdicts, `trail` its entries, and `count` how many
+//! vertices have which verdict. `products` writes what is known of each feature, and `put_known` what is known of one.
+//! `plan` writes Even's moves if everything is known and settled. Scripts are read in the crate of scripts, and pages
+//! are written in the crate of texts. Questions about the page (`why`, `example`, `counterexample`, `offer`, `needs`,
+//! `repair`) are answered in the crate of answers, and orders are swept in the crate of settling.
 //!
-//! Runs stand on clients and engines. A [`Client`] is one caller who serves an office alone, for several labels. Each
-//! label is a session of the office: label N is session number N. A client joins the sessions as their labels first
-//! come, lends one front to all of them, and has one method a call. Contracts see it as the desk that it serves, with a
-//! count of calls; each answered call is one step of that desk, as of a desk without an office. What a desk alone never
-//! meets comes as [`ClientFault`]: the log is full, or it has a call that this client did not make (no contract of an
-//! office tells that nobody else is in its log, so it is found out as the calls come).
+//! Runs are built of clients and engines. A [`Client`] is one caller who serves an office alone, for several labels.
+//! Each label is a session of the office: label N is session number N. A client joins the sessions as their labels
+//! first come, lends one front to all of them, and has one method a call. Contracts see it as the desk that it serves,
+//! with a count of calls. Each answered call is one step of that desk, as of a desk without an office. A
+//! [`ClientFault`] is what a desk alone never meets: the log is full, or it has a call that this client did not make.
+//! (No contract of an office says that nobody else is in its log, so the client finds out as the calls come.)
 //!
-//! An [`Engine`] is a client with what lines leave behind them: tokens and harvests are held until later lines use them
-//! up, and the verdicts that a `changed` told until the next one compares with them. [`Engine::carry_out`] makes the
-//! calls of a line and writes its answer. Questions about the page are not its own: the server beside it takes an order
-//! for them ([`Engine::order`]) and writes the answer.
+//! An [`Engine`] is a client with what lines leave to later ones. It holds tokens and harvests until later lines use
+//! them up, and the verdicts of a `changed` until the next one compares with them. [`Engine::carry_out`] makes the
+//! calls of a line and writes its answer. Questions about the page are not its own: the server takes an order for them
+//! ([`Engine::order`]) and writes the answer.
 //!
-//! A client's state and its calls are defined in `specs/Client`, what refused calls tell in `specs/Faults`. What lines
-//! leave held is defined in `specs/Held`, the calls on a desk's book and their answers in `specs/Answers` and
-//! `specs/Line`, how harvests were made in `specs/Made`, what an engine does with a line in `specs/Engine`. Over these
-//! stand `specs/Requests`, `specs/Server` and `specs/Run`, which have what is asked of the page too; what a run's
-//! result says is defined in `specs/Output`. `specs/Runs` says what a run on a family reads and writes, and how its end
-//! is told, `specs/Winners` who wins by what is written, `specs/Draws` which page is drawn, `specs/Ends` with which
-//! status the program ends. All are this project's own.
+//! A client's state and its calls are defined in `specs/Client`, and its refused calls in `specs/Faults`. The tokens,
+//! harvests and verdicts that lines leave are defined in `specs/Held`, the calls on a desk's book and their answers in
+//! `specs/Answers` and `specs/Line`. `specs/Made` defines how harvests were made, and `specs/Engine` how an engine
+//! serves a line. Over these stand `specs/Requests`, `specs/Server` and `specs/Run`, with questions about the page;
+//! `specs/Output` defines a run's result. `specs/Runs` defines the text that a run on a family reads and writes, and
+//! how its end is reported. `specs/Winners` defines who wins by the text, `specs/Draws` which page is drawn, and
+//! `specs/Ends` the program's exit status. All are this project's own.
 #![tactic(auto)]
 
 mod answering;

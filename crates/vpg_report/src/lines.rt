@@ -13,7 +13,7 @@ use vpg_guards::Names;
 use vpg_serving::ServeFault;
 use vpg_texts::{blank_name, blank_number};
 
-/// What a line names that the game, or the diagram, lacks; or that there is no system, where it needs one.
+/// A kind of name in a line that the game, or the diagram, lacks; or the system that a line needs and doesn't have.
 #[derive(Clone, Copy, Debug, Error)]
 pub enum Missing {
     #[error("NoVertex")]
@@ -24,7 +24,7 @@ pub enum Missing {
     System,
 }
 
-/// A word and a number.
+/// Writes a word and a number.
 pub(crate) fn numbered(word: &[u8], n: u64, out: &mut Vec<u8>) -> Result<(), ServeFault>
     ensures { OnOk result (out.new.items ≡ out.old.items ++ numbered word.now n) }
 {
@@ -34,7 +34,7 @@ pub(crate) fn numbered(word: &[u8], n: u64, out: &mut Vec<u8>) -> Result<(), Ser
     Ok(())
 }
 
-/// Whether the page is settled, and how many entries were added.
+/// Writes whether the page is settled, and how many entries were added.
 pub(crate) fn settled(settled: bool, added: u32, out: &mut Vec<u8>) -> Result<(), ServeFault>
     ensures { OnOk result (out.new.items ≡ out.old.items ++ settled_text settled added) }
 {
@@ -45,7 +45,7 @@ pub(crate) fn settled(settled: bool, added: u32, out: &mut Vec<u8>) -> Result<()
     }
 }
 
-/// A refusal that is one word.
+/// Writes a refusal of one word.
 pub(crate) fn refused(why: &[u8], out: &mut Vec<u8>) -> Result<(), ServeFault>
     ensures { OnOk result (out.new.items ≡ out.old.items ++ refused_line why.now) }
 {
@@ -55,7 +55,7 @@ pub(crate) fn refused(why: &[u8], out: &mut Vec<u8>) -> Result<(), ServeFault>
     Ok(())
 }
 
-/// Writes the refusal of what is named that isn't there.
+/// Writes the refusal of a name that is missing.
 pub fn put_missing(what: Missing, out: &mut Vec<u8>) -> Result<(), ServeFault>
     ensures { OnOk result (out.new.items ≡ out.old.items ++ refused_line (own_text (own_of what))) }
 {
@@ -66,7 +66,7 @@ pub fn put_missing(what: Missing, out: &mut Vec<u8>) -> Result<(), ServeFault>
     }
 }
 
-/// A refusal that names a serial.
+/// Writes a refusal that names a serial.
 fn refused_at(why: &[u8], serial: u64, out: &mut Vec<u8>) -> Result<(), ServeFault>
     ensures { OnOk result (out.new.items ≡ out.old.items ++ refused_line (why.now ++ blank_number serial)) }
 {
@@ -77,7 +77,7 @@ fn refused_at(why: &[u8], serial: u64, out: &mut Vec<u8>) -> Result<(), ServeFau
     Ok(())
 }
 
-/// A refusal that names a feature.
+/// Writes a refusal that names a feature.
 fn refused_feature(
     why: &[u8],
     names: &Names,
@@ -94,7 +94,7 @@ fn refused_feature(
     Ok(())
 }
 
-/// Why a feature isn't decided.
+/// Writes why a feature isn't decided.
 fn decide_refusal_told(
     names: &Names,
     fault: DecideFault,
@@ -112,7 +112,7 @@ fn decide_refusal_told(
     }
 }
 
-/// Why a feature isn't retracted.
+/// Writes why a feature isn't retracted.
 fn retract_refusal_told(
     names: &Names,
     fault: RetractFault,
@@ -128,7 +128,7 @@ fn retract_refusal_told(
     }
 }
 
-/// Why a change isn't undone.
+/// Writes why a change isn't undone.
 fn undo_refusal_told(names: &Names, fault: UndoFault, out: &mut Vec<u8>) -> Result<(), ServeFault>
     ensures { OnOk result (TellsRefusal names.now (undo_refusal fault) out.old.items out.new.items) }
 {
@@ -139,7 +139,7 @@ fn undo_refusal_told(names: &Names, fault: UndoFault, out: &mut Vec<u8>) -> Resu
     }
 }
 
-/// Why a change isn't redone.
+/// Writes why a change isn't redone.
 fn redo_refusal_told(names: &Names, fault: RedoFault, out: &mut Vec<u8>) -> Result<(), ServeFault>
     ensures { OnOk result (TellsRefusal names.now (redo_refusal fault) out.old.items out.new.items) }
 {
@@ -150,7 +150,7 @@ fn redo_refusal_told(names: &Names, fault: RedoFault, out: &mut Vec<u8>) -> Resu
     }
 }
 
-/// Why a harvest isn't committed.
+/// Writes why a harvest isn't committed.
 fn commit_refusal_told(
     names: &Names,
     fault: CommitFault,
@@ -166,15 +166,15 @@ fn commit_refusal_told(
     }
 }
 
-/// The answer to a line with a call that finds the log full.
+/// Writes the answer to a line with a call that finds the log full.
 fn full(out: &mut Vec<u8>) -> Result<(), ServeFault>
     ensures { OnOk result (out.new.items ≡ out.old.items ++ full_line) }
 {
     refused(b"LogFull", out)
 }
 
-/// Writes the answer to a line with a call that the desk never refuses: that the log is full. Another fault is none of
-/// the line's: `Memory`, or `Stray`.
+/// Writes the answer to a line with a call that the desk never refuses: that the log is full. Other faults, `Memory`
+/// and `Stray`, are returned.
 pub fn put_unanswered<F: Drop>(fault: ClientFault<F>, out: &mut Vec<u8>) -> Result<(), ServeFault>
     ensures full { OnOk result (fault ≡ ClientFault.LogFull) }
     ensures told { OnOk result (out.new.items ≡ out.old.items ++ full_line) }
@@ -186,7 +186,7 @@ pub fn put_unanswered<F: Drop>(fault: ClientFault<F>, out: &mut Vec<u8>) -> Resu
     }
 }
 
-/// The answer where a feature isn't decided: the desk's refusal, or that the log is full.
+/// Writes the answer if a feature isn't decided: the desk's refusal, or that the log is full.
 pub(crate) fn decide_refused(
     names: &Names,
     fault: ClientFault<DecideFault>,
@@ -203,7 +203,7 @@ pub(crate) fn decide_refused(
     }
 }
 
-/// The answer where a feature isn't retracted: the desk's refusal, or that the log is full.
+/// Writes the answer if a feature isn't retracted: the desk's refusal, or that the log is full.
 pub(crate) fn retract_refused(
     names: &Names,
     fault: ClientFault<RetractFault>,
@@ -219,7 +219,7 @@ pub(crate) fn retract_refused(
     }
 }
 
-/// The answer where a change isn't undone: the desk's refusal, or that the log is full.
+/// Writes the answer if a change isn't undone: the desk's refusal, or that the log is full.
 pub(crate) fn undo_refused(
     names: &Names,
     fault: ClientFault<UndoFault>,
@@ -235,7 +235,7 @@ pub(crate) fn undo_refused(
     }
 }
 
-/// The answer where a change isn't redone: the desk's refusal, or that the log is full.
+/// Writes the answer if a change isn't redone: the desk's refusal, or that the log is full.
 pub(crate) fn redo_refused(
     names: &Names,
     fault: ClientFault<RedoFault>,
@@ -251,7 +251,7 @@ pub(crate) fn redo_refused(
     }
 }
 
-/// The answer where a harvest isn't committed: the desk's refusal, or that the log is full.
+/// Writes the answer if a harvest isn't committed: the desk's refusal, or that the log is full.
 pub(crate) fn commit_refused(
     names: &Names,
     fault: ClientFault<CommitFault>,

@@ -1,4 +1,4 @@
-//! Scripts that are carried out at an office of a family.
+//! Scripts carried out at an office of a family.
 ghost use Rattle.std.specs.Arc.{arc_value};
 ghost use Rattle.std.specs.Prelude.{◌≡◌, ◌≤◌, ◌⊎◌, ℕ, true, IsErrOf};
 ghost use Rattle.vpg_diagram.specs.FeatureDiagram.{feature_count};
@@ -14,7 +14,7 @@ use vpg_family::{Context, Family, Fault, conflict};
 use vpg_script::{Sink, Source};
 use vpg_serving::{Ending, Manner, RunFault};
 
-/// What is told of a refused opening. A conflict names the root.
+/// Returns the fault that reports a refused opening. A conflict names the root.
 fn not_opened(alloc: Global, diagram: &Diagram, fault: OpenFault) -> Fault
     requires root { (f : ℕ) → fault ≡ OpenFault.Conflict f → f ≡ 0 }
     ensures { TellsOpening diagram.now.names fault result }
@@ -26,8 +26,8 @@ fn not_opened(alloc: Global, diagram: &Diagram, fault: OpenFault) -> Fault
     }
 }
 
-/// Carries a script out at an office of the family, in a manner. Its lines speak of what the context has too: they call
-/// vertices by its names, and ask for traces of what the game was made of.
+/// Carries a script out at an office of the family, in a manner. Its lines are read in this context: they may give
+/// vertices its names, and ask for traces of its system.
 pub fn run_script<T: Threads + Wait + Sync, R: Source, W: Sink>(
     rt: &T,
     alloc: Global,
@@ -42,16 +42,16 @@ pub fn run_script<T: Threads + Wait + Sync, R: Source, W: Sink>(
     requires lifters { (1 ≤ lifters) × (lifters ≤ 64) }
     requires features { (arc_value family.game).features ≡ feature_count (arc_value family.diagram).lines }
 
-    // What is written are the answers to the script's lines by an office on the family, by what the names of vertices in
-    // them stand for, and the result tells how they end.
+    // An office on the family writes the answers to the script's lines, with the vertices that their names mean, and
+    // the result is their end.
     ensures output { IsRun manner (arc_value family.diagram) (arc_value family.game) context.now lifters
         (R.remaining reader.old) (R.remaining reader.new) (W.contents writer.old) (W.contents writer.new) result }
 
-    // Read and Write come only where the device failed, or the script was read 16,777,216 times.
+    // Read and Write come only if the device failed, or the script was read 16,777,216 times.
     ensures read { IsErrOf result Fault.Read → (R.has_failed reader.new ≡ true) ⊎ (R.calls reader.new ≡ 16777216) }
     ensures write { IsErrOf result Fault.Write → W.has_failed writer.new ≡ true }
 
-    // A device that failed is told.
+    // A failed device is reported.
     ensures readable { UnlessScriptFails result (R.has_failed reader.new ≡ R.has_failed reader.old) }
     ensures writable { UnlessOutputFails result (W.has_failed writer.new ≡ W.has_failed writer.old) }
 {

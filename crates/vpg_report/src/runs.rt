@@ -27,9 +27,9 @@ use vpg_serving::{Ending, Manner, RunFault, answer_script_as};
 /// Opens an office on the game and the diagram, reads a script, and answers its lines in order, each before the next is
 /// read. A label is a session of the office. 1 to 64 lifters sweep at once, in threads of their own.
 ///
-/// `Open` comes before any line is read; `Line`, `Read` and `Write` as the run meets them, `Memory` only where a growth
-/// was refused, and `Stray` where the office has a call that no line made. What earlier lines wrote stays written. At
-/// the script's end, and after each fault, all tokens are spent and the office is ended.
+/// `Open` comes before any line is read; `Line`, `Read` and `Write` as the run meets them. `Memory` comes only if a
+/// growth was refused, and `Stray` only if the office has a call that no line made. What earlier lines wrote stays
+/// written. At the script's end, and after each fault, all tokens are spent and the office is ended.
 pub fn run<T: Threads + Wait + Sync, R: Source, W: Sink>(
     rt: &T,
     alloc: Global,
@@ -43,22 +43,22 @@ pub fn run<T: Threads + Wait + Sync, R: Source, W: Sink>(
     requires lifters { (1 ≤ lifters) × (lifters ≤ 64) }
     requires features { (arc_value game).features ≡ feature_count (arc_value diagram).lines }
 
-    // What is written are the answers to the lines read, each by calls on the office's desk with the replies that it
-    // gives, while its log has room for them. What a line commits or keeps was made by at most its number of sweeps,
+    // The answers to the lines read are written, each by calls on the office's desk with the replies that it gives,
+    // while its log has room for them. A harvest that a line commits or keeps was made by at most its number of sweeps,
     // each by this many lifters.
     ensures output { Outcome (answering None (scene_of (arc_value game) (arc_value diagram)) lifters)
         (IsOpenRefusal (arc_value game) (arc_value diagram)) begun (R.remaining reader.old) (R.remaining reader.new)
         (W.contents writer.old) (W.contents writer.new) result }
 
-    // Unless it ends in Open, or in Memory, an office was opened: game and diagram are a setting, of which the laws of
-    // `vpg_desk` speak. So what is written of verdicts says who wins (`laws::answers_name_winners`).
+    // Unless it ends in Open, or in Memory, an office was opened: game and diagram are a setting, and the laws of
+    // `vpg_desk` apply. So the verdicts that are written say who wins (`laws::answers_name_winners`).
     ensures opened { Opens result (IsOpened (arc_value game) (arc_value diagram)) }
 
-    // Read and Write come only where the device failed, or the reads were used up.
+    // Read and Write come only if the device failed, or the reads were used up.
     ensures read { IsErrOf result RunFault.Read → (R.has_failed reader.new ≡ true) ⊎ (R.calls reader.new ≡ 16777216) }
     ensures write { IsErrOf result RunFault.Write → W.has_failed writer.new ≡ true }
 
-    // A device that failed is told: no read failed unless the run ends in Read, and no write unless it ends in Write.
+    // A failed device is reported: no read failed unless the run ends in Read, and no write unless it ends in Write.
     ensures readable { UnlessReaderFails result (R.has_failed reader.new ≡ R.has_failed reader.old) }
     ensures writable { UnlessWriterFails result (W.has_failed writer.new ≡ W.has_failed writer.old) }
 {
@@ -72,11 +72,11 @@ pub fn run<T: Threads + Wait + Sync, R: Source, W: Sink>(
     }
 }
 
-/// The same in a manner: a strict run ends at the first refusal, and one that goes on answers a line with a fault.
-/// Where the run comes to the script's end, `Failed` says that an assertion failed.
+/// Runs a script as `run` does, in a manner: a strict run ends at the first refusal, and one that goes on answers a
+/// line with a fault. If the run comes to the script's end, `Failed` says that an assertion failed.
 ///
-/// `Open` comes before any line is read; `Line` only where the run does not go on, `Read` and `Write` as the run meets
-/// them, `Memory` only where a growth was refused, and `Stray` where the office has a call that no line made.
+/// `Open` comes before any line is read; `Line` only if the run does not go on, `Read` and `Write` as the run meets
+/// them. `Memory` comes only if a growth was refused, and `Stray` only if the office has a call that no line made.
 pub fn run_as<T: Threads + Wait + Sync, R: Source, W: Sink>(
     rt: &T,
     alloc: Global,
@@ -91,7 +91,7 @@ pub fn run_as<T: Threads + Wait + Sync, R: Source, W: Sink>(
     requires lifters { (1 ≤ lifters) × (lifters ≤ 64) }
     requires features { (arc_value game).features ≡ feature_count (arc_value diagram).lines }
 
-    // What is written are the answers to the lines read, as `run` has them, and the result tells how they end.
+    // The answers to the lines read are written, as `run` writes them, and the result is their end.
     ensures output { OutcomeAs manner (answering None (scene_of (arc_value game) (arc_value diagram)) lifters)
         (IsOpenRefusal (arc_value game) (arc_value diagram)) begun (R.remaining reader.old) (R.remaining reader.new)
         (W.contents writer.old) (W.contents writer.new) result }
@@ -99,11 +99,11 @@ pub fn run_as<T: Threads + Wait + Sync, R: Source, W: Sink>(
     // Unless it ends in Open, or in Memory, an office was opened.
     ensures opened { Opens result (IsOpened (arc_value game) (arc_value diagram)) }
 
-    // Read and Write come only where the device failed, or the reads were used up.
+    // Read and Write come only if the device failed, or the reads were used up.
     ensures read { IsErrOf result RunFault.Read → (R.has_failed reader.new ≡ true) ⊎ (R.calls reader.new ≡ 16777216) }
     ensures write { IsErrOf result RunFault.Write → W.has_failed writer.new ≡ true }
 
-    // A device that failed is told.
+    // A failed device is reported.
     ensures readable { UnlessReaderFails result (R.has_failed reader.new ≡ R.has_failed reader.old) }
     ensures writable { UnlessWriterFails result (W.has_failed writer.new ≡ W.has_failed writer.old) }
 {
@@ -113,10 +113,10 @@ pub fn run_as<T: Threads + Wait + Sync, R: Source, W: Sink>(
     )
 }
 
-/// The same where lines call vertices by names, and where the game was made of a system. A line is answered as the one
-/// in which the identifier of each vertex stands in place of its name; a vertex whose name stands for none is refused
-/// `NoVertex`. A trace is of the system that the game was made of; without one over the diagram's features it is
-/// refused `NoSystem`.
+/// Runs a script as `run_as` does, in a context: lines may name vertices, and the game may be made of a system. A line
+/// is answered as if the identifier of each vertex stood in place of its name; a vertex with a name that none has is
+/// refused `NoVertex`. A trace is of the system that the game was made of; without one over the diagram's features it
+/// is refused `NoSystem`.
 pub fn run_called<T: Threads + Wait + Sync, R: Source, W: Sink>(
     rt: &T,
     alloc: Global,
@@ -132,8 +132,8 @@ pub fn run_called<T: Threads + Wait + Sync, R: Source, W: Sink>(
     requires lifters { (1 ≤ lifters) × (lifters ≤ 64) }
     requires features { (arc_value game).features ≡ feature_count (arc_value diagram).lines }
 
-    // What is written are the answers to the lines read, by what their names stand for and what the game was made of,
-    // and the result tells how they end.
+    // The answers to the lines read are written, with the vertices that their names mean and the system that the game
+    // was made of, and the result is their end.
     ensures output { OutcomeAs manner
         (answering_called (called_in (arc_value game) (arc_value diagram) context.now) lifters)
         (IsOpenRefusal (arc_value game) (arc_value diagram)) begun (R.remaining reader.old) (R.remaining reader.new)
@@ -142,11 +142,11 @@ pub fn run_called<T: Threads + Wait + Sync, R: Source, W: Sink>(
     // Unless it ends in Open, or in Memory, an office was opened.
     ensures opened { Opens result (IsOpened (arc_value game) (arc_value diagram)) }
 
-    // Read and Write come only where the device failed, or the reads were used up.
+    // Read and Write come only if the device failed, or the reads were used up.
     ensures read { IsErrOf result RunFault.Read → (R.has_failed reader.new ≡ true) ⊎ (R.calls reader.new ≡ 16777216) }
     ensures write { IsErrOf result RunFault.Write → W.has_failed writer.new ≡ true }
 
-    // A device that failed is told.
+    // A failed device is reported.
     ensures readable { UnlessReaderFails result (R.has_failed reader.new ≡ R.has_failed reader.old) }
     ensures writable { UnlessWriterFails result (W.has_failed writer.new ≡ W.has_failed writer.old) }
 {
@@ -158,7 +158,7 @@ pub fn run_called<T: Threads + Wait + Sync, R: Source, W: Sink>(
     )
 }
 
-/// Runs a script at an office with this row and this ledger. `L` says which they are.
+/// Runs a script at an office with this row and this ledger, which `L` names.
 fn run_there<L: Terms, T: Threads + Wait + Sync, R: Source, W: Sink>(
     rt: &T,
     alloc: Global,

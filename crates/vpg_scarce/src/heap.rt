@@ -2,10 +2,10 @@
 
 use std::alloc::{AllocError, Global};
 
-/// What calls are served from where memory is ample.
+/// The memory that serves calls if it is ample.
 const POOL: usize = 16 << 20;
 
-/// The C library gets a block by a mapping of its own where it is greater than the greatest such block that was ever
+/// The C library gets a block by a mapping of its own if it is greater than the greatest such block that was ever
 /// freed, 32 MB at most. Once a block of this size was freed, all that the pool serves comes from one heap.
 const GREATEST_IN_HEAP: usize = (32 << 20) - 8192;
 
@@ -15,7 +15,7 @@ const ALL: usize = 1 << 46;
 /// The C library keeps freed blocks up to this size apart, each for requests of its own size.
 const GREATEST_KEPT_APART: usize = 1032;
 
-/// How many sizes it keeps apart, sixteen bytes from one to the next.
+/// The number of sizes that it keeps apart, sixteen bytes from one to the next.
 const KEPT_APART: usize = 64;
 
 /// A block that isn't kept apart.
@@ -29,19 +29,19 @@ const BEGINS: usize = 7_654_321;
 
 const ENDS: usize = 7_654_323;
 
-/// The memory of a process, of which all is taken but what it gives back.
+/// The memory of a process. All of it is taken, except the part that it gives back.
 #[derive(Drop)]
 pub struct Heap {
     alloc: Global,
-    /// What stays taken.
+    /// The blocks that stay taken.
     wall: Vec<Vec<u8>>,
-    /// What is taken while a call is made.
+    /// The blocks that are taken while a call is made.
     filling: Vec<Vec<u8>>,
-    /// The front of the block of which the rest is left to a call.
+    /// The front of the block that leaves its rest to a call.
     plug: Vec<u8>,
     /// Whether calls are marked, and nothing is taken.
     is_marked: bool,
-    /// How often memory was left for a call.
+    /// The number of times that memory was left for a call.
     tries: u64,
 }
 
@@ -72,7 +72,7 @@ fn take_all(alloc: Global, taken: &mut Vec<Vec<u8>>, greatest: usize) {
     }
 }
 
-/// A block of this size, or none.
+/// Returns a block of this size, or none.
 fn block_of(alloc: Global, size: usize) -> Vec<u8> {
     Vec::with_capacity(alloc, size).unwrap_or(Vec::new(alloc))
 }
@@ -83,7 +83,7 @@ fn pass_by(alloc: Global, size: usize) {
 }
 
 /// Uses a megabyte of the stack below its caller, so that it is there when the process can get no more. Put into its
-/// caller by the compiler it would use what lies above all later calls.
+/// caller by the compiler it would use the stack above all later calls.
 #[inline(never)]
 fn deepen(at: usize) -> u8 {
     let mut room = [0u8; 1 << 20];
@@ -100,7 +100,7 @@ fn wall_in(alloc: Global, wall: &mut Vec<Vec<u8>>) {
 }
 
 impl Heap {
-    /// The memory of the process, of which all but a pool of 16 MB is taken. Where the program was called with a word,
+    /// Returns the memory of the process, with all taken except a pool of 16 MB. If the program was called with a word,
     /// nothing is taken, and calls are marked.
     pub fn new(alloc: Global, words: usize) -> Result<Heap, AllocError> {
         let is_marked = words > 1 || deepen(words) > 1;
@@ -119,7 +119,7 @@ impl Heap {
         })
     }
 
-    /// How memory is allocated.
+    /// Returns the allocator.
     pub fn alloc(&self) -> Global {
         self.alloc
     }
@@ -129,12 +129,12 @@ impl Heap {
         self.is_marked
     }
 
-    /// How often memory was left for a call.
+    /// Returns the number of times that memory was left for a call.
     pub fn tries(&self) -> u64 {
         self.tries
     }
 
-    /// Leaves so many bytes in one piece, 8 MB at most, and nothing else.
+    /// Leaves this many bytes in one piece, 8 MB at most, and nothing else.
     pub fn leave(&mut self, bytes: usize) {
         self.tries = self.tries.saturating_add(1);
         if self.is_marked {
@@ -147,7 +147,7 @@ impl Heap {
         self.plug = block_of(self.alloc, PLUG);
     }
 
-    /// Gives all that was taken for a call back.
+    /// Gives back all that was taken for a call.
     pub fn relax(&mut self) {
         if self.is_marked {
             pass_by(self.alloc, ENDS);
@@ -157,7 +157,7 @@ impl Heap {
         self.filling.clear();
     }
 
-    /// How many blocks stay taken.
+    /// Returns the number of blocks that stay taken.
     pub fn walls(&self) -> usize {
         self.wall.len()
     }

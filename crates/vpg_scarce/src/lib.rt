@@ -1,16 +1,16 @@
 //! Calls made with little memory.
 //!
 //! The libraries allocate from the C library, and nothing else can be handed to them in its place. So memory is refused
-//! here as a machine refuses it: [`Heap`] takes every block that the process can get, gives so many bytes back, and a
-//! call is made with those alone. [`tried`] makes a call so again and again, first with none, then with sixteen bytes
+//! here as a machine refuses it: [`Heap`] takes every block that the process can get and gives a number of bytes back;
+//! a call is made with those alone. [`tried`] makes a call again and again, first with none, then with sixteen bytes
 //! more each time, until it is done. So each growth beyond all that the call held before is refused in turn, and after
-//! each refusal the call's [`Trial`] says whether anything changed. [`tried_anew`] does the same of a call that is made
-//! on things of its own each time ([`Anew`]). [`Report`] writes a line for each call.
+//! each refusal the call's [`Trial`] says whether anything changed. [`tried_anew`] does so for a call that is made on
+//! things of its own each time ([`Anew`]). [`Report`] writes a line for each call.
 //!
 //! Memory that is only taken and never written costs a process address space and no more.
 //!
-//! A heap may also be *marked*: then it takes nothing, and allocates a block of a size that nothing else has before a
-//! call and after it. `bench/refused.py` sees these sizes, and refuses each allocation between two marks in turn.
+//! A heap may also be *marked*: then it takes nothing, and allocates a block of an unusual size before a call and after
+//! it. `bench/refused.py` sees these sizes, and refuses each allocation between two marks in turn.
 #![tactic(auto)]
 
 mod heap;

@@ -1,4 +1,4 @@
-//! What came of calls, a line for each.
+//! The results of calls, a line for each.
 
 use crate::heap::Heap;
 use crate::trial::{Told, Trial, tried};
@@ -6,7 +6,7 @@ use std::alloc::{AllocError, Global};
 use std::io;
 use std::sync::Wait;
 
-/// What came of a call, and how often memory was left for one until then.
+/// The result of a call, and how often memory was left for one until then.
 #[derive(Clone, Copy, Drop)]
 struct Row {
     name: &'static str,
@@ -22,10 +22,10 @@ pub struct Report {
     is_whole: bool,
 }
 
-/// How many lines there is room for.
+/// The number of lines that there is room for.
 const MOST_ROWS: usize = 100;
 
-/// What is written of a call.
+/// Returns the word for a call's result.
 fn word_of(told: Told) -> &'static str {
     match told {
         Told::TakesNone => "takes no memory",
@@ -37,7 +37,7 @@ fn word_of(told: Told) -> &'static str {
 }
 
 impl Report {
-    /// A report without a line, with room for a hundred.
+    /// Returns a report without a line, with room for a hundred.
     pub fn new(alloc: Global) -> Result<Report, AllocError> {
         let rows = Vec::with_capacity(alloc, MOST_ROWS)?;
         Ok(Report {
@@ -46,7 +46,7 @@ impl Report {
         })
     }
 
-    /// Notes what came of the call that was made last. It takes no memory.
+    /// Notes the result of the call that was made last. It takes no memory.
     pub fn note(&mut self, heap: &Heap, name: &'static str, told: Told) {
         let tries = heap.tries();
         if self.rows.len() < self.rows.capacity() {
@@ -56,7 +56,7 @@ impl Report {
         }
     }
 
-    /// Makes a call with more and more memory, and notes what came of it.
+    /// Makes a call with more and more memory, and notes its result.
     pub fn try_call<R: Wait, T: Trial<R>>(
         &mut self,
         rt: &R,
@@ -68,7 +68,7 @@ impl Report {
         self.note(heap, name, told);
     }
 
-    /// Writes all lines. Where calls are marked, the count of tries until then stands before each.
+    /// Writes all lines. If calls are marked, the count of tries until then stands before each.
     pub fn write<R: Print>(&self, rt: &R, heap: &Heap) -> io::Result<()> {
         for row in &self.rows {
             if heap.is_marked() {

@@ -4,7 +4,7 @@ use crate::heap::Heap;
 use std::alloc::Global;
 use std::sync::Wait;
 
-/// How a call ended.
+/// The end of a call.
 #[derive(Clone, Copy, PartialEq, Eq, Debug, Drop)]
 pub enum End {
     /// As with ample memory.
@@ -24,10 +24,10 @@ pub trait Trial<R> {
     fn is_unchanged(&mut self, rt: &R, alloc: Global) -> bool;
 }
 
-/// What came of a call that was made again and again.
+/// The result of a call that was made again and again.
 #[derive(Clone, Copy, PartialEq, Eq, Debug, Drop)]
 pub enum Told {
-    /// It was done where there was no memory at all.
+    /// It was done without any memory.
     TakesNone,
     /// It was refused memory, which changed nothing each time, and then done.
     Unchanged,
@@ -42,12 +42,12 @@ pub enum Told {
 /// More than a call is ever made: up to a megabyte.
 pub const MOST_TRIES: usize = 1 << 16;
 
-/// How much memory is left at the next try: what the C library rounds sizes up to is added.
+/// Returns the memory to leave at the next try: it adds the step to which the C library rounds sizes up.
 pub fn more(bytes: usize) -> usize {
     bytes.saturating_add(16)
 }
 
-/// Makes the call with so much memory: how it ended, and whether a refusal changed nothing.
+/// Makes the call with this much memory. Returns its end, and whether a refusal changed nothing.
 fn try_once<R: Wait, T: Trial<R>>(
     rt: &R,
     heap: &mut Heap,
@@ -76,8 +76,8 @@ pub fn tried<R: Wait, T: Trial<R>>(rt: &R, heap: &mut Heap, trial: &mut T) -> To
     Told::Never
 }
 
-/// Makes the call with more and more memory, up to so many bytes. It may be done in a lesser form where there is
-/// little, and has to be done at the end.
+/// Makes the call with more and more memory, up to this many bytes. It may be done in a lesser form with little memory,
+/// and has to be done at the end.
 pub fn tried_through<R: Wait, T: Trial<R>>(
     rt: &R,
     heap: &mut Heap,
@@ -99,7 +99,7 @@ pub fn tried_through<R: Wait, T: Trial<R>>(
     Told::Never
 }
 
-/// How a try ended, and whether all was then as it has to be.
+/// The end of a try, and whether all was then as it has to be.
 #[derive(Clone, Copy, PartialEq, Eq, Debug, Drop)]
 pub struct Outcome {
     pub end: End,
@@ -108,12 +108,12 @@ pub struct Outcome {
 
 /// A call that is made on things of its own at each try.
 pub trait Anew<R> {
-    /// Makes all that the call needs with ample memory, the call with so many bytes, and looks at what it left.
+    /// Makes all that the call needs with ample memory, the call with this many bytes, and checks its result.
     fn try_within(&mut self, rt: &R, heap: &mut Heap, bytes: usize) -> Outcome;
 }
 
-/// Makes the call with more and more memory until it is done with so many bytes or more. With fewer it may be done in
-/// a lesser form. Where calls are marked it ends as soon as it is done.
+/// Makes the call with more and more memory until it is done with this many bytes or more. With fewer it may be done in
+/// a lesser form. If calls are marked it ends as soon as it is done.
 pub fn tried_anew<R: Wait, T: Anew<R>>(rt: &R, heap: &mut Heap, call: &mut T, most: usize) -> Told {
     let mut bytes = 0;
     let mut told = Told::TakesNone;

@@ -1,11 +1,11 @@
--- What lines mean whose vertices are named: the names by which vertices are called. This project's own.
+-- The meaning of lines with names for vertices. This project's own.
 use Rattle.std.specs.Prelude.{◌≡◌, ℕ, Bool, not, ◌||◌, ◌==◌, if◌then◌else◌, List, [], map, Option, Some, None, is_some, option_map, bytes_eq}
 use Rattle.std.specs.List.{find, list_all, list_any}
 use Rattle.vpg_features.specs.Names.{index_of}
 use Rattle.vpg_script.specs.declared.command.VertexQuestion.TheVariants as questions
 use Rattle.vpg_script.specs.Script.{Vertex, Numbered, Named, Inquiry, OfVertex, OfFeature, Assertion, Verdicts, Lookup, Vertices, Assert, Command, Lift, Look, Ask, Request}
 
--- the vertex of this identifier is called by this name
+-- the vertex of this identifier has this name
 pub record Calling : Type 0 where
   pub name : List ℕ
   pub identifier : ℕ
@@ -15,15 +15,15 @@ pub record Calling : Type 0 where
 abbrev pub is_called : List ℕ → Calling → Bool
 is_called name calling = bytes_eq calling.name name
 
--- whether a vertex is called so
+-- whether a vertex has the name
 abbrev pub calls : List Calling → List ℕ → Bool
 calls callings name = list_any (is_called name) callings
 
--- the identifier of the first that is called so
+-- the identifier of the first vertex with the name
 abbrev pub first_called : List Calling → List ℕ → Option ℕ
 first_called callings name = option_map (λ calling. calling.identifier) (find (is_called name) callings)
 
--- whether no other vertex is called so
+-- whether no other vertex has the name
 abbrev pub is_alone : List Calling → List ℕ → ℕ → Bool
 is_alone callings name identifier =
     list_all (λ calling. not (is_called name calling) || (calling.identifier == identifier)) callings
@@ -32,7 +32,7 @@ abbrev pub if_alone : List Calling → List ℕ → Option ℕ → Option ℕ
 if_alone callings name None = None
 if_alone callings name (Some identifier) = if is_alone callings name identifier then Some identifier else None
 
--- the identifier that a name stands for: that of the vertex that is called so, where there is one and no other
+-- the identifier that a name stands for: that of the vertex with the name, if there is exactly one
 abbrev pub identifier_of : List Calling → List ℕ → Option ℕ
 identifier_of callings name = if_alone callings name (first_called callings name)
 
@@ -42,12 +42,13 @@ abbrev pub numbered_or : List ℕ → Option ℕ → Vertex
 numbered_or name None = Named name
 numbered_or name (Some identifier) = Numbered identifier
 
--- A vertex that is named, by its identifier. A name that stands for none stays, and no game has such a vertex.
+-- A vertex of a line, by its identifier if its name stands for one. Another name stays, and no game has such a vertex.
 abbrev pub meant_vertex : List Calling → Vertex → Vertex
 meant_vertex callings (Numbered identifier) = Numbered identifier
 meant_vertex callings (Named name) = numbered_or name (identifier_of callings name)
 
--- What `why` asks of a name: of the feature of this name, where there is one, or of the vertex that is called so.
+-- The question that `why` asks of a name: about the feature of this name, if there is one, or about the vertex of this
+-- name.
 abbrev pub meant_name : (is_feature is_vertex : Bool) → List Calling → List ℕ → Inquiry
 meant_name is_feature is_vertex callings name =
     if is_feature || not is_vertex then OfFeature name
@@ -75,13 +76,13 @@ meant_command callings features (Look lookup) = Look (meant_lookup callings look
 meant_command callings features (Ask inquiry) = Ask (meant_inquiry callings features inquiry)
 meant_command callings features command = command
 
--- The request that is meant: that of the line in which the identifier of each vertex stands in place of its name.
+-- The request as meant: that of the line with the identifier of each vertex in place of its name.
 abbrev pub meant : List Calling → List (List ℕ) → Request → Request
 meant callings features request =
     record { label = request.label; command = meant_command callings features request.command }
 
 -- ---- without names
 
--- Where no vertex has a name, each request means itself.
+-- If no vertex has a name, each request means itself.
 abbrev pub MeansItself : Type 0
 MeansItself = (features : List (List ℕ)) (request : Request) → meant [] features request ≡ request

@@ -1,4 +1,4 @@
--- A text as it is read line by line.
+-- Texts, read line by line.
 use Rattle.std.specs.Prelude.{◌≡◌, ℕ, ◌+◌, ◌-◌, ◌*◌, ◌<◌, ◌⊎◌, Bool, true, not, ◌==◌, List, [], ◌∷◌, ◌++◌, length, Option, Some, None, Result, Err, ⊤}
 use Rattle.std.specs.List.{list_all}
 use Rattle.std.specs.Io.KnownBytes.{Keeps, prepend_known}
@@ -11,7 +11,7 @@ use Rattle.vpg_script.specs.declared.lines.NextFault.TheVariants as nexts
 abbrev pub is_within_line : ℕ → Bool
 is_within_line b = not (b == 10)
 
--- no line feed stands in it
+-- it has no line feed
 abbrev pub IsUnended : List ℕ → Type 0
 IsUnended front = list_all is_within_line front ≡ true
 
@@ -37,24 +37,24 @@ pub record BeginsTooLong (text : List ℕ) : Type 0 where
   pub unended : IsUnended front
   pub long : 4097 < length front
 
--- what comes next in a text, and what is left then
+-- this comes next in a text, and this is left then
 abbrev pub ComesNext : Next → List ℕ → List ℕ → Type 0
 ComesNext (next.Line line) text rest = IsEnded text line.items rest ⊎ IsLast text line.items rest
 ComesNext next.End text rest = text ≡ []
 ComesNext next.TooLong text rest = BeginsTooLong text × (rest ≡ text)
 
--- what comes next and what is left, where the bytes are known
+-- this comes next and this is left, if the bytes are known
 abbrev pub ComesKnown : Next → Option (List ℕ) → Option (List ℕ) → Type 0
 ComesKnown n None new = ⊤
 ComesKnown n (Some text) None = ⊥
 ComesKnown n (Some text) (Some rest) = ComesNext n text rest
 
--- the text is what is left of a line, with its end or without one, and then the rest
+-- the text is the rest of a line, with its end or without one, and then the rest of the text
 abbrev pub IsPassed : List ℕ → List ℕ → Type 0
 IsPassed text rest =
     (front : List ℕ) × (IsUnended front × ((text ≡ front ++ 10 ∷ rest) ⊎ ((text ≡ front) × (rest ≡ []))))
 
--- what was left of a line is taken off, with its end, and this is left, where the bytes are known
+-- the rest of a line is taken off, with its end, and this is left, if the bytes are known
 abbrev pub PassedKnown : Option (List ℕ) → Option (List ℕ) → Type 0
 PassedKnown None rest = ⊤
 PassedKnown (Some text) None = ⊥
@@ -64,12 +64,12 @@ PassedKnown (Some text) (Some rest) = IsPassed text rest
 abbrev pub HeldKnown : Option (List ℕ) → Option (List ℕ) → Type 0
 HeldKnown text left = (held : List ℕ) × (IsUnended held × Keeps text (prepend_known held left))
 
--- This holds of each piece more of a script but one where a read fails.
+-- This holds of each further piece of a script except one with a failed read.
 abbrev pub UnlessUnread : {A : Type 0} → Result A NextFault → Type 0 → Type 0
 UnlessUnread (Err nexts.Read) P = ⊤
 UnlessUnread result P = P
 
--- how many more lines there can be: by the reads that are left, and what is held
+-- the number of lines that can still come: by the reads that are left, and the bytes held
 abbrev pub lines_left : ℕ → ℕ → ℕ
 lines_left reads held = (16777216 - reads) * 8193 + held
 

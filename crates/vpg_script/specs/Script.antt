@@ -38,17 +38,17 @@ is_within_word b = not (is_blank b)
 abbrev pub unblanked : List ℕ → List ℕ
 unblanked text = drop (prefix_len is_blank text) text
 
--- how many bytes there are up to a quote, with it, which stands at this place; none where there is no quote
+-- the number of bytes up to and with a quote at this place; none without a quote
 abbrev pub behind_quote : Option ℕ → ℕ
 behind_quote None = 0
 behind_quote (Some n) = suc n
 
--- How many bytes behind the first of a word stand in quotes: where it is a quote those up to the next one, blanks among
--- them.
+-- The number of bytes in quotes after the first byte of a word. If that is a quote, these are the bytes up to the next
+-- one, with blanks among them.
 abbrev pub quoted_len : ℕ → List ℕ → ℕ
 quoted_len b text = if is_quote b then behind_quote (position is_quote text) else 0
 
--- the length of the word at the front of a text, which begins with no blank: up to the first blank behind its quotes
+-- the length of the word at the front of a text, which begins with no blank: up to the first blank after its quotes
 abbrev pub word_len : List ℕ → ℕ
 word_len [] = 0
 word_len (b ∷ text) = suc (quoted_len b text + prefix_len is_within_word (drop (quoted_len b text) text))
@@ -58,16 +58,16 @@ abbrev pub word_and : (List ℕ → List (List ℕ)) → List ℕ → List (List
 word_and later [] = []
 word_and later (b ∷ text) = take (word_len (b ∷ text)) (b ∷ text) ∷ later (drop (word_len (b ∷ text)) (b ∷ text))
 
--- the words of a text, so many of them at most
+-- the words of a text, at most this many of them
 abbrev pub words_with : ℕ → List ℕ → List (List ℕ)
 words_with zero text = []
 words_with (suc n) text = word_and (words_with n) (unblanked text)
 
--- The words of a line: what stands between its blanks. One that begins with a quote goes on behind the next quote.
+-- The words of a line, with blanks between them. A word that begins with a quote goes on after the next quote.
 abbrev pub words : List ℕ → List (List ℕ)
 words line = words_with (length line) line
 
--- Where a line has no quote, its words are what stands between its blanks.
+-- If a line has no quote, its words are the pieces between its blanks.
 abbrev pub WordsAreBetweenBlanks : Type 0
 WordsAreBetweenBlanks =
     (line : List ℕ) → list_any is_quote line ≡ false → words line ≡ filter is_nonempty (slice_split is_blank line)
@@ -78,7 +78,7 @@ WordsAreBetweenBlanks =
 abbrev pub is_feature_name : List ℕ → Bool
 is_feature_name w = starts_as_name w && list_all is_name_byte w && nat_le (length w) 64 && is_none (constant_of w)
 
--- the number that a word's digits write, where it is at most this
+-- the number that a word's digits write, if it is at most this
 abbrev pub number_of : ℕ → List ℕ → Option ℕ
 number_of most w =
     if is_nonempty w && list_all is_ascii_digit w && nat_le (digits_value 10 w) most
@@ -102,20 +102,20 @@ pub data Vertex : Type 0 where
   Numbered : (identifier : ℕ) → Vertex
   Named : (name : List ℕ) → Vertex
 
--- what is asked of the page
+-- a question about the page
 pub data Inquiry : Type 0 where
   OfVertex : (question : VertexQuestion) → (vertex : Vertex) → Inquiry
   OfFeature : (name : List ℕ) → Inquiry
   OfChoice : (value : Bool) → (name : List ℕ) → Inquiry
   OfPage : (question : PageQuestion) → Inquiry
 
--- what a line asserts of the page: of a vertex its verdicts, or of the page as a whole
+-- an assertion about the page: of a vertex's verdicts, or of the page as a whole
 pub data Assertion : Type 0 where
   Verdicts : (vertex : Vertex) → (claims : List Claim) → Assertion
   Full : Assertion
   Settled : Assertion
 
--- what is looked at of the page, which stays as it is
+-- a lookup, which looks at the page and leaves it as it is
 pub data Lookup : Type 0 where
   Show : Lookup
   Vertices : (vertices : List Vertex) → Lookup
@@ -139,12 +139,12 @@ pub data Command : Type 0 where
   Commit : (number : ℕ) → Command
   Settle : (sweeps : Option ℕ) → Command
   Look : (lookup : Lookup) → Command
-  -- which verdicts are other than they were at the last of these
+  -- the verdicts that differ from those at the last `changed`
   Changed : Command
   Known : (name : List ℕ) → Command
   Ask : (inquiry : Inquiry) → Command
 
--- the command that a word names, of those that ask something of the page
+-- the command that a word names, if it is a question about the page
 abbrev pub verb_of_question : List ℕ → Option Verb
 verb_of_question w =
     if bytes_eq w (codes "why") then Some verbs.Why
@@ -161,7 +161,7 @@ verb_of_question w =
     else if bytes_eq w (codes "trace") then Some verbs.Trace
     else None
 
--- of those that look at the page, or else ask
+-- the command that a word names, if it is a lookup or such a question
 abbrev pub verb_of_page : List ℕ → Option Verb
 verb_of_page w =
     if bytes_eq w (codes "show") then Some verbs.Show
@@ -211,12 +211,12 @@ bare_command _ = None
 abbrev pub if_name : (List ℕ → Command) → List ℕ → Option Command
 if_name command w = if is_feature_name w then Some (command w) else None
 
--- the name behind a sign
+-- the name after a sign
 abbrev pub signed : ℕ → List ℕ → Option (List ℕ)
 signed sign [] = None
 signed sign (b ∷ name) = if (b == sign) && is_feature_name name then Some name else None
 
--- what stands before the last quote, where there is no other
+-- the text before the last quote, if there is no other quote
 abbrev pub closed : List ℕ → Option (List ℕ)
 closed w =
     if is_quote (slice_index w (length w - 1)) && not (list_any is_quote (take (length w - 1) w))
@@ -228,7 +228,7 @@ abbrev pub quoted : List ℕ → Option (List ℕ)
 quoted [] = None
 quoted (b ∷ w) = if is_quote b then closed w else None
 
--- the name of a vertex that a word is: of the form of a feature's name, or any text in quotes
+-- the name of a vertex that a word spells: of the form of a feature's name, or any text in quotes
 abbrev pub vertex_name : List ℕ → Option (List ℕ)
 vertex_name w = if is_feature_name w then Some w else quoted w
 
@@ -240,22 +240,22 @@ vertex_or None name = option_map Named name
 abbrev pub vertex_named : List ℕ → Option Vertex
 vertex_named w = vertex_or (number_of largest_identifier w) (vertex_name w)
 
--- of a vertex
+-- about a vertex
 abbrev pub of_vertex : VertexQuestion → List ℕ → Option Inquiry
 of_vertex question w = option_map (OfVertex question) (vertex_named w)
 
--- of a decision in, of one out, or else
+-- about a decision in, or one out, or else the other question
 abbrev pub why_else : Option (List ℕ) → Option (List ℕ) → Option Inquiry → Option Inquiry
 why_else (Some name) out other = Some (OfChoice true name)
 why_else None (Some name) other = Some (OfChoice false name)
 why_else None None other = other
 
--- of a feature's name; of a decision, `+` (43) or `-` (45) and a name; or of a vertex
+-- about a feature's name; about a decision, `+` (43) or `-` (45) and a name; or about a vertex
 abbrev pub why_of : List ℕ → Option Inquiry
 why_of w = if is_feature_name w then Some (OfFeature w)
     else why_else (signed 43 w) (signed 45 w) (of_vertex questions.Why w)
 
--- what a verb asks of the page, with one argument
+-- the question of a verb about the page, with one argument
 abbrev pub asked : Verb → List ℕ → Option Inquiry
 asked verbs.Why w = why_of w
 asked verbs.Example w = of_vertex (questions.Example Hopeful) w
@@ -271,7 +271,7 @@ asked verbs.Draw w = of_vertex questions.Draw w
 asked verbs.Trace w = of_vertex questions.Trace w
 asked _ w = None
 
--- with one
+-- a command with one argument
 abbrev pub command_with : Verb → List ℕ → Option Command
 command_with verbs.Select w = if_name Select w
 command_with verbs.Exclude w = if_name Exclude w
@@ -296,18 +296,18 @@ abbrev pub lift_of : Option Which → Option Vertex → Option Command
 lift_of (Some table) (Some vertex) = Some (Lift table vertex)
 lift_of _ _ = None
 
--- with two
+-- a command with two arguments
 abbrev pub command_with_two : Verb → List ℕ → List ℕ → Option Command
 command_with_two verbs.Lift a b = lift_of (table_named a) (vertex_named b)
 command_with_two _ a b = None
 
--- with a first and at most one more
+-- a command with a first argument and at most one more
 abbrev pub command_with_few : Verb → List ℕ → List (List ℕ) → Option Command
 command_with_few verb a [] = command_with verb a
 command_with_few verb a (b ∷ []) = command_with_two verb a b
 command_with_few verb a (b ∷ c ∷ args) = None
 
--- all of them, where none is missing
+-- all of them, if none is missing
 abbrev pub all_there : {X : Type 0} → List (Option X) → Option (List X)
 all_there [] = Some []
 all_there (None ∷ found) = None
@@ -329,7 +329,7 @@ claim_named w =
 abbrev pub claims_of : List (List ℕ) → Option (List Claim)
 claims_of ws = all_there (map claim_named ws)
 
--- of the page as a whole
+-- an assertion about the page as a whole
 abbrev pub state_named : List ℕ → Option Assertion
 state_named w =
     if bytes_eq w (codes "full") then Some Full
@@ -340,7 +340,7 @@ abbrev pub verdicts_of : Option Vertex → Option (List Claim) → Option Assert
 verdicts_of (Some vertex) (Some claims) = Some (Verdicts vertex claims)
 verdicts_of _ _ = None
 
--- one word, or a vertex and its verdicts
+-- the assertion of one word, or of a vertex and its verdicts
 abbrev pub assertion_of : List ℕ → List (List ℕ) → Option Assertion
 assertion_of w [] = state_named w
 assertion_of w (claim ∷ more) = verdicts_of (vertex_named w) (claims_of (claim ∷ more))
@@ -352,7 +352,7 @@ command_of verbs.Show (a ∷ args) = option_map (λ vertices. Look (Vertices ver
 command_of verbs.Assert (a ∷ args) = option_map (λ said. Look (Assert said)) (assertion_of a args)
 command_of verb (a ∷ args) = command_with_few verb a args
 
--- the label that a word is: a number from 1 to 64 and a colon
+-- the label that a word spells: a number from 1 to 64 and a colon
 abbrev pub if_positive : Option ℕ → Option ℕ
 if_positive None = None
 if_positive (Some n) = if n == 0 then None else Some n
@@ -365,7 +365,7 @@ pub record Request : Type 0 where
   pub label : ℕ
   pub command : Command
 
--- what a line says: nothing, a request, or its fault
+-- the meaning of a line: nothing, a request, or its fault
 abbrev pub Said : Type 0
 Said = Result (Option Request) LineFault
 
@@ -393,6 +393,6 @@ abbrev pub said_by : List (List ℕ) → Said
 said_by [] = Ok None
 said_by (w ∷ rest) = if is_comment w then Ok None else labelled (label_of w) (w ∷ rest) rest
 
--- what a line says
+-- the meaning of a line
 abbrev pub said : List ℕ → Said
 said line = if nat_lt longest_line (length line) then Err faults.TooLong else said_by (words line)

@@ -1,4 +1,4 @@
--- What the types of the code stand for.
+-- The values of definitions that values of the code stand for.
 use Rattle.std.specs.Prelude.{◌≡◌, ℕ, List, map, Option, option_map, Result, Ok, Err}
 use Rattle.std.specs.Borrow.{Bor}
 use Rattle.vpg_script.specs.Script as script
@@ -27,13 +27,13 @@ inquiry_shown (inquiries.OfFeature f) = script.OfFeature f.now
 inquiry_shown (inquiries.OfChoice value f) = script.OfChoice value f.now
 inquiry_shown (inquiries.OfPage question) = script.OfPage question
 
--- what is asserted, as definitions see it
+-- an assertion, as definitions see it
 abbrev pub assertion_shown : Assertion → script.Assertion
 assertion_shown (assertions.Verdicts v claims) = script.Verdicts (vertex_shown v) claims.items
 assertion_shown assertions.Full = script.Full
 assertion_shown assertions.Settled = script.Settled
 
--- what is looked at, as definitions see it
+-- a lookup, as definitions see it
 abbrev pub lookup_shown : Lookup → script.Lookup
 lookup_shown lookups.Show = script.Show
 lookup_shown (lookups.Vertices vs) = script.Vertices (map vertex_shown vs.items)
@@ -68,7 +68,7 @@ texts words = map (λ w. w.now) words
 abbrev pub request_shown : Request → script.Request
 request_shown r = record { label = r.label; command = command_shown r.command }
 
--- The function answers what the line says, unless memory runs out.
+-- The function returns the line's meaning, unless memory runs out.
 abbrev pub Says : Result (Option Request) ReadFault → script.Said → Type 0
 Says (Ok request) said = said ≡ Ok (option_map request_shown request)
 Says (Err (faults.Line f)) said = said ≡ Err f

@@ -1,4 +1,4 @@
-//! The names by which lines call vertices.
+//! The names that lines may give vertices.
 ghost use Rattle.std.specs.Prelude.{◌≡◌, ◌++◌, ◌∷◌, [], ◌==◌, not, ◌||◌, bytes_eq, option_map, IfOk, OnErr, OnOk};
 ghost use Rattle.std.specs.List.{find};
 ghost use Rattle.vpg_script.specs.Calling.{calls, first_called, identifier_of, is_alone, is_called};
@@ -27,15 +27,15 @@ fn is_called(calling: &Calling, name: &[u8]) -> bool
     calling.name.as_slice() == name
 }
 
-/// Whether a vertex is called otherwise, or is the one of this identifier.
+/// Whether a vertex has another name, or is the one of this identifier.
 fn is_other_or(calling: &Calling, name: &[u8], identifier: u32) -> bool
     ensures { result ≡ (not (is_called name.now calling.now) || (calling.now.identifier == identifier)) }
 {
     !is_called(calling, name) || calling.identifier == identifier
 }
 
-/// The names by which vertices are called. A vertex may have several, and a name may be that of several vertices: such
-/// a name stands for none.
+/// The names of vertices. A vertex may have several, and a name may be that of several vertices: such a name stands for
+/// none.
 #[derive(Drop)]
 pub struct Callings {
     callings: Vec<Calling>,
@@ -50,7 +50,7 @@ impl Model for Callings {
     ghost view = { λ c. c.callings.items };
 }
 
-/// The identifier of the first vertex that is called so.
+/// Returns the identifier of the first vertex with this name.
 fn first_called(callings: &[Calling], name: &[u8]) -> Option<u32>
     ensures { result ≡ first_called callings.now name.now }
 {
@@ -60,7 +60,7 @@ fn first_called(callings: &[Calling], name: &[u8]) -> Option<u32>
     }
 }
 
-/// Whether no vertex but the one of this identifier is called so.
+/// Whether no vertex except the one of this identifier has this name.
 fn is_alone(callings: &[Calling], name: &[u8], identifier: u32) -> bool
     ensures { result ≡ is_alone callings.now name.now identifier }
 {
@@ -74,7 +74,7 @@ fn is_name_of_any(callings: &[Calling], name: &[u8]) -> bool
 }
 
 impl Callings {
-    /// No names.
+    /// Returns no names.
     pub fn none(alloc: Global) -> Callings
         ensures { result ≡ [] }
     {
@@ -94,7 +94,7 @@ impl Callings {
         Ok(())
     }
 
-    /// The identifier of the vertex that is called so; `None` where no vertex is, or several are.
+    /// Returns the identifier of the vertex with this name; `None` if no vertex has it, or several do.
     pub fn identifier(&self, name: &[u8]) -> Option<u32>
         ensures { result ≡ identifier_of self.now name.now }
     {
@@ -106,7 +106,7 @@ impl Callings {
         }
     }
 
-    /// Whether a vertex is called so, or several are.
+    /// Whether one or several vertices have this name.
     pub fn calls(&self, name: &[u8]) -> bool
         ensures { result ≡ calls self.now name.now }
     {

@@ -62,33 +62,33 @@ pub enum Verb {
     Trace,
 }
 
-/// What is asked of a vertex.
+/// A question about a vertex.
 #[derive(Clone, Copy)]
 pub enum VertexQuestion {
     /// Why it has its verdicts.
     Why,
-    /// A product that is left in which Even wins from it, for the first table, or Odd, for the second.
+    /// A product left in which Even wins from it, for the hopeful table, or Odd, for the dual.
     Example(Which),
-    /// What each further decision would make of it.
+    /// Its verdicts after each further decision.
     Offer,
-    /// What each product has that is left and in which Even wins from it.
+    /// The features that all products left have, or lack, in which Even wins from it.
     Needs,
-    /// What to retract so that it is not hopeless any more.
+    /// The decisions to retract so that it is not hopeless any more.
     Repair,
-    /// Why in no product that is left Even wins from it, for the first table, or Odd, for the second.
+    /// Why Even wins from it in no product left, for the hopeful table, or Odd, for the dual.
     Lost(Which),
-    /// Moves of Even, for the first table, or Odd, for the second, that win from it in every product that is left.
+    /// Moves of Even, for the hopeful table, or Odd, for the dual, that win from it in every product left.
     Moves(Which),
-    /// A picture of what can be reached from it.
+    /// A picture of the vertices that can be reached from it.
     Draw,
-    /// How its verdict comes about, as steps of the system.
+    /// The trace of its verdict, as steps of the system.
     Trace,
 }
 
-/// What is asked of the page as a whole.
+/// A question about the page as a whole.
 #[derive(Clone, Copy)]
 pub enum PageQuestion {
-    /// Which features that are not known are the same in every product that is left.
+    /// Which features that are not known are the same in every product left.
     Forced,
     /// Whether no product is left.
     Empty,
@@ -112,18 +112,18 @@ pub enum Claim {
     Unsure,
 }
 
-/// What a line asserts of the page.
+/// An assertion of a line about the page.
 #[derive(Drop)]
 pub enum Assertion<'t> {
-    /// That a vertex has these verdicts.
+    /// A vertex has these verdicts.
     Verdicts(Vertex<'t>, Vec<Claim>),
-    /// That each feature is known.
+    /// Each feature is known.
     Full,
-    /// That both tables are progress tables.
+    /// Both tables are progress tables.
     Settled,
 }
 
-/// What is looked at of the page, which stays as it is.
+/// A lookup, which looks at the page and leaves it as it is.
 #[derive(Drop)]
 pub enum Lookup<'t> {
     Show,
@@ -138,16 +138,16 @@ pub enum Lookup<'t> {
     Assert(Assertion<'t>),
 }
 
-/// What is asked of the page. Names stand in the line that was read.
+/// A question about the page. Names stand in the line that was read.
 #[derive(Clone, Copy)]
 pub enum Inquiry<'t> {
-    /// Something of a vertex.
+    /// About a vertex.
     OfVertex(VertexQuestion, Vertex<'t>),
     /// Why a feature is known, or a vertex of this name has its verdicts.
     OfFeature(&'t [u8]),
     /// Why one more decision contradicts the page: whether the feature is to be in, and its name.
     OfChoice(bool, &'t [u8]),
-    /// Something of the page as a whole.
+    /// About the page as a whole.
     OfPage(PageQuestion),
 }
 
@@ -167,13 +167,13 @@ pub enum Command<'t> {
     Commit(u64),
     Settle(Option<u64>),
     Look(Lookup<'t>),
-    /// Which verdicts are other than they were at the last of these.
+    /// The verdicts that differ from those at the last `changed`.
     Changed,
     Known(&'t [u8]),
     Ask(Inquiry<'t>),
 }
 
-/// What is wrong with a line.
+/// The fault of a line.
 #[derive(Clone, Copy, Debug, PartialEq, Eq, Error)]
 pub enum LineFault {
     /// No command has this name, or the label is none from 1 to 64.
@@ -221,7 +221,7 @@ fn digit(b: u8) -> u64
     (b - b'0') as u64
 }
 
-/// The number that digits write, or one more than the most where it is larger.
+/// Returns the number that digits write, or one more than the most if it is larger.
 fn bounded_value(digits: &[u8], above: u128) -> u128
     requires above { above ≤ 2 ^ 64 }
     requires digits { list_all is_ascii_digit digits.now ≡ true }
@@ -234,7 +234,7 @@ fn bounded_value(digits: &[u8], above: u128) -> u128
     value
 }
 
-/// The number that a word's digits write, where it is at most this.
+/// Returns the number that a word's digits write, if it is at most this.
 fn number(word: &[u8], most: u64) -> Option<u64>
     ensures { result ≡ number_of most word.now }
 {
@@ -249,7 +249,7 @@ fn number(word: &[u8], most: u64) -> Option<u64>
     }
 }
 
-/// The command that a word names: of those that decide, take back, lift and settle, or else another.
+/// Returns the command that a word names: one that decides, retracts, lifts or settles, or else another.
 fn verb_named(word: &[u8]) -> Option<Verb>
     ensures { result ≡ verb_of word.now }
 {
@@ -280,7 +280,7 @@ fn verb_named(word: &[u8]) -> Option<Verb>
     }
 }
 
-/// The command that a word names: of those that look at the page, or else another.
+/// Returns the command that a word names: a lookup, or else another.
 fn verb_of_page_named(word: &[u8]) -> Option<Verb>
     ensures { result ≡ verb_of_page word.now }
 {
@@ -307,7 +307,7 @@ fn verb_of_page_named(word: &[u8]) -> Option<Verb>
     }
 }
 
-/// The command that a word names: of those that ask something of the page.
+/// Returns the command that a word names, if it is a question about the page.
 fn verb_of_question_named(word: &[u8]) -> Option<Verb>
     ensures { result ≡ verb_of_question word.now }
 {
@@ -340,7 +340,7 @@ fn verb_of_question_named(word: &[u8]) -> Option<Verb>
     }
 }
 
-/// A command without arguments.
+/// Returns a command without arguments.
 fn bare_command<'t>(verb: Verb) -> Option<Command<'t>>
     ensures { option_map command_shown result ≡ bare_command verb }
 {
@@ -380,7 +380,7 @@ fn bare_command<'t>(verb: Verb) -> Option<Command<'t>>
     }
 }
 
-/// The name behind a sign.
+/// Returns the name after a sign.
 fn signed(sign: u8, word: &[u8]) -> Option<&[u8]>
     ensures { option_map (λ name. name.now) result ≡ signed sign word.now }
 {
@@ -396,7 +396,7 @@ fn has_quote(bytes: &[u8]) -> bool
     bytes.iter().any(|b| *b == b'"')
 }
 
-/// What stands before the last quote, where there is no other.
+/// Returns the text before the last quote, if there is no other quote.
 fn closed(word: &[u8]) -> Option<&[u8]>
     ensures { option_map (λ name. name.now) result ≡ closed word.now }
 {
@@ -406,7 +406,7 @@ fn closed(word: &[u8]) -> Option<&[u8]>
     }
 }
 
-/// The bytes between two quotes.
+/// Returns the bytes between two quotes.
 fn quoted(word: &[u8]) -> Option<&[u8]>
     ensures { option_map (λ name. name.now) result ≡ quoted word.now }
 {
@@ -416,7 +416,7 @@ fn quoted(word: &[u8]) -> Option<&[u8]>
     }
 }
 
-/// The name of a vertex that a word is.
+/// Returns the name of a vertex that a word spells.
 fn vertex_name(word: &[u8]) -> Option<&[u8]>
     ensures { option_map (λ name. name.now) result ≡ vertex_name word.now }
 {
@@ -427,7 +427,7 @@ fn vertex_name(word: &[u8]) -> Option<&[u8]>
     }
 }
 
-/// The vertex that a word names: by its identifier, or else by its name.
+/// Returns the vertex that a word names: by its identifier, or else by its name.
 fn vertex_named(word: &[u8]) -> Option<Vertex>
     ensures { option_map vertex_shown result ≡ vertex_named word.now }
 {
@@ -440,7 +440,7 @@ fn vertex_named(word: &[u8]) -> Option<Vertex>
     }
 }
 
-/// A question of the vertex that a word names.
+/// Returns a question about the vertex that a word names.
 fn of_vertex(question: VertexQuestion, word: &[u8]) -> Option<Inquiry>
     ensures { option_map inquiry_shown result ≡ of_vertex question word.now }
 {
@@ -448,7 +448,7 @@ fn of_vertex(question: VertexQuestion, word: &[u8]) -> Option<Inquiry>
     Some(Inquiry::OfVertex(question, vertex))
 }
 
-/// What is asked why: a vertex, a feature, or a decision.
+/// Returns the question that `why` asks: about a vertex, a feature, or a decision.
 fn why_of(word: &[u8]) -> Option<Inquiry>
     ensures { option_map inquiry_shown result ≡ why_of word.now }
 {
@@ -464,7 +464,7 @@ fn why_of(word: &[u8]) -> Option<Inquiry>
     of_vertex(VertexQuestion::Why, word)
 }
 
-/// What a command with one argument asks of the page; nothing where the verb asks nothing.
+/// Returns the question of a command with one argument; none if the verb asks nothing.
 fn asked(verb: Verb, word: &[u8]) -> Option<Inquiry>
     ensures { option_map inquiry_shown result ≡ asked verb word.now }
 {
@@ -485,7 +485,7 @@ fn asked(verb: Verb, word: &[u8]) -> Option<Inquiry>
     }
 }
 
-/// A command with one argument.
+/// Returns a command with one argument.
 fn command_with(verb: Verb, word: &[u8]) -> Option<Command>
     ensures { option_map command_shown result ≡ command_with verb word.now }
 {
@@ -516,7 +516,7 @@ fn table_named(word: &[u8]) -> Option<Which>
     }
 }
 
-/// A command with two arguments.
+/// Returns a command with two arguments.
 fn command_with_two<'t>(verb: Verb, first: &[u8], second: &'t [u8]) -> Option<Command<'t>>
     ensures { option_map command_shown result ≡ command_with_two verb first.now second.now }
 {
@@ -530,7 +530,7 @@ fn command_with_two<'t>(verb: Verb, first: &[u8], second: &'t [u8]) -> Option<Co
     }
 }
 
-/// A command with a first argument and at most one more.
+/// Returns a command with a first argument and at most one more.
 fn command_with_few<'t>(verb: Verb, first: &'t [u8], more: &[&'t [u8]]) -> Option<Command<'t>>
     ensures { option_map command_shown result ≡ command_with_few verb first.now (texts more.now) }
 {
@@ -541,7 +541,7 @@ fn command_with_few<'t>(verb: Verb, first: &'t [u8], more: &[&'t [u8]]) -> Optio
     }
 }
 
-/// The vertices that words name.
+/// Returns the vertices that words name.
 fn vertices_of<'t>(alloc: Global, words: &[&'t [u8]]) -> Result<Option<Vec<Vertex<'t>>>, AllocError>
     ensures { IfOk result (λ found.
         option_map (λ vs. map vertex_shown vs.items) found ≡ vertices_of (texts words.now)) }
@@ -572,7 +572,7 @@ fn claim_named(word: &[u8]) -> Option<Claim>
     }
 }
 
-/// The verdicts that words are.
+/// Returns the verdicts that words spell.
 fn claims_of(alloc: Global, words: &[&[u8]]) -> Result<Option<Vec<Claim>>, AllocError>
     ensures { IfOk result (λ found. option_map (λ claims. claims.items) found ≡ claims_of (texts words.now)) }
 {
@@ -586,7 +586,7 @@ fn claims_of(alloc: Global, words: &[&[u8]]) -> Result<Option<Vec<Claim>>, Alloc
     Ok(Some(claims))
 }
 
-/// What is asserted of the page as a whole.
+/// Returns the assertion of a word about the page as a whole.
 fn state_named(word: &[u8]) -> Option<Assertion>
     ensures { option_map assertion_shown result ≡ state_named word.now }
 {
@@ -599,7 +599,7 @@ fn state_named(word: &[u8]) -> Option<Assertion>
     }
 }
 
-/// What is asserted of the vertex that a word names.
+/// Returns the assertion of words about a vertex, with its verdicts.
 fn verdicts_of<'t>(
     alloc: Global,
     first: &'t [u8],
@@ -617,7 +617,7 @@ fn verdicts_of<'t>(
     }
 }
 
-/// What is asserted: of the page as a whole, or of a vertex.
+/// Returns the assertion of words: about the page as a whole, or about a vertex.
 fn assertion_of<'t>(
     alloc: Global,
     first: &'t [u8],
@@ -632,7 +632,7 @@ fn assertion_of<'t>(
     }
 }
 
-/// The command of a verb and its arguments.
+/// Returns the command of a verb and its arguments.
 fn command_of<'t>(
     alloc: Global,
     verb: Verb,
@@ -656,7 +656,7 @@ fn command_of<'t>(
     }
 }
 
-/// The label that a word is.
+/// Returns the label that a word spells.
 fn label(word: &[u8]) -> Option<u32>
     ensures { result ≡ label_of word.now }
 {
@@ -727,7 +727,7 @@ fn said_by<'t>(alloc: Global, words: &[&'t [u8]]) -> Result<Option<Request<'t>>,
     }
 }
 
-/// What a line says: nothing, or a command under its label.
+/// Returns the meaning of a line: nothing, or a command under its label.
 pub fn read_line(alloc: Global, line: &[u8]) -> Result<Option<Request>, ReadFault>
     ensures { Says result (said line.now) }
 {

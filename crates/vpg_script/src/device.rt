@@ -1,4 +1,4 @@
-//! What a script is read from, and what its answers are written to.
+//! The source of a script, and the sink of its answers.
 ghost use Rattle.std.specs.Prelude.{◌≡◌, ℕ, ◌+◌, ◌≤◌, ◌<◌, false, List, ◌++◌, None, Some, Bool, true, OnOk, OnErr, length};
 ghost use Rattle.std.specs.Io.{ReadsAtMost, WritesAtMost};
 ghost use Rattle.std.specs.Io.KnownBytes.{ReadConsumes, WriteAppends, Appends, Keeps};
@@ -13,9 +13,9 @@ use thiserror::Error;
 #[error("Failed")]
 pub struct Failed;
 
-/// What a script is read from.
+/// A source of a script.
 pub trait Source {
-    // The bytes that it will give from here on, where they are known.
+    // The bytes that it will give from here on, if they are known.
     ghost remaining: { Self → Option (List ℕ) };
 
     // One of its reads failed.
@@ -35,15 +35,15 @@ pub trait Source {
         ensures err { OnErr result (has_failed self.new ≡ true) };
 }
 
-/// What answers are written to.
+/// A sink of answers.
 pub trait Sink {
-    // The bytes that it holds, where they are known.
+    // The bytes that it holds, if they are known.
     ghost contents: { Self → Option (List ℕ) };
 
     // One of its writes failed.
     ghost has_failed: { Self → Bool };
 
-    /// Writes all bytes. Where it fails, some of the first ones are written.
+    /// Writes all bytes. If it fails, some of the first ones are written.
     fn put(&mut self, bytes: &[u8]) -> Result<(), Failed>
         ensures ok { OnOk result (Appends (contents self.old) (contents self.new) bytes.now) }
         ensures ok_same { OnOk result (has_failed self.new ≡ has_failed self.old) }
@@ -60,7 +60,7 @@ pub struct Device<D> {
 }
 
 impl<R: Read> Device<R> {
-    /// A reader that was not read yet.
+    /// Returns a reader that was not read yet.
     pub fn reader(inner: R) -> Device<R>
         ensures remaining { ⟦<Device<R> as Source>⟧.remaining result ≡ R.remaining inner }
         ensures sound { ⟦<Device<R> as Source>⟧.has_failed result ≡ false }
@@ -75,7 +75,7 @@ impl<R: Read> Device<R> {
 }
 
 impl<W: Write> Device<W> {
-    /// A writer that did not fail yet.
+    /// Returns a writer that did not fail yet.
     pub fn writer(inner: W) -> Device<W>
         ensures contents { ⟦<Device<W> as Sink>⟧.contents result ≡ W.contents inner }
         ensures sound { ⟦<Device<W> as Sink>⟧.has_failed result ≡ false }
@@ -87,7 +87,7 @@ impl<W: Write> Device<W> {
         }
     }
 
-    /// The writer, with what was written to it.
+    /// Returns the writer, with the bytes that were written to it.
     pub fn into_writer(self) -> W
         ensures { W.contents result ≡ ⟦<Device<W> as Sink>⟧.contents self }
     {

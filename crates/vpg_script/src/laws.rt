@@ -8,12 +8,12 @@ pub fn read_lines_are_the_lines()
     ensures { ReadIsWhole }
 {}
 
-/// Where no vertex has a name, each request means itself.
+/// If no vertex has a name, each request means itself.
 pub fn a_request_means_itself()
     ensures { MeansItself }
 {}
 
-/// Where a line has no quote, its words are what stands between its blanks.
+/// If a line has no quote, its words are the pieces between its blanks.
 pub fn words_stand_between_blanks()
     ensures { WordsAreBetweenBlanks }
 {}

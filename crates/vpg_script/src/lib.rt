@@ -1,22 +1,22 @@
-//! Scripts of commands: what they are read from, how their lines are told apart, and what each line requests.
+//! Scripts of commands: their sources, how they are cut into lines, and the request of each line.
 //!
-//! A script is read from a `Source`, a piece at a time, and `next_line` gives its next line. A line is blank, a
+//! A script is read from a `Source`, a piece at a time, and `next_line` returns its next line. A line is blank, a
 //! comment, or a command with its arguments, under a label from 1 to 64 or none; `read_line` says which. The commands
 //! are `select`, `exclude`, `retract`, `undo`, `redo`, `keep`, `forget`, `lift`, `harvest`, `commit`, `settle`,
-//! `changed` and `known`; what is looked at of the page, a `Lookup`: `show`, `trail`, `products`, `plan`, `count`,
-//! `draw` and `assert`; and what is asked of it, an `Inquiry`: `why`, `example`, `counterexample`, `offer`, `needs`,
-//! `repair`, `lost`, `won`, `spoil`, `trace`, `plan` and `draw` of a vertex, `forced` and `empty`. Each other first
-//! word is a fault of its line. A further question of a vertex is a `VertexQuestion` more, one of the page as a whole a
-//! `PageQuestion`: the crate of answers has to know it, and the crate of runs does not.
+//! `changed` and `known`. A `Lookup` looks at the page: `show`, `trail`, `products`, `plan`, `count`, `draw` and
+//! `assert`. An `Inquiry` is a question about it: `why`, `example`, `counterexample`, `offer`, `needs`, `repair`,
+//! `lost`, `won`, `spoil`, `trace`, `plan` and `draw` of a vertex, `forced` and `empty`. Each other first word is a
+//! fault of its line. A further question about a vertex is a new `VertexQuestion`, and one about the page as a whole a
+//! new `PageQuestion`. The crate of answers has to know it; the crate of runs does not.
 //!
-//! A vertex is named by its identifier, or by a name: `Callings` are the names by which vertices are called, and
-//! `meant` is the request in which the identifier of each vertex stands in place of its name.
+//! A vertex is named by its identifier, or by a name. `Callings` are the names of vertices, and `meant` returns the
+//! request with the identifier of each vertex in place of its name.
 //!
 //! This crate carries nothing out: the crate of serving above answers lines, to a `Sink`. `Device` makes a `Source` of
 //! each reader, and a `Sink` of each writer.
 //!
-//! What a line says is defined in `specs/Script`, what its names mean in `specs/Calling`, what comes next in a text in
-//! `specs/Lines`, what a failed write leaves in `specs/Devices`. All are this project's own.
+//! The meaning of a line is defined in `specs/Script`, that of its names in `specs/Calling`, the next line of a text in
+//! `specs/Lines`, and a failed write in `specs/Devices`. All are this project's own.
 #![tactic(auto)]
 
 mod calling;

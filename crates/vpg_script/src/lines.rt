@@ -14,10 +14,10 @@ use thiserror::Error;
 /// The most read calls of one run.
 pub const MOST_READS: u32 = 16_777_216;
 
-/// How many bytes one read asks for.
+/// The number of bytes that one read asks for.
 const PIECE: usize = 8192;
 
-/// What comes next in a script.
+/// The next piece of a script.
 #[derive(Drop)]
 pub enum Next {
     Line(Vec<u8>),
@@ -25,7 +25,7 @@ pub enum Next {
     TooLong,
 }
 
-/// Why nothing comes.
+/// Why no next piece comes.
 #[derive(Clone, Copy, Debug, Error)]
 pub enum NextFault {
     /// The reader failed, or was read 16,777,216 times.
@@ -35,7 +35,7 @@ pub enum NextFault {
     Memory,
 }
 
-/// How many bytes of the first line are there.
+/// Returns the number of bytes of the first line.
 fn line_len(bytes: &[u8]) -> usize
     ensures len { result ≡ prefix_len is_within_line bytes.now }
     ensures within { result ≤ length bytes.now }
@@ -63,7 +63,7 @@ fn drop_line(held: &mut Vec<u8>, n: usize)
     held.truncate(rest);
 }
 
-/// Takes the first line off, with the line feed that stands at n, and gives it.
+/// Takes the first line off, with the line feed that stands at n, and returns it.
 fn cut(alloc: Global, held: &mut Vec<u8>, n: usize) -> Result<Vec<u8>, AllocError>
     requires { n < vec_len held.old }
     ensures line { IfOk result (λ line. line.items ≡ strip_carriage_return (take n held.old.items)) }
@@ -76,7 +76,7 @@ fn cut(alloc: Global, held: &mut Vec<u8>, n: usize) -> Result<Vec<u8>, AllocErro
     Ok(line)
 }
 
-/// Reads once more. Whether anything came.
+/// Reads once more. Returns whether anything came.
 fn more<R: Source>(held: &mut Vec<u8>, reader: &mut R) -> Result<bool, NextFault>
     requires { R.calls reader.old < 16777216 }
     ensures counted { R.calls reader.new ≡ R.calls reader.old + 1 }
@@ -105,7 +105,7 @@ fn more<R: Source>(held: &mut Vec<u8>, reader: &mut R) -> Result<bool, NextFault
     }
 }
 
-/// What is held when nothing more comes.
+/// Returns the last piece, from the bytes held when nothing more comes.
 fn last(alloc: Global, held: &mut Vec<u8>) -> Next
     requires { IsUnended held.old.items }
     ensures next { ComesNext result held.old.items [] }
@@ -117,7 +117,7 @@ fn last(alloc: Global, held: &mut Vec<u8>) -> Next
     Next::Line(mem::replace(held, Vec::new(alloc)))
 }
 
-/// The next line. What is held are the bytes that were read and not used; `reads` counts the reads.
+/// Returns the next line. `held` has the bytes that were read and not used; `reads` counts the reads.
 pub fn next_line<R: Source>(
     alloc: Global,
     held: &mut Vec<u8>,
@@ -167,7 +167,7 @@ pub fn next_line<R: Source>(
     }
 }
 
-/// Takes what is left of a line off, with its end, and holds nothing of it.
+/// Takes the rest of a line off, with its end, and holds nothing of it.
 pub fn pass_line<R: Source>(
     held: &mut Vec<u8>,
     reads: &mut u32,

@@ -1,4 +1,4 @@
-//! What lines mean whose vertices are named.
+//! The meaning of lines with names for vertices.
 ghost use Rattle.std.specs.Prelude.{◌≡◌, map, IfOk, is_some};
 ghost use Rattle.vpg_features.specs.Names.{index_of};
 ghost use Rattle.vpg_script.specs.Calling.{calls, meant, meant_assertion, meant_command, meant_inquiry, meant_lookup, meant_name, meant_vertex};
@@ -9,7 +9,7 @@ use crate::command::{Assertion, Claim, Command, Inquiry, Lookup, Request, Vertex
 use std::alloc::{AllocError, Global};
 use vpg_features::Names;
 
-/// A vertex by its identifier, where its name stands for one.
+/// Returns a vertex by its identifier, if its name stands for one.
 fn meant_vertex<'t>(callings: &Callings, vertex: Vertex<'t>) -> Vertex<'t>
     ensures { vertex_shown result ≡ meant_vertex callings.now (vertex_shown vertex.entry) }
 {
@@ -22,7 +22,7 @@ fn meant_vertex<'t>(callings: &Callings, vertex: Vertex<'t>) -> Vertex<'t>
     }
 }
 
-/// The same of each of some vertices.
+/// Returns these vertices by their identifiers, if their names stand for some.
 fn meant_vertices<'t>(
     alloc: Global,
     callings: &Callings,
@@ -85,7 +85,7 @@ fn is_feature(features: &Names, name: &[u8]) -> bool
     features.get(name).is_some()
 }
 
-/// Why the feature of a name is known, or else a vertex of this name has its verdicts.
+/// Returns the question why the feature of a name is known, or else why a vertex of this name has its verdicts.
 fn meant_name<'t>(callings: &Callings, features: &Names, name: &'t [u8]) -> Inquiry<'t>
     ensures { inquiry_shown result ≡ meant_name (is_some (index_of features.now name.now)) (calls callings.now name.now)
         callings.now name.now }
@@ -142,9 +142,9 @@ fn meant_command<'t>(
     }
 }
 
-/// The request that is meant where vertices are called so, over these features: each name of a vertex is replaced by
-/// the identifier that it stands for. A name that stands for none stays. `why F` asks of the feature F, where there is
-/// one, and else of the vertex that is called so.
+/// Returns the request as meant, with these names of vertices and over these features: each name of a vertex is
+/// replaced by the identifier that it stands for. A name that stands for none stays. `why F` asks about the feature F,
+/// if there is one, and else about the vertex of that name.
 pub fn meant<'t>(
     alloc: Global,
     callings: &Callings,

@@ -20,7 +20,7 @@ pub(crate) fn is_nonempty(part: &[u8]) -> bool
     }
 }
 
-/// How many blanks stand at the front.
+/// Returns the number of blanks at the front.
 fn blanks_len(text: &[u8]) -> usize
     ensures len { result ≡ prefix_len is_blank text.now }
     ensures within { result ≤ length text.now }
@@ -28,7 +28,7 @@ fn blanks_len(text: &[u8]) -> usize
     text.iter().take_while(|b| is_blank(**b)).count()
 }
 
-/// How many bytes stand before the first blank.
+/// Returns the number of bytes before the first blank.
 fn within_len(text: &[u8]) -> usize
     ensures len { result ≡ prefix_len is_within_word text.now }
     ensures within { result ≤ length text.now }
@@ -36,7 +36,7 @@ fn within_len(text: &[u8]) -> usize
     text.iter().take_while(|b| !is_blank(**b)).count()
 }
 
-/// The text from its first word on.
+/// Returns the text from its first word on.
 fn unblanked(text: &[u8]) -> &[u8]
     ensures rest { result.now ≡ unblanked text.now }
     ensures shorter { length result.now ≤ length text.now }
@@ -51,7 +51,7 @@ fn quote_at(text: &[u8]) -> Option<usize>
     text.iter().position(|b| *b == b'"')
 }
 
-/// How many bytes there are up to the next quote, with it; none where there is no quote.
+/// Returns the number of bytes up to and with the next quote; none without a quote.
 fn behind_quote(text: &[u8]) -> usize
     ensures len { result ≡ behind_quote (position is_quote text.now) }
     ensures within { result ≤ length text.now }
@@ -62,7 +62,7 @@ fn behind_quote(text: &[u8]) -> usize
     }
 }
 
-/// How many bytes behind the first of a word stand in quotes.
+/// Returns the number of bytes in quotes after the first byte of a word.
 fn quoted_len(first: u8, text: &[u8]) -> usize
     ensures len { result ≡ quoted_len first text.now }
     ensures within { result ≤ length text.now }
@@ -70,7 +70,7 @@ fn quoted_len(first: u8, text: &[u8]) -> usize
     if first == b'"' { behind_quote(text) } else { 0 }
 }
 
-/// The length of the word at the front, which begins with no blank.
+/// Returns the length of the word at the front, which begins with no blank.
 fn word_len(text: &[u8]) -> usize
     ensures len { result ≡ word_len text.now }
     ensures within { result ≤ length text.now }
@@ -85,7 +85,7 @@ fn word_len(text: &[u8]) -> usize
     }
 }
 
-/// The first word, and what stands behind it.
+/// Returns the first word, and the text after it.
 fn first_word(text: &[u8]) -> Option<(&[u8], &[u8])>
     ensures some { IfSome result (λ p. (n : ℕ) → words_with (suc n) text.now ≡ p.0.now ∷ words_with n p.1.now) }
     ensures shorter { IfSome result (λ p. length p.1.now < length text.now) }
@@ -98,7 +98,7 @@ fn first_word(text: &[u8]) -> Option<(&[u8], &[u8])>
     Some(text.split_at(word_len(text)))
 }
 
-/// The words of a line: what stands between its blanks, and a text in quotes with the blanks in it.
+/// Returns the words of a line: the pieces between its blanks, and a text in quotes with the blanks in it.
 pub(crate) fn words_of(alloc: Global, line: &[u8]) -> Result<Vec<&[u8]>, AllocError>
     ensures { IfOk result (λ v. map (λ w. w.now) v.items ≡ words line.now) }
 {

@@ -22,32 +22,32 @@ use Rattle.vpg_serving.specs.declared.fault.RunFault.TheVariants as stops
 abbrev pub is_refusal : List ℕ → Bool
 is_refusal text = starts_with nat_eq text (codes "refused ")
 
--- whether it is that of an assertion that fails
+-- whether it is the answer to an assertion that fails
 abbrev pub is_failure : List ℕ → Bool
 is_failure text = starts_with nat_eq text (codes "fails")
 
--- what an answer begins with
+-- the beginning of an answer
 abbrev pub tone_of : List ℕ → Tone
 tone_of text = record { refused = is_refusal text; fails = is_failure text }
 
--- the answer to a line with a fault, where the script goes on
+-- the answer to a line with a fault, if the script goes on
 abbrev pub fault_line : LineFault → List ℕ
 fault_line faults.Word = codes "refused Word\n"
 fault_line faults.Args = codes "refused Args\n"
 fault_line faults.TooLong = codes "refused TooLong\n"
 
--- Where the script goes on, a line with a fault is answered by it and changes nothing.
+-- If the script goes on, the answer to a line with a fault is the fault, and nothing changes.
 abbrev pub AnswersFault : {S : Type 0} → Bool → S → LineFault → List ℕ → S → Type 0
 AnswersFault true s fault text new = (text ≡ fault_line fault) × (new ≡ s)
 AnswersFault false s fault text new = ⊥
 
--- what a machine does with what a line says, where the script goes on behind a line with a fault or ends there
+-- a machine's answer to the meaning of a line; `goes_on` says whether the script goes on after a line with a fault
 abbrev pub Answers : {S : Type 0} → Bool → Machine S → S → Said → List ℕ → S → Type 0
 Answers goes_on serves s (Ok None) text new = (text ≡ []) × (new ≡ s)
 Answers goes_on serves s (Ok (Some request)) text new = serves s request text new
 Answers goes_on serves s (Err fault) text new = AnswersFault goes_on s fault text new
 
--- with one line after another, and the answer to each
+-- one line after another, with the answer to each
 abbrev pub AnsweredEach : {S : Type 0} → Bool → Machine S → S → List (List ℕ) → List (List ℕ) → S → Type 0
 AnsweredEach goes_on serves s [] texts new = (texts ≡ []) × (new ≡ s)
 AnsweredEach {S} goes_on serves s (line ∷ lines) texts new =
@@ -63,13 +63,13 @@ pub record WroteEach {S : Type 0} (goes_on : Bool) (serves : Machine S) (old new
   pub answered : AnsweredEach goes_on serves old lines texts new
   pub written : Appends before after (concat texts)
 
--- the same, and a strict script has no refusal among them
+-- as `WroteEach`, and a strict script has no refusal among them
 pub record Went {S : Type 0} (manner : Manner) (serves : Machine S) (old new : S)
     (input rest before after : Option (List ℕ)) (lines texts : List (List ℕ)) : Type 0 where
   pub wrote : WroteEach manner.goes_on serves old new input rest before after lines texts
   pub unrefused : manner.is_strict ≡ true → list_any is_refusal texts ≡ false
 
--- what the result of a script that is answered in a manner says of what was read and written
+-- the result of a script that is answered in a manner, with the texts read and written
 abbrev pub MannerOutcome : {S : Type 0} → Manner → Machine S → S → Option (List ℕ) → Option (List ℕ) →
     Option (List ℕ) → Option (List ℕ) → Result Ending RunFault → Type 0
 -- all lines were answered, and no assertion failed
@@ -92,11 +92,11 @@ MannerOutcome {S} manner serves old input left before after (Err (stops.Line n f
     (lines texts : List (List ℕ)) × (new : S) × (rest : Option (List ℕ)) ×
     (Went manner serves old new input rest before after lines texts × FaultyKnown fault rest ×
     (manner.goes_on ≡ false) × (n ≡ length lines + 1))
--- all lines with their ends that were read were answered; what was read behind them is a line without its end
+-- all lines with their ends that were read were answered; after them a line without its end was read
 MannerOutcome {S} manner serves old input left before after (Err stops.Read) =
     (lines texts : List (List ℕ)) × (new : S) × (held : List ℕ) ×
     (Went manner serves old new input (prepend_known held left) before after lines texts × IsUnended held)
--- some first lines were answered; where a write failed, a front of the answer to the line after them was written
+-- some first lines were answered; if a write failed, a front of the answer to the line after them was written
 MannerOutcome {S} manner serves old input left before after (Err stops.Memory) =
     (lines texts : List (List ℕ)) × (new : S) × (rest : Option (List ℕ)) ×
     Went manner serves old new input rest before after lines texts

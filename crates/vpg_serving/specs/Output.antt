@@ -1,4 +1,4 @@
--- What is written for what is read.
+-- The output for the lines that are read.
 use Rattle.std.specs.Prelude.{◌≡◌, ℕ, ◌+◌, ◌⊎◌, List, [], ◌∷◌, ◌++◌, length, Option, Some, None, Result, Ok, Err, ⊤}
 use Rattle.std.specs.Io.KnownBytes.{Appends, prepend_known}
 use Rattle.vpg_script.specs.Devices.{AppendsSome}
@@ -9,24 +9,24 @@ use Rattle.vpg_serving.specs.declared.fault.RunFault.{RunFault}
 use Rattle.vpg_serving.specs.declared.fault.RunFault.TheVariants as stops
 use Rattle.vpg_script.specs.declared.command.LineFault.TheVariants as faults
 
--- what a machine does with requests: from a state, with this answer, to a state
+-- a machine's answers to requests: from a state, with this answer, to a state
 abbrev pub Machine : Type 0 → Type 1
 Machine S = S → Request → List ℕ → S → Type 0
 
--- with what a line says
+-- a machine's answer to the meaning of a line
 abbrev pub Speaks : {S : Type 0} → Machine S → S → Said → List ℕ → S → Type 0
 Speaks serves s (Ok None) text new = (text ≡ []) × (new ≡ s)
 Speaks serves s (Ok (Some request)) text new = serves s request text new
 Speaks serves s (Err fault) text new = ⊥
 
--- with one line after another, none of which has a fault
+-- the answers to one line after another, none of them with a fault
 abbrev pub Answered : {S : Type 0} → Machine S → S → List (List ℕ) → List ℕ → S → Type 0
 Answered serves s [] text new = (text ≡ []) × (new ≡ s)
 Answered {S} serves s (line ∷ lines) text new =
     (mid : S) × (one : List ℕ) × (more : List ℕ) × (Speaks serves s (said line) one mid) × (text ≡ one ++ more) ×
     (Answered serves mid lines more new)
 
--- the text is these lines, and then the rest, where the bytes are known
+-- the text is these lines, and then the rest, if the bytes are known
 abbrev pub ReadKnown : Option (List ℕ) → List (List ℕ) → Option (List ℕ) → Type 0
 ReadKnown None lines rest = ⊤
 ReadKnown (Some text) lines None = ⊥
@@ -59,7 +59,7 @@ abbrev pub FaultyKnown : LineFault → Option (List ℕ) → Type 0
 FaultyKnown fault None = ⊤
 FaultyKnown fault (Some rest) = BeginsFaulty fault rest
 
--- what a script's result says of what was read and written
+-- the result of a script, with the texts read and written
 abbrev pub ScriptOutcome : {S : Type 0} → Machine S → S → Option (List ℕ) → Option (List ℕ) → Option (List ℕ) →
     Option (List ℕ) → Result (Unit {0}) RunFault → Type 0
 -- all lines were answered
@@ -70,11 +70,11 @@ ScriptOutcome {S} serves old input left before after (Ok done) =
 ScriptOutcome {S} serves old input left before after (Err (stops.Line n fault)) =
     (lines : List (List ℕ)) × (new : S) × (rest : Option (List ℕ)) ×
     (Wrote serves old new input rest before after lines × FaultyKnown fault rest × (n ≡ length lines + 1))
--- all lines with their ends that were read were answered; what was read behind them is a line without its end
+-- all lines with their ends that were read were answered; after them a line without its end was read
 ScriptOutcome {S} serves old input left before after (Err stops.Read) =
     (lines : List (List ℕ)) × (new : S) × (held : List ℕ) ×
     (Wrote serves old new input (prepend_known held left) before after lines × IsUnended held)
--- some first lines were answered; where a write failed, a front of the answer to the line after them was written
+-- some first lines were answered; if a write failed, a front of the answer to the line after them was written
 ScriptOutcome {S} serves old input left before after (Err stops.Memory) =
     (lines : List (List ℕ)) × (new : S) × (rest : Option (List ℕ)) × Wrote serves old new input rest before after lines
 -- it was begun

@@ -1,4 +1,4 @@
--- What the result of a script, or of one line, says.
+-- The results of a script, and of one line.
 use Rattle.std.specs.Prelude.{◌≡◌, ℕ, Bool, true, false, if◌then◌else◌, List, Option, Some, None, Result, Ok, Err, ⊤}
 use Rattle.std.specs.Io.KnownBytes.{Appends}
 use Rattle.vpg_script.specs.Devices.{AppendsSome}
@@ -18,27 +18,27 @@ use Rattle.vpg_serving.specs.declared.serving.ServeFault.TheVariants as unserved
 use Rattle.vpg_serving.specs.declared.fault.RunFault.{RunFault}
 use Rattle.vpg_serving.specs.declared.fault.RunFault.TheVariants as stops
 
--- the result of a script whose server stops it
+-- the script's result if its server stops it
 abbrev pub stop_of : ServeFault → RunFault
 stop_of unserved.Memory = stops.Memory
 stop_of unserved.Stray = stops.Stray
 
--- the result of a script whose reader stops it
+-- the script's result if its reader stops it
 abbrev pub stop_of_read : NextFault → RunFault
 stop_of_read reads.Read = stops.Read
 stop_of_read reads.Memory = stops.Memory
 
--- This holds of each result but Read.
+-- This holds of each result except Read.
 abbrev pub UnlessReaderFails : {A : Type 0} → Result A RunFault → Type 0 → Type 0
 UnlessReaderFails (Err stops.Read) P = ⊤
 UnlessReaderFails result P = P
 
--- This holds of each result but Write.
+-- This holds of each result except Write.
 abbrev pub UnlessWriterFails : {A : Type 0} → Result A RunFault → Type 0 → Type 0
 UnlessWriterFails (Err stops.Write) P = ⊤
 UnlessWriterFails result P = P
 
--- the ending of a script whose lines were all answered, where an assertion failed or none did
+-- the ending of a script with all its lines answered, by whether an assertion failed
 abbrev pub ending_of : Bool → Ending
 ending_of failed = if failed then endings.Failed else endings.Whole
 
@@ -52,7 +52,7 @@ FaultOutcome goes_on n fault before after (Err stops.Write) =
     (goes_on ≡ true) × AppendsSome before after (fault_line fault)
 FaultOutcome goes_on n fault before after (Err stop) = ⊥
 
--- the result of line n, which is too long, by the text that it stands in
+-- the result of line n, which is too long, by the text around it
 abbrev pub TooLongOutcome : Bool → ℕ → (text rest left : Option (List ℕ)) → (before after : Option (List ℕ)) →
     Result Tone RunFault → Type 0
 TooLongOutcome goes_on n text rest left before after (Ok tone) =
@@ -67,7 +67,7 @@ TooLongOutcome goes_on n text rest left before after (Err (stops.Open fault)) = 
 TooLongOutcome goes_on n text rest left before after (Err stops.Memory) = after ≡ before
 TooLongOutcome goes_on n text rest left before after (Err stops.Stray) = ⊥
 
--- the result of line n, which says this, from a state to a state
+-- the result of line n, with this meaning, from a state to a state
 abbrev pub LineOutcome : {S : Type 0} → Bool → ℕ → Machine S → S → S → Said → (before after : Option (List ℕ)) →
     Result Tone RunFault → Type 0
 LineOutcome goes_on n serves s new says before after (Ok tone) =
@@ -88,7 +88,7 @@ TakenKnown (Some text) line None = ⊥
 TakenKnown (Some text) line (Some rest) = NextLine text line rest
 
 -- the result of the next line of a text, line n, or of its end; the second text is left then. The third is left to be
--- read, which matters where reading fails.
+-- read, which matters if reading fails.
 abbrev pub NextOutcome : {S : Type 0} → Bool → ℕ → Machine S → S → S → (text rest left : Option (List ℕ)) →
     (before after : Option (List ℕ)) → Result (Option Tone) RunFault → Type 0
 NextOutcome goes_on n serves s new text rest left before after (Ok (Some tone)) =

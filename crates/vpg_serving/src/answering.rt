@@ -15,7 +15,7 @@ use std::sync::Wait;
 use std::thread::Threads;
 use vpg_script::{LineFault, Next, ReadFault, Sink, Source, next_line, pass_line, read_line};
 
-/// What an answer begins with.
+/// The beginning of an answer.
 #[derive(Clone, Copy)]
 pub struct Tone {
     /// `refused `.
@@ -24,7 +24,7 @@ pub struct Tone {
     pub fails: bool,
 }
 
-/// The tone of an answer.
+/// Returns the tone of an answer.
 fn tone_of(text: &[u8]) -> Tone
     ensures { result ≡ tone_of text.now }
 {
@@ -34,7 +34,7 @@ fn tone_of(text: &[u8]) -> Tone
     }
 }
 
-/// The answer to a line with a fault, where the script goes on.
+/// Returns the answer to a line with a fault, if the script goes on.
 fn fault_line(fault: LineFault) -> &'static [u8]
     ensures { result.now ≡ fault_line fault }
 {
@@ -60,7 +60,7 @@ fn put_answer<W: Sink>(text: &[u8], writer: &mut W) -> Result<Tone, RunFault>
     }
 }
 
-/// Answers a line with a fault, where the script goes on.
+/// Answers a line with a fault, if the script goes on.
 fn answer_fault<W: Sink>(
     goes_on: bool,
     number: u64,
@@ -114,7 +114,7 @@ fn answer_line<T: Threads + Wait + Sync, V: Server, W: Sink>(
     put_answer(&text, writer)
 }
 
-/// Answers a line that is too long, where the script goes on, and reads it to its end before.
+/// Answers a line that is too long, if the script goes on, and reads it to its end before.
 fn answer_too_long<R: Source, W: Sink>(
     goes_on: bool,
     number: u64,

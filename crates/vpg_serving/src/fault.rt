@@ -23,7 +23,7 @@ pub enum RunFault {
     Open { fault: OpenFault },
     #[error("Memory")]
     Memory,
-    /// Others used what the script's lines are carried out on.
+    /// Others used the server's office.
     #[error("Stray")]
     Stray,
 }

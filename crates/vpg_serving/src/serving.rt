@@ -19,7 +19,7 @@ use vpg_script::{Request, Sink, Source};
 pub enum ServeFault {
     #[error("Memory")]
     Memory,
-    /// What the server serves was used by others.
+    /// Others used what the server serves.
     #[error("Stray")]
     Stray,
 }
@@ -34,22 +34,22 @@ impl From<AllocError> for ServeFault {
     }
 }
 
-/// What carries requests out.
+/// A server, which carries requests out.
 pub trait Server {
-    // What no request changes.
+    // The part that no request changes.
     ghost Scene: { Type 0 };
 
-    // What requests change.
+    // The part that requests change.
     ghost State: { Type 0 };
 
-    // What it does with a request, sweeping with this many lifters.
+    // Its answers to requests, with this many lifters for sweeps.
     ghost answering: { Scene → ℕ → Machine State };
 
     ghost scene: { Self → Scene };
 
     ghost state: { Self → State };
 
-    /// Carries a request out, sweeping with this many lifters, and appends its answer.
+    /// Carries a request out, with this many lifters for sweeps, and appends its answer.
     fn serve<T: Threads + Wait + Sync>(
         &mut self,
         rt: &T,
@@ -67,7 +67,7 @@ pub trait Server {
         ensures scene { OnOk result (scene self.new ≡ scene self.old) };
 }
 
-/// How a script's refusals and its lines with a fault are met.
+/// How a script goes on after refusals and lines with a fault.
 #[derive(Clone, Copy, Debug, PartialEq, Eq)]
 pub struct Manner {
     /// The first refusal ends the script.
@@ -77,14 +77,14 @@ pub struct Manner {
     pub goes_on: bool,
 }
 
-/// How a script ends whose lines were answered.
+/// The end of a script with its lines answered.
 #[derive(Clone, Copy, Debug, PartialEq, Eq)]
 pub enum Ending {
     /// All lines were answered, and no assertion failed.
     Whole,
     /// All lines were answered, and an assertion failed.
     Failed,
-    /// The script is strict, and the line of this number, from 1, was refused. No line behind it was carried out.
+    /// The script is strict, and the line of this number, from 1, was refused. No line after it was carried out.
     Refused { line: u64 },
 }
 
@@ -102,7 +102,7 @@ fn has_failed(failed: bool, tone: Tone) -> bool
     failed || tone.fails
 }
 
-/// The ending of a script whose lines were all answered, where an assertion failed or none did.
+/// Returns the ending of a script with all its lines answered, by whether an assertion failed.
 fn ending_of(failed: bool) -> Ending
     ensures { result ≡ ending_of failed }
 {
@@ -115,10 +115,10 @@ fn ending_of(failed: bool) -> Ending
 
 /// Reads a script, and answers its lines in order, each before the next is read.
 ///
-/// A strict script ends at the first answer that begins with `refused `. Else it ends behind its last line, and
-/// `Failed` says that an answer began with `fails`, as that of an assertion that fails does. `Line` comes only where a
-/// script ends at a line with a fault, and `Read` and `Write` as the script meets them; `Memory` only where a growth
-/// was refused, and `Stray` where the server answers so.
+/// A strict script ends at the first answer that begins with `refused `. Else it ends after its last line, and `Failed`
+/// says that an answer began with `fails`, as that of an assertion that fails does. `Line` comes only if a script ends
+/// at a line with a fault, and `Read` and `Write` as the script meets them; `Memory` only if a growth was refused, and
+/// `Stray` if the server answers so.
 pub fn answer_script_as<T: Threads + Wait + Sync, V: Server, R: Source, W: Sink>(
     rt: &T,
     alloc: Global,
@@ -130,14 +130,14 @@ pub fn answer_script_as<T: Threads + Wait + Sync, V: Server, R: Source, W: Sink>
 ) -> Result<Ending, RunFault>
     requires unread { R.calls reader.old ≡ 0 }
     requires lifters { (1 ≤ lifters) × (lifters ≤ 64) }
-    // What is written are the answers to the lines that were read, and the result tells how they end.
+    // The answers to the lines that were read are written, and the result is their end.
     ensures output { MannerOutcome manner (V.answering (V.scene server.old) lifters) (V.state server.old)
         (R.remaining reader.old) (R.remaining reader.new) (W.contents writer.old) (W.contents writer.new) result }
-    // Read and Write are answered only where the device failed, or the reads were used up.
+    // Read and Write are returned only if the device failed, or the reads were used up.
     ensures read { IsErrOf result RunFault.Read → (R.has_failed reader.new ≡ true) ⊎
         (R.calls reader.new ≡ 16777216) }
     ensures write { IsErrOf result RunFault.Write → W.has_failed writer.new ≡ true }
-    // A device that failed is told.
+    // A failed device is reported.
     ensures readable { UnlessReaderFails result (R.has_failed reader.new ≡ R.has_failed reader.old) }
     ensures writable { UnlessWriterFails result (W.has_failed writer.new ≡ W.has_failed writer.old) }
 {
@@ -176,8 +176,8 @@ pub fn answer_script_as<T: Threads + Wait + Sync, V: Server, R: Source, W: Sink>
 /// Reads a script, and answers its lines in order, each before the next is read. Refusals and assertions that fail are
 /// answers as others are; a line with a fault ends the script.
 ///
-/// `Line`, `Read` and `Write` come as the script meets them, `Memory` only where a growth was refused, and `Stray`
-/// where the server answers so.
+/// `Line`, `Read` and `Write` come as the script meets them, `Memory` only if a growth was refused, and `Stray` if the
+/// server answers so.
 pub fn answer_script<T: Threads + Wait + Sync, V: Server, R: Source, W: Sink>(
     rt: &T,
     alloc: Global,
@@ -188,14 +188,14 @@ pub fn answer_script<T: Threads + Wait + Sync, V: Server, R: Source, W: Sink>(
 ) -> Result<(), RunFault>
     requires unread { R.calls reader.old ≡ 0 }
     requires lifters { (1 ≤ lifters) × (lifters ≤ 64) }
-    // What is written is the output for the lines that were read.
+    // The output for the lines that were read is written.
     ensures output { ScriptOutcome (V.answering (V.scene server.old) lifters) (V.state server.old)
         (R.remaining reader.old) (R.remaining reader.new) (W.contents writer.old) (W.contents writer.new) result }
-    // Read and Write are answered only where the device failed, or the reads were used up.
+    // Read and Write are returned only if the device failed, or the reads were used up.
     ensures read { IsErrOf result RunFault.Read → (R.has_failed reader.new ≡ true) ⊎
         (R.calls reader.new ≡ 16777216) }
     ensures write { IsErrOf result RunFault.Write → W.has_failed writer.new ≡ true }
-    // A device that failed is told.
+    // A failed device is reported.
     ensures readable { UnlessReaderFails result (R.has_failed reader.new ≡ R.has_failed reader.old) }
     ensures writable { UnlessWriterFails result (W.has_failed writer.new ≡ W.has_failed writer.old) }
 {

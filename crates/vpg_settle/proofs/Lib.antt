@@ -1,3 +1,4 @@
 pub mod Sweeps
 pub mod Repeated
 pub mod Often
+pub mod Settled

@@ -30,11 +30,11 @@ module _ (lifters : ℕ) where
       subst (λ (m : ℕ). AreSweeps lifters m order harvest) {x = suc (n + more)} (omega arith) all
 
   -- the same, behind a guess
-  pub guessed_then : (n more : ℕ) (order last : OrderView) (harvest : HarvestView) → Leave lifters n order last → AfterGuess (AreSweeps lifters more) last harvest →
-      AfterGuess (AreSweeps lifters (n + more)) order harvest
+  pub guessed_then : (n more : ℕ) (order last : OrderView) (harvest : HarvestView) → Leave lifters n order last → AfterGuess more (AreSweeps lifters more) last harvest →
+      AfterGuess (n + more) (AreSweeps lifters (n + more)) order harvest
   guessed_then zero more order last harvest left made =
-      let all : AfterGuess (AreSweeps lifters more) order harvest = subst (λ (o : OrderView). AfterGuess (AreSweeps lifters more) o harvest) (sym left) made in
-      subst (λ (m : ℕ). AfterGuess (AreSweeps lifters m) order harvest) {x = more} (omega arith) all
+      let all : AfterGuess more (AreSweeps lifters more) order harvest = subst (λ (o : OrderView). AfterGuess more (AreSweeps lifters more) o harvest) (sym left) made in
+      subst (λ (m : ℕ). AfterGuess m (AreSweeps lifters m) order harvest) {x = more} (omega arith) all
   guessed_then (suc n) more order last harvest (first, again, (by, unsettled, is_again, left)) made =
       let all : AreSweeps lifters (suc (n + more)) order harvest =
       (first, (by, inr (again, (unsettled, is_again, guessed_then n more again last harvest left made)))) in
@@ -47,14 +47,14 @@ module _ (lifters : ℕ) where
       subst (λ (m : ℕ). IsSweptOrder order m harvest) (omega arith) all
   swept_on (suc n) more order last harvest (first, again, (by, unsettled, is_again, left)) further =
       let all : IsSweptOrder order (1 + (n + more)) harvest =
-      swept_then order again first harvest (n + more) is_again (swept_on n more again last harvest left further) 1 (swept_of lifters order first by) unsettled in
+      swept_then order again first harvest (n + more) is_again (swept_on n more again last harvest left further) 1 (swept_of lifters order first by).swept unsettled in
       subst (λ (m : ℕ). IsSweptOrder order m harvest) (omega arith) all
 
   -- one sweep
   pub one_sweep : (order : OrderView) (harvest : HarvestView) → IsSweptBy lifters order harvest → AreSweeps lifters 1 order harvest
-  one_sweep order harvest by = (harvest, (by, inl refl))
+  one_sweep order harvest by = (harvest, (by, inl (refl, refl)))
 
 -- a guess, and sweeps from there
 pub guess_then : (lifters n : ℕ) (order next : OrderView) (raised harvest : HarvestView) → IsGuessed order raised → IsOrderAgain next raised → AreSweeps lifters n next harvest →
-    AfterGuess (AreSweeps lifters n) order harvest
+    AfterGuess n (AreSweeps lifters n) order harvest
 guess_then lifters n order next raised harvest guess is_next made = inr (raised, (guess, inr (next, (is_next, made))))

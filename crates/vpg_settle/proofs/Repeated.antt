@@ -12,7 +12,7 @@ use Rattle.vpg_measure.proofs.Rounds.{after_above, below_trans}
 use Rattle.vpg_settle.specs.Sweeping.{IsOfPage, IsSweptOrder, IsSweptTo, IsLeft, Reaches}
 use Rattle.vpg_settle.proofs.Sweeps.{sums_rise, rounds_settle_or_move}
 
-same_page : (one other : OrderView) → IsSameOrder one other → IsOfPage one other
+pub same_page : (one other : OrderView) → IsSameOrder one other → IsOfPage one other
 same_page one other same = record { game = same.game; diagram = same.diagram; decisions = same.decisions; known = same.known }
 
 -- a progress table of one order of a page is one of the other
@@ -21,7 +21,7 @@ pub progress_moves : (one other : OrderView) → IsOfPage one other → (which :
 progress_moves one other page which table p =
     coe 0 1 (i. IsProgressTable (levels_for which (graph_of (page.game i))) (arena_for (kleene (page.known i)) which (graph_of (page.game i))) table) p
 
-page_back : (one other : OrderView) → IsOfPage one other → IsOfPage other one
+pub page_back : (one other : OrderView) → IsOfPage one other → IsOfPage other one
 page_back one other page = record { game = sym page.game; diagram = sym page.diagram; decisions = sym page.decisions; known = sym page.known }
 
 -- ---- sweeps alone
@@ -164,21 +164,32 @@ swept_to order harvest sweeps goal far swept = record {
 }
 
 -- the same behind a raise
-pub raised_to : (order again : OrderView) (first second : HarvestView) (sweeps : ℕ) (goal : Option ℕ) → IfSome goal (λ g. sum order.hopeful + sum order.dual + sweeps ≤ g) →
-    IsOrderAgain again first → IsSweptTo again sweeps goal second → IsHarvest first → IsSameOrder first.order order → IsSweptOrder order sweeps second
-raised_to order again first second sweeps goal far is_again swept lawful same =
-    let base : IsSweptOrder order 0 second = raised_then order again first second 0 is_again swept.kept lawful same in
-    record {
-      lawful = base.lawful;
-      page = base.page;
-      above = base.above;
-      moved = λ unsettled. enough_moved goal second (sum order.hopeful + sum order.dual) sweeps (sum again.hopeful + sum again.dual) far
-          (omega (
-            arith,
-            ap sum is_again.hopeful,
-            ap sum is_again.dual,
-            sums_rise order.hopeful first.hopeful (tables_stay order first lawful same Hopeful),
-            sums_rise order.dual first.dual (tables_stay order first lawful same Dual),
-          ))
-          (swept.enough unsettled);
-    }
+pub raised_to : (order again : OrderView) (first second : HarvestView) (sweeps : ℕ) (goal : Option ℕ) →
+    IsOrderAgain again first → IsSweptTo again sweeps goal second → IsHarvest first → IsSameOrder first.order order → IsSweptTo order sweeps goal second
+raised_to order again first second sweeps goal is_again swept lawful same = record {
+  kept = raised_then order again first second 0 is_again swept.kept lawful same;
+  enough = λ unsettled. further (swept.enough unsettled);
+}
+  where
+    further : Reaches goal second ⊎ (sum again.hopeful + sum again.dual + sweeps ≤ sum second.hopeful + sum second.dual) →
+        Reaches goal second ⊎ (sum order.hopeful + sum order.dual + sweeps ≤ sum second.hopeful + sum second.dual)
+    further (inl reached) = inl reached
+    further (inr moved) = inr (omega (
+      arith,
+      moved,
+      ap sum is_again.hopeful,
+      ap sum is_again.dual,
+      sums_rise order.hopeful first.hopeful (tables_stay order first lawful same Hopeful),
+      sums_rise order.dual first.dual (tables_stay order first lawful same Dual),
+    ))
+
+-- and behind a sweep that did not settle it
+pub swept_first : (order again : OrderView) (first harvest : HarvestView) (sweeps left : ℕ) (goal : Option ℕ) → left + 1 ≡ sweeps → IfSome goal (λ g. sum order.hopeful + sum order.dual + sweeps ≤ g) →
+    IsSweptOrder order 1 first → ¬ IsSettledHarvest first → IsOrderAgain again first → IsSweptTo again left goal harvest → IsSweptOrder order sweeps harvest
+swept_first order again first harvest sweeps left goal all far swept unsettled is_again further =
+    let base : IsSweptOrder order (1 + 0) harvest = swept_then order again first harvest 0 is_again further.kept 1 swept unsettled in
+    record { lawful = base.lawful; page = base.page; above = base.above; moved = λ fails. on (further.enough fails) }
+  where
+    on : Reaches goal harvest ⊎ (sum again.hopeful + sum again.dual + left ≤ sum harvest.hopeful + sum harvest.dual) → sum order.hopeful + sum order.dual + sweeps ≤ sum harvest.hopeful + sum harvest.dual
+    on (inl reached) = enough_moved goal harvest (sum order.hopeful + sum order.dual) sweeps (sum order.hopeful + sum order.dual) far (omega arith) (inl reached)
+    on (inr moved) = omega (arith, all, moved, swept.moved unsettled, ap sum is_again.hopeful, ap sum is_again.dual)

@@ -1,8 +1,10 @@
 -- What sweeps make of an order. This project's own.
-use Rattle.std.specs.Prelude.{◌≡◌, ℕ, zero, suc, ◌+◌, ◌≤◌, ◌⊎◌, Option, Some, None, sum}
+use Rattle.std.specs.Prelude.{◌≡◌, ℕ, zero, suc, ◌+◌, ◌<◌, ◌≤◌, ◌⊎◌, max, List, length, slice_index, Option, Some, None, sum}
+use Rattle.vpg_game.specs.declared.levels.Level.{Level}
+use Rattle.vpg_hope.specs.Arena.{Vertex, vertex_at}
 use Rattle.vpg_verdict.specs.declared.which.Which.{Which}
-use Rattle.vpg_measure.specs.Lifts.{IsBelowTable}
-use Rattle.vpg_measure.specs.Orders.{OrderView, HarvestView, IsHarvest, IsOrderAgain, IsSettledHarvest, order_table, harvest_table}
+use Rattle.vpg_measure.specs.Lifts.{IsBelowTable, IsProgressTable, lift_of}
+use Rattle.vpg_measure.specs.Orders.{OrderView, HarvestView, IsHarvest, IsSameOrder, IsOrderAgain, IsSettledHarvest, order_table, harvest_table, order_levels, order_arena}
 
 -- two orders of one page: they may differ in their tables alone
 pub record IsOfPage (one other : OrderView) : Type 0 where
@@ -33,52 +35,67 @@ pub record IsSweptTo (order : OrderView) (sweeps : ℕ) (goal : Option ℕ) (har
 
 -- ---- how often an order was swept, and by how many lifters
 
+-- a sweep leaves each vertex on or above the lift of the order's table there
+pub record IsOneSweep (order : OrderView) (harvest : HarvestView) : Type 0 where
+  pub swept : IsSweptOrder order 1 harvest
+  pub lifted : (which : Which) (v : ℕ) → v < length order.game.vertices →
+      lift_of (order_levels which order) (order_table which order) (vertex_at (order_arena which order) v)
+      ≤ slice_index (harvest_table which harvest) v
+
 -- One sweep by this many lifters made the harvest of the order. Tables don't tell how many there were, nor whether it
 -- was one sweep or two: the machine may refuse each thread but the first, and each sweep raises as far as it comes. So
 -- these two stay shut: they are known of what was asked for alone.
 pub IsSweptBy : ℕ → OrderView → HarvestView → Type 0
-IsSweptBy lifters order harvest = IsSweptOrder order 1 harvest
+IsSweptBy lifters order harvest = IsOneSweep order harvest
 
-pub swept_by : (lifters : ℕ) (order : OrderView) (harvest : HarvestView) → IsSweptOrder order 1 harvest →
+pub swept_by : (lifters : ℕ) (order : OrderView) (harvest : HarvestView) → IsOneSweep order harvest →
     IsSweptBy lifters order harvest
 unfolding IsSweptBy
 swept_by lifters order harvest swept = swept
 
 pub swept_of : (lifters : ℕ) (order : OrderView) (harvest : HarvestView) → IsSweptBy lifters order harvest →
-    IsSweptOrder order 1 harvest
+    IsOneSweep order harvest
 unfolding IsSweptBy
 swept_of lifters order harvest swept = swept
 
 -- Certified guesses, and no sweep, raised the order's tables to the harvest's.
 pub IsGuessed : OrderView → HarvestView → Type 0
-IsGuessed order harvest = IsHarvest harvest
+IsGuessed order harvest = IsHarvest harvest × IsSameOrder harvest.order order
 
-pub guessed : (order : OrderView) (harvest : HarvestView) → IsHarvest harvest → IsGuessed order harvest
+pub guessed : (order : OrderView) (harvest : HarvestView) → IsHarvest harvest → IsSameOrder harvest.order order →
+    IsGuessed order harvest
 unfolding IsGuessed
-guessed order harvest lawful = lawful
+guessed order harvest lawful same = (lawful, same)
+
+pub guessed_of : (order : OrderView) (harvest : HarvestView) → IsGuessed order harvest →
+    IsHarvest harvest × IsSameOrder harvest.order order
+unfolding IsGuessed
+guessed_of order harvest made = made
 
 -- the harvest has the order's tables
 pub record IsLeft (order : OrderView) (harvest : HarvestView) : Type 0 where
   pub page : IsOfPage harvest.order order
   pub same : (which : Which) → harvest_table which harvest ≡ order_table which order
 
--- so, or so after certified guesses
-abbrev pub AfterGuess : (OrderView → HarvestView → Type 0) → OrderView → HarvestView → Type 0
-AfterGuess Makes order harvest =
+-- This many sweeps made the harvest so; or certified guesses settled it and there was no sweep; or it was made so after
+-- guesses.
+abbrev pub AfterGuess : ℕ → (OrderView → HarvestView → Type 0) → OrderView → HarvestView → Type 0
+AfterGuess sweeps Makes order harvest =
     Makes order harvest
     ⊎ ((raised : HarvestView) ×
     (IsGuessed order raised ×
-    ((harvest ≡ raised) ⊎ ((next : OrderView) × (IsOrderAgain next raised × Makes next harvest)))))
+    (((sweeps ≡ 0) × IsSettledHarvest raised × (harvest ≡ raised))
+    ⊎ ((next : OrderView) × (IsOrderAgain next raised × Makes next harvest)))))
 
--- These sweeps made the harvest of the order, one after another, perhaps with certified guesses between them. Only the
--- last may have settled it, so each other one raised something.
+-- Just so many sweeps made the harvest of the order, one after another, perhaps with certified guesses between them.
+-- Only the last may have settled it, so each other one raised something.
 abbrev pub AreSweeps : ℕ → ℕ → OrderView → HarvestView → Type 0
 AreSweeps lifters zero order harvest = IsLeft order harvest
 AreSweeps lifters (suc n) order harvest =
     (first : HarvestView) × (IsSweptBy lifters order first
-    × ((harvest ≡ first) ⊎
+    × (((n ≡ 0) × (harvest ≡ first)) ⊎
     ((again : OrderView) ×
-    ((¬ IsSettledHarvest first) × IsOrderAgain again first × AfterGuess (AreSweeps lifters n) again harvest))))
+    ((¬ IsSettledHarvest first) × IsOrderAgain again first × AfterGuess n (AreSweeps lifters n) again harvest))))
 
 -- These sweeps left the last order of the first one, and none of them settled it.
 abbrev pub Leave : ℕ → ℕ → OrderView → OrderView → Type 0
@@ -89,4 +106,38 @@ Leave lifters (suc n) order last =
 
 -- what settling makes of an order, by this many sweeps: sweeps, and certified guesses before or between them
 abbrev pub Settles : ℕ → ℕ → OrderView → HarvestView → Type 0
-Settles lifters n order harvest = AfterGuess (AreSweeps lifters n) order harvest
+Settles lifters n order harvest = AfterGuess n (AreSweeps lifters n) order harvest
+
+-- ---- what is settled by so many sweeps, whoever makes them
+
+-- One round from a table to another: each vertex is lifted once, all of them over the first table. No value falls
+-- (Jurdzinski 2000).
+pub record IsRound (ls : List Level) (arena : List Vertex) (old new : List ℕ) : Type 0 where
+  pub len : length new ≡ length old
+  pub lifted : (v : ℕ) → v < length old →
+      slice_index new v ≡ max (slice_index old v) (lift_of ls old (vertex_at arena v))
+
+-- so many such rounds lead from the table to a progress table
+abbrev pub RoundsSettle : List Level → List Vertex → ℕ → List ℕ → Type 0
+RoundsSettle ls arena zero table = IsProgressTable ls arena table
+RoundsSettle ls arena (suc n) table = (next : List ℕ) × IsRound ls arena table next × RoundsSettle ls arena n next
+
+-- so many such rounds lead from both tables of the order to progress tables
+abbrev pub RoundsSettleOrder : ℕ → OrderView → Type 0
+RoundsSettleOrder rounds order =
+    (which : Which) → RoundsSettle (order_levels which order) (order_arena which order) rounds (order_table which order)
+
+-- ---- when sweeps end
+
+abbrev pub HasGoal : Option ℕ → Type 0
+HasGoal None = ⊥
+HasGoal (Some goal) = Unit {0}
+
+-- The harvest is settled, or all sweeps were made. Where there is a goal, there may be fewer, but more than 16.
+abbrev pub EndsBy : Option ℕ → ℕ → ℕ → HarvestView → Type 0
+EndsBy goal sweeps made harvest = IsSettledHarvest harvest ⊎ ((made ≡ sweeps) ⊎ (HasGoal goal × (16 < made)))
+
+-- The harvest is settled, or all sweeps were made. Of 1,000,000 or more there may be fewer, but more than 16.
+abbrev pub HasEnded : ℕ → ℕ → HarvestView → Type 0
+HasEnded sweeps made harvest =
+    IsSettledHarvest harvest ⊎ ((made ≡ sweeps) ⊎ ((1000000 ≤ sweeps) × (16 < made)))

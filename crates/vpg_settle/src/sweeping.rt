@@ -1,9 +1,9 @@
 //! Sweeps: what the lines `settle` and `harvest` make of an order.
-ghost use Rattle.std.specs.Prelude.{◌≡◌, ◌+◌, ◌<◌, ◌≤◌, ℕ, sum, IfOk, IfErr, IfSome, IsTrue, Some};
+ghost use Rattle.std.specs.Prelude.{◌≡◌, ◌⊎◌, ◌+◌, ◌<◌, ◌≤◌, ℕ, sum, IfOk, IfErr, IfSome, IsTrue, Some};
 ghost use Rattle.vpg_measure.specs.Lifts.{after_rounds};
 ghost use Rattle.vpg_measure.specs.Orders.{IsSameOrder, IsHarvest, IsSettledOrder, IsSettledHarvest, order_table, harvest_table, order_levels, order_arena};
 ghost use Rattle.vpg_board.specs.Places.{vertices};
-ghost use Rattle.vpg_settle.specs.Sweeping.{IsSweptOrder, IsSweptTo, IsSweptBy, IsGuessed, IsLeft, AreSweeps, Leave, Settles};
+ghost use Rattle.vpg_settle.specs.Sweeping.{IsSweptOrder, IsSweptTo, IsSweptBy, IsGuessed, IsLeft, AreSweeps, Leave, Settles, RoundsSettleOrder, EndsBy, HasEnded};
 
 use std::alloc::Global;
 use std::sync::Wait;
@@ -35,6 +35,7 @@ fn as_it_stands(order: Order) -> Harvest
     requires { IsSettledOrder order }
     ensures swept { (sweeps : ℕ) → IsSweptOrder order sweeps result }
     ensures left { IsLeft order result }
+    ensures settled { IsSettledHarvest result }
 {
     let harvest = Harvest::of_order(order);
     let _order = harvest.order();
@@ -127,6 +128,7 @@ fn by_sweeps<G: Gate + Sync, T: Threads + Wait + Sync>(
     ensures swept { IsSweptOrder order sweeps result.harvest }
     ensures few { result.sweeps ≤ sweeps }
     ensures made { AreSweeps lifters result.sweeps order result.harvest }
+    ensures ended { IsSettledHarvest result.harvest ⊎ (result.sweeps ≡ sweeps) }
     ensures none { sweeps ≡ 0 → (which : Which) → harvest_table which result.harvest ≡ order_table which order }
 {
     match sweep_often(rt, alloc, order, sweeps, lifters, gate, predecessors) {
@@ -152,7 +154,8 @@ fn sum_of(table: &Table) -> Option<u128>
 /// The sum that tables have to reach before a line's sweeps may end early. None where there are few of them: they are
 /// all made.
 fn goal_of(order: &Order, sweeps: u64) -> Option<u128>
-    ensures { IfSome result (λ goal. sum order.now.hopeful + sum order.now.dual + sweeps ≤ goal) }
+    ensures goal { IfSome result (λ goal. sum order.now.hopeful + sum order.now.dual + sweeps ≤ goal) }
+    ensures many { IfSome result (λ _. 1000000 ≤ sweeps) }
 {
     if sweeps < MANY_SWEEPS {
         return None;
@@ -180,6 +183,7 @@ fn is_enough(harvest: &Harvest, done: u64, goal: u128) -> bool
     ensures settled { IsSettledHarvest harvest.now → IsTrue result }
     ensures enough { IsTrue result → (¬ IsSettledHarvest harvest.now) →
         goal ≤ sum harvest.now.hopeful + sum harvest.now.dual }
+    ensures late { IsTrue result → IsSettledHarvest harvest.now ⊎ (16 ≤ done) }
 {
     if harvest.check() {
         return true;
@@ -204,6 +208,7 @@ fn by_sweeps_to<G: Gate + Sync, T: Threads + Wait + Sync>(
     ensures swept { IsSweptTo order sweeps (Some goal) result.harvest }
     ensures few { result.sweeps ≤ sweeps }
     ensures made { AreSweeps lifters result.sweeps order result.harvest }
+    ensures ended { EndsBy (Some goal) sweeps result.sweeps result.harvest }
 {
     let mut order = order;
     for done in 0..sweeps {
@@ -234,6 +239,7 @@ fn by_hints<G: Gate + Sync, T: Threads + Wait + Sync>(
     ensures swept { IsSweptTo order sweeps goal result.harvest }
     ensures few { result.sweeps ≤ sweeps }
     ensures made { AreSweeps lifters result.sweeps order result.harvest }
+    ensures ended { EndsBy goal sweeps result.sweeps result.harvest }
 {
     let predecessors = Predecessors::of_or_none(alloc, &order);
     match goal {
@@ -277,22 +283,24 @@ fn guess<T: Threads + Wait + Sync>(
     raise_tables(rt, alloc, order, lifters, kept)
 }
 
-/// The order raised by guesses, and swept from there where they don't settle it. Out of memory it is swept alone.
+/// The order raised by guesses, and swept from there where they don't settle it: this many times, or up to the goal.
+/// Out of memory it is swept alone.
 fn by_guesses<G: Gate + Sync, T: Threads + Wait + Sync>(
     rt: &T,
     alloc: Global,
     order: Order,
     sweeps: u64,
+    goal: Option<u128>,
     lifters: u32,
     gate: &G,
     kept: &mut Groundwork,
 ) -> SweptHarvest
     requires lifters { (1 ≤ lifters) × (lifters ≤ 64) }
-    ensures swept { IsSweptOrder order sweeps result.harvest }
+    ensures swept { IsSweptTo order sweeps goal result.harvest }
     ensures few { result.sweeps ≤ sweeps }
     ensures made { Settles lifters result.sweeps order result.harvest }
+    ensures ended { EndsBy goal sweeps result.sweeps result.harvest }
 {
-    let goal = goal_of(&order, sweeps);
     match guess(rt, alloc, order, lifters, kept) {
         Ok(harvest) => {
             if harvest.check() {
@@ -336,12 +344,20 @@ pub fn swept<G: Gate + Sync, T: Threads + Wait + Sync>(
     ensures few { result.sweeps ≤ sweeps }
     ensures made { Settles lifters result.sweeps order result.harvest }
 
+    // A harvest that isn't settled had all its sweeps; of 1,000,000 or more at least 17.
+    ensures ended { HasEnded sweeps result.sweeps result.harvest }
+
+    // Where so many rounds settle both tables the harvest is settled: up to 16, or up to any number below 1,000,000.
+    ensures rounds { (rounds : ℕ) → rounds ≤ sweeps → (rounds ≤ 16) ⊎ (sweeps < 1000000) →
+        RoundsSettleOrder rounds order → IsSettledHarvest result.harvest }
+
     // No sweep raises nothing.
     ensures none { sweeps ≡ 0 → (which : Which) → harvest_table which result.harvest ≡ order_table which order }
 
     // A settled order is not swept.
     ensures settled { IsSettledOrder order → (result.sweeps ≡ 0) × IsLeft order result.harvest }
 {
+    let _game = order.game();
     if order.check() {
         return SweptHarvest {
             harvest: as_it_stands(order),
@@ -352,14 +368,15 @@ pub fn swept<G: Gate + Sync, T: Threads + Wait + Sync>(
     if sweeps <= FEW_SWEEPS {
         return by_sweeps(rt, alloc, order, sweeps, lifters, gate, &plain);
     }
+    let goal = goal_of(&order, sweeps);
     if has_risen(order.hopeful()) || has_risen(order.dual()) {
-        return by_guesses(rt, alloc, order, sweeps, lifters, gate, kept);
+        return by_guesses(rt, alloc, order, sweeps, goal, lifters, gate, kept);
     }
     match sweep_often(rt, alloc, order, FIRST_SWEEPS, lifters, gate, &plain) {
         Ok(swept) => swept,
         Err(order) => {
             let left = sweeps - FIRST_SWEEPS;
-            let more = by_guesses(rt, alloc, order, left, lifters, gate, kept);
+            let more = by_guesses(rt, alloc, order, left, goal, lifters, gate, kept);
             SweptHarvest {
                 harvest: more.harvest,
                 sweeps: FIRST_SWEEPS + more.sweeps,

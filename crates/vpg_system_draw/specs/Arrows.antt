@@ -12,7 +12,7 @@ use Rattle.vpg_system_draw.specs.declared.arrows.Look.{Look}
 
 -- ---- labels
 
--- a guard but `true`, in brackets
+-- a guard, unless it is `true`, in brackets
 abbrev pub guard_mark : List (List ℕ) → Formula → List ℕ
 guard_mark names always = []
 guard_mark names g = codes " [" ++ guard_text names g ++ codes "]"
@@ -23,17 +23,17 @@ label_text names actions t = flat_map label_byte (slice_index_or actions t.actio
 
 -- ---- arrows
 
--- where it comes from, where it leads, and what stands beside it
+-- its source, its target, and the label beside it
 pub record Arrow : Type 0 where
   pub source : ℕ
   pub target : ℕ
   pub label : List ℕ
 
--- the first of two ends are the same, and so are the others
+-- the first two ends are the same as the others
 abbrev pub same_ends : ℕ × ℕ → ℕ × ℕ → Bool
 same_ends d e = (d.0 == e.0) && (d.1 == e.1)
 
--- With one arrow more. Where one has the same ends, the label stands in a line of its own behind what is there.
+-- These arrows with one more. If one has the same ends, the label stands in a line of its own after those that it has.
 abbrev pub joined : List Arrow → Arrow → List Arrow
 joined [] b = b ∷ []
 joined (a ∷ arrows) b =
@@ -57,23 +57,23 @@ abbrev pub same_mark : Bool → Bool → Bool
 same_mark true b = b
 same_mark false b = not b
 
--- whether a transition looks so: its guard has the value under what is known, and it is marked, or not
+-- whether a transition has this look: its guard has the value under what is known, and it is marked, or not
 abbrev pub looks : List Tri → Look → Transition → (is_marked : Bool) → Bool
 looks known look t is_marked =
     same_value look.value (kleene known t.guard) && same_mark look.is_marked is_marked
 
--- what a look-up past the end gives
+-- the transition for a look-up past the end
 abbrev pub no_transition : Transition
 no_transition = record { source = 0; action = 0; guard = always; target = 0 }
 
--- with the arrow of a transition that looks so
+-- with the arrow of a transition of this look
 abbrev pub with_transition : (names : List (List ℕ)) → (known : List Tri) → NamedSystem → Look → List Arrow →
     Transition → (is_marked : Bool) → List Arrow
 with_transition names known system look arrows t is_marked =
     cond (looks known look t is_marked) (joined arrows (arrow_of names system.actions t)) arrows
 
--- The arrows of the transitions below n that look so, in the order of the first ones on them. A transition past the end
--- of the marks is not marked.
+-- The arrows of the transitions below n with this look, in the order of the first ones on them. A transition past the
+-- end of the marks is not marked.
 abbrev pub arrows_below : (names : List (List ℕ)) → (known : List Tri) → NamedSystem → (marks : List Bool) → Look →
     (n : ℕ) → List Arrow
 arrows_below names known system marks look zero = []

@@ -8,7 +8,7 @@ arrows_in [] labels = []
 arrows_in (e ∷ ends) [] = []
 arrows_in (e ∷ ends) (l ∷ labels) = record { source = e.0; target = e.1; label = l } ∷ arrows_in ends labels
 
--- what a look-up past the end gives
+-- the arrow for a look-up past the end
 abbrev pub no_arrow : Arrow
 no_arrow = record { source = 0; target = 0; label = [] }
 
@@ -17,7 +17,7 @@ pub record AreArrows (arrows : List Arrow) (ends : List (ℕ × ℕ)) (labels : 
   pub count : length labels ≡ length ends
   pub are : arrows_in ends labels ≡ arrows
 
--- with an arrow more
+-- these are the arrows with one more
 abbrev pub AreJoined : List (ℕ × ℕ) → List (List ℕ) → (source target : ℕ) → (text : List ℕ) → List (ℕ × ℕ) →
     List (List ℕ) → Type 0
 AreJoined ends labels source target text later_ends later_labels =

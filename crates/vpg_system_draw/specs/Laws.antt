@@ -11,12 +11,12 @@ use Rattle.vpg_system.specs.SystemText.{Transition}
 use Rattle.vpg_system_draw.specs.Arrows.{looks}
 use Rattle.vpg_system_draw.specs.declared.arrows.Look.{Look}
 
--- what an arrow says of the guard of a transition on it, in a product: true where it is solid, false where it is dotted
+-- the meaning of an arrow for the guard of a transition on it, in a product: true if it is solid, false if it is dotted
 pub record IsSaid (value : Tri) (holds : Bool) : Type 0 where
   pub solid : value ≡ Yes → holds ≡ true
   pub dotted : value ≡ No → holds ≡ false
 
--- Each product that is left has the transitions on solid arrows, and none has those on dotted ones.
+-- Each product left has the transitions on solid arrows, and none has those on dotted ones.
 abbrev pub ArrowsTellOfProducts : Type 0
 ArrowsTellOfProducts =
     (lines : List Line) (choices : List Literal) (known : List Tri) (set : List Bool) (look : Look) (t : Transition)

@@ -1,4 +1,4 @@
--- Which states can be reached over transitions that may be there: reachability in a transition system, under what is
+-- The states that can be reached over transitions that may be there: reachability in a transition system, under what is
 -- known of the features. This project's own.
 use Rattle.std.specs.Prelude.{◌≡◌, ◌≢◌, ◌↔◌, ℕ, Bool, true, false, Contains, List, length, slice_index_or}
 use Rattle.vpg_guards.specs.declared.tri.Tri.{Tri}
@@ -18,7 +18,7 @@ pub record MayStep (known : List Tri) (transitions : List Transition) (s w : ℕ
   pub comes : transition.source ≡ s
   pub leads : transition.target ≡ w
 
--- Marked is each state that such transitions lead to from the first one, and no other.
+-- Exactly those states are marked that such transitions lead to from the first one.
 pub record AreReached (known : List Tri) (system : NamedSystem) (reached : List Bool) : Type 0 where
   pub count : length reached ≡ system.states
   pub each : (s : ℕ) → slice_index_or reached s false ≡ true ↔ Leads (MayStep known system.transitions) system.first s
@@ -30,7 +30,7 @@ pub record Step (transitions : List Transition) (s w : ℕ) : Type 0 where
   pub comes : transition.source ≡ s
   pub leads : transition.target ≡ w
 
--- Marked is each state that transitions lead to from the first one, whatever their guards, and no other.
+-- Exactly those states are marked that transitions lead to from the first one, whatever their guards.
 pub record AreReachedByAny (system : NamedSystem) (reached : List Bool) : Type 0 where
   pub count : length reached ≡ system.states
   pub each : (s : ℕ) → slice_index_or reached s false ≡ true ↔ Leads (Step system.transitions) system.first s

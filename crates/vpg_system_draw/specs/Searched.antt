@@ -19,7 +19,7 @@ with_target known rows t =
     cond (may_be (kleene known t.guard))
     (slice_set rows t.source (slice_index_or rows t.source [] ++ t.target ∷ [])) rows
 
--- for each of so many states where the transitions lead that may be there
+-- for each of this many states the targets of its transitions that may be there
 abbrev pub rows_of : List Tri → ℕ → List Transition → List (List ℕ)
 rows_of known count transitions = fold (with_target known) (replicate count []) transitions
 
@@ -27,7 +27,7 @@ rows_of known count transitions = fold (with_target known) (replicate count []) 
 abbrev pub with_any_target : List (List ℕ) → Transition → List (List ℕ)
 with_any_target rows t = slice_set rows t.source (slice_index_or rows t.source [] ++ t.target ∷ [])
 
--- for each of so many states where the transitions lead
+-- for each of this many states the targets of its transitions
 abbrev pub all_rows_of : ℕ → List Transition → List (List ℕ)
 all_rows_of count transitions = fold with_any_target (replicate count []) transitions
 
@@ -36,11 +36,12 @@ all_rows_of count transitions = fold with_any_target (replicate count []) transi
 abbrev pub IsMarked : List Bool → ℕ → Type 0
 IsMarked marks s = slice_index_or marks s false ≡ true
 
--- how many are not marked
+-- the number of states that are not marked
 abbrev pub unmarked : List Bool → ℕ
 unmarked marks = count_by not marks
 
--- Marked now are those that were and those of which it is so. What is new waits, and nothing else more.
+-- The states marked now are those marked before and those with the property. The new ones wait, and no others are
+-- added.
 pub record AreNoted (Is : ℕ → Type 0) (marks : List Bool) (waiting : List ℕ) (later : List Bool)
     (still : List ℕ) : Type 0 where
   pub count : length later ≡ length marks
@@ -62,7 +63,7 @@ RowStep rows s w = Contains (slice_index_or rows s []) w
 abbrev pub AreInside : List (List ℕ) → Type 0
 AreInside rows = (s w : ℕ) → RowStep rows s w → w < length rows
 
--- What is marked is led to from the first one. Each marked state waits, or where its steps lead is marked.
+-- Each marked state can be reached from the first one. It waits, or its steps lead to marked states.
 pub record IsSearching (rows : List (List ℕ)) (first : ℕ) (marks : List Bool) (waiting : List ℕ) : Type 0 where
   pub count : length marks ≡ length rows
   pub begun : IsMarked marks first
@@ -70,7 +71,7 @@ pub record IsSearching (rows : List (List ℕ)) (first : ℕ) (marks : List Bool
   pub marked : (s : ℕ) → Contains waiting s → IsMarked marks s
   pub visited : (s : ℕ) → IsMarked marks s → Contains waiting s ⊎ ((w : ℕ) → RowStep rows s w → IsMarked marks w)
 
--- marked is what steps lead to, and nothing else
+-- exactly the states that steps lead to are marked
 pub record IsSearched (rows : List (List ℕ)) (first : ℕ) (marks : List Bool) : Type 0 where
   pub count : length marks ≡ length rows
   pub found : (s : ℕ) → IsMarked marks s → Leads (RowStep rows) first s

@@ -1,5 +1,5 @@
--- The picture of a featured transition system (Classen et al. 2010) on a page, in Graphviz's language (DOT): a circle
--- for each state and arrows for the transitions, solid, dashed or dotted as edges in pictures of games are.
+-- The picture of a featured transition system (Classen et al. 2010) on a page, in Graphviz's language (DOT). It has a
+-- circle for each state and arrows for the transitions, solid, dashed or dotted as edges in pictures of games are.
 use Rattle.std.specs.Prelude.{ℕ, zero, suc, Bool, true, false, ◌==◌, List, [], ◌++◌, length, codes, decimal, flat_map, slice_index_or}
 use Rattle.vpg_guards.specs.declared.tri.Tri.{Tri}
 use Rattle.vpg_guards.specs.declared.tri.Tri.TheVariants.{No, Unknown, Yes}
@@ -26,7 +26,7 @@ abbrev pub state_text : ℕ → (is_first is_reached : Bool) → List ℕ
 state_text s is_first is_reached =
     codes "  " ++ decimal s ++ codes " [" ++ border_text is_first ++ reached_text is_reached
 
--- those of the states below n
+-- the lines of the states below n
 abbrev pub states_text : (first : ℕ) → (reached : List Bool) → (n : ℕ) → List ℕ
 states_text first reached zero = []
 states_text first reached (suc n) =
@@ -72,9 +72,8 @@ system_defaults = codes "\", labelloc=t, rankdir=LR];\n  node [shape=circle, sty
 abbrev pub system_heading : List (List ℕ) → List Literal → List ℕ
 system_heading names choices = system_opening ++ choices_text names choices ++ system_defaults
 
--- The decisions, a line for each state, and then one for each arrow. For two states there is at most one of the
--- transitions whose guards are true, one of those that are open, and one of those that are false; and as many of the
--- marked ones.
+-- The decisions, a line for each state, and then one for each arrow. Two states have at most one arrow for transitions
+-- with true guards, one for open and one for false guards; and as many for the marked transitions.
 abbrev pub system_drawing : (names : List (List ℕ)) → (known : List Tri) → List Literal → NamedSystem →
     (reached marks : List Bool) → List ℕ
 system_drawing names known choices system reached marks =

@@ -17,10 +17,10 @@ use vpg_draw::style;
 use vpg_guards::{Names, Tri};
 use vpg_system::{System, Transition};
 
-/// How a transition is drawn.
+/// The look of a transition.
 #[derive(Clone, Copy)]
 pub(crate) struct Look {
-    /// What is known of its guard.
+    /// The value of its guard.
     pub(crate) value: Tri,
     pub(crate) is_marked: bool,
 }
@@ -40,7 +40,7 @@ fn same_mark(a: bool, b: bool) -> bool
     if a { b } else { !b }
 }
 
-/// Whether a transition looks so.
+/// Whether a transition has this look.
 fn looks(known: &[Tri], look: Look, transition: &Transition, is_marked: bool) -> bool
     requires { IsBelow (length known.now) (formula_of transition.now.guard) }
     ensures { result ≡ looks known.now look (transition_of transition.now) is_marked }
@@ -49,7 +49,7 @@ fn looks(known: &[Tri], look: Look, transition: &Transition, is_marked: bool) ->
     same_value(look.value, value) && same_mark(look.is_marked, is_marked)
 }
 
-/// What stands beside an arrow.
+/// The label beside an arrow.
 #[derive(Drop)]
 struct Label {
     text: Vec<u8>,
@@ -82,7 +82,7 @@ fn add_line(labels: &mut Vec<Label>, at: usize, line: &[u8]) -> Result<(), Alloc
     labels[at].add(line)
 }
 
-/// Adds an arrow, or a line to the label of the one that has the same ends.
+/// Adds an arrow, or a line to the label of the one with the same ends.
 fn join(
     ends: &mut IndexSet<(u32, u32)>,
     labels: &mut Vec<Label>,
@@ -104,7 +104,7 @@ fn join(
     Ok(())
 }
 
-/// Adds the arrow of a transition that looks so.
+/// Adds the arrow of a transition of this look.
 fn add(
     alloc: Global,
     names: &Names,
@@ -142,7 +142,7 @@ fn is_marked(marks: &[bool], at: usize) -> bool
     }
 }
 
-/// Adds the arrows of all transitions that look so.
+/// Adds the arrows of all transitions of this look.
 fn add_all(
     alloc: Global,
     names: &Names,
@@ -171,7 +171,7 @@ fn add_all(
     Ok(())
 }
 
-/// Appends what tells a marked arrow from the others.
+/// Appends the style of a marked arrow, or of another one.
 fn mark(is_marked: bool, out: &mut Vec<u8>) -> Result<(), AllocError>
     ensures { OnOk result (out.new.items ≡ out.old.items ++ mark_text is_marked) }
 {
@@ -203,7 +203,7 @@ fn put_arrow(
     style(look.value, out)
 }
 
-/// The ends of the arrow of a number.
+/// Returns the ends of the arrow of a number.
 fn ends_at(ends: &IndexSet<(u32, u32)>, at: usize) -> (u32, u32)
     requires { at < length ends.now.keys }
     ensures { result ≡ slice_index_or ends.now.keys at (0, 0) }
@@ -214,7 +214,7 @@ fn ends_at(ends: &IndexSet<(u32, u32)>, at: usize) -> (u32, u32)
     }
 }
 
-/// The label of the arrow of a number.
+/// Returns the label of the arrow of a number.
 fn label_at(labels: &[Label], at: usize) -> &[u8]
     ensures { result.now ≡ slice_index_or labels.now at [] }
 {

@@ -1,4 +1,4 @@
-//! What stands beside arrows.
+//! The labels beside arrows.
 ghost use Rattle.std.specs.Prelude.{◌≡◌, ◌<◌, ◌++◌, OnOk, decimal, length};
 ghost use Rattle.vpg_guards.specs.Formula.{IsBelow};
 ghost use Rattle.vpg_guards.specs.View.{formula_of};
@@ -19,7 +19,7 @@ pub(crate) fn number(n: u32, out: &mut Vec<u8>) -> Result<(), AllocError>
     out.extend_from_slice(buffer.format(n).as_bytes())
 }
 
-/// Appends a guard in brackets, where it is not `true`.
+/// Appends a guard in brackets, unless it is `true`.
 fn guard_mark(
     alloc: Global,
     names: &Names,

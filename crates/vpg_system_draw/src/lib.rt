@@ -1,15 +1,15 @@
 //! The picture of a featured transition system on a page, in Graphviz's language (DOT).
 //!
-//! `draw_system` draws a circle for each state, and arrows for the transitions by their guards: solid where the guard
-//! is true in each product that is left, dashed where it is open, dotted where it is false in each. Transitions between
-//! the same two states that look alike are on one arrow, each in a line of its label. The same arguments give the same
-//! text, byte for byte, and no text that comes in can leave its quotes. `reachable` finds the states that can be
-//! reached over transitions that may be there; the others are grey.
+//! `draw_system` draws a circle for each state, and arrows for the transitions. They are solid if the guard is true in
+//! each product left, dashed if it is open, dotted if it is false in each. Transitions between the same two states that
+//! look alike are on one arrow, each in a line of its label. The same arguments give the same text, byte for byte, and
+//! no text that comes in can leave its quotes. `reachable` finds the states that can be reached over transitions that
+//! may be there; the others are grey.
 //!
-//! `specs/SystemDrawing` says what the picture is, `specs/Arrows` which arrows there are and what stands beside them,
-//! `specs/Reached` which states can be reached, and `specs/Laws` what arrows say of products: statements of the laws of
-//! the module `laws`. `specs/Searched` has words for private functions. Labels and styles are those of pictures of
-//! games, of the crate below.
+//! `specs/SystemDrawing` defines the picture, `specs/Arrows` the arrows and their labels, and `specs/Reached` the
+//! states that can be reached. `specs/Laws` has the statements of the laws in `laws`, on the meaning of arrows for
+//! products. `specs/Searched` has words for private functions. Labels and styles are those of pictures of games, of the
+//! crate below.
 #![tactic(auto)]
 
 mod arrows;

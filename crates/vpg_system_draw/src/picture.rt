@@ -11,7 +11,7 @@ use vpg_guards::{Names, Tri};
 use vpg_partial::{Decision, Partial};
 use vpg_system::System;
 
-/// Appends what tells the first state from the others.
+/// Appends the border of the first state, or of another one.
 fn border(is_first: bool, out: &mut Vec<u8>) -> Result<(), AllocError>
     ensures { OnOk result (out.new.items ≡ out.old.items ++ border_text is_first) }
 {
@@ -21,7 +21,7 @@ fn border(is_first: bool, out: &mut Vec<u8>) -> Result<(), AllocError>
     Ok(())
 }
 
-/// Appends how a state looks that can be reached, or cannot.
+/// Appends the look of a state that can be reached, or cannot.
 fn reached_look(is_reached: bool, out: &mut Vec<u8>) -> Result<(), AllocError>
     ensures { OnOk result (out.new.items ≡ out.old.items ++ reached_text is_reached) }
 {
@@ -102,7 +102,7 @@ fn defaults(out: &mut Vec<u8>) -> Result<(), AllocError>
     out.extend_from_slice(b"\", labelloc=t, rankdir=LR];\n  node [shape=circle, style=filled];\n")
 }
 
-/// Appends what comes first.
+/// Appends the beginning of the picture.
 fn heading(names: &Names, decisions: &[Decision], out: &mut Vec<u8>) -> Result<(), AllocError>
     requires { All (λ d. d.feature < length names.now) decisions.now }
     ensures { OnOk result (out.new.items ≡ out.old.items
@@ -113,14 +113,14 @@ fn heading(names: &Names, decisions: &[Decision], out: &mut Vec<u8>) -> Result<(
     defaults(out)
 }
 
-/// Appends the picture of a system on a page: the decisions; a circle for each state, with a thick border round the
-/// first one, and grey where it cannot be reached; then the arrows, for two states one at most of each look, with the
-/// actions and guards of its transitions in file order. An arrow is solid where its guards are true in each product
-/// that is left, dashed where they are open, dotted where they are false in each, and thick where its transitions are
-/// marked.
+/// Appends the picture of a system on a page. First come the decisions; then a circle for each state, with a thick
+/// border round the first one, and grey if it cannot be reached. Then come the arrows, at most one of each look for two
+/// states, with the actions and guards of its transitions in file order. An arrow is solid if its guards are true in
+/// each product left, dashed if they are open, and dotted if they are false in each. Arrows of marked transitions are
+/// thick.
 ///
-/// `known` has what is known of each feature, and `reached` says of each state whether it can be reached. `marks` says
-/// of each transition whether it is marked; one past its end is not. `Err` leaves the text as it was.
+/// `known` has the value of each feature, and `reached` says of each state whether it can be reached. `marks` says of
+/// each transition whether it is marked; one past its end is not. `Err` leaves the text as it was.
 pub fn draw_system(
     alloc: Global,
     system: &System,

@@ -1,4 +1,4 @@
-//! Which states can be reached over transitions that may be there.
+//! The states that can be reached over transitions that may be there.
 ghost use Rattle.std.specs.Prelude.{◌≡◌, ◌<◌, ◌++◌, [], ◌∷◌, All, IfOk, OnOk, Contains, false, length, replicate, slice_index_or, slice_set};
 ghost use Rattle.vpg_guards.specs.Formula.{IsBelow};
 ghost use Rattle.vpg_guards.specs.Known.{kleene};
@@ -14,7 +14,7 @@ use vpg_guards::Tri;
 use vpg_partial::Partial;
 use vpg_system::{System, Transition};
 
-/// Where the transitions from a state lead that may be there.
+/// The targets of the transitions from a state that may be there.
 #[derive(Drop)]
 struct Row {
     targets: Vec<u32>,
@@ -28,7 +28,7 @@ impl Model for Row {
     ghost view = { λ r. r.targets.items };
 }
 
-/// So many rows without targets.
+/// Returns this many rows without targets.
 fn empty_rows(alloc: Global, count: u32) -> Result<Vec<Row>, AllocError>
     ensures { IfOk result (λ rows. rows.items ≡ replicate count []) }
 {
@@ -79,7 +79,7 @@ fn add_transition(
     Ok(())
 }
 
-/// For each state where the transitions from it lead that may be there.
+/// Returns for each state the targets of its transitions that may be there.
 fn rows_of(alloc: Global, system: &System, known: &[Tri]) -> Result<Vec<Row>, AllocError>
     requires { length known.now ≡ system.now.features }
     ensures { IfOk result (λ rows. rows.items ≡ rows_of known.now system.now.states system.now.transitions) }
@@ -91,7 +91,7 @@ fn rows_of(alloc: Global, system: &System, known: &[Tri]) -> Result<Vec<Row>, Al
     Ok(rows)
 }
 
-/// For each state where the transitions from it lead.
+/// Returns for each state the targets of its transitions.
 fn all_rows_of(alloc: Global, system: &System) -> Result<Vec<Row>, AllocError>
     ensures { IfOk result (λ rows. rows.items ≡ all_rows_of system.now.states system.now.transitions) }
 {
@@ -103,7 +103,7 @@ fn all_rows_of(alloc: Global, system: &System) -> Result<Vec<Row>, AllocError>
     Ok(rows)
 }
 
-/// Marks a state that is not marked yet, and lets it wait.
+/// Marks a state that is not marked yet, and puts it among those that wait.
 fn note(marks: &mut Vec<bool>, waiting: &mut Vec<u32>, s: u32) -> Result<(), AllocError>
     requires { s < length marks.old.items }
     ensures { OnOk result (AreNoted (λ w. w ≡ s) marks.old.items waiting.old.items marks.new.items
@@ -116,7 +116,7 @@ fn note(marks: &mut Vec<bool>, waiting: &mut Vec<u32>, s: u32) -> Result<(), All
     Ok(())
 }
 
-/// Marks each of these states that is not marked yet, and lets it wait.
+/// Marks each of these states that is not marked yet, and puts it among those that wait.
 fn note_each(
     marks: &mut Vec<bool>,
     waiting: &mut Vec<u32>,
@@ -132,7 +132,7 @@ fn note_each(
     Ok(())
 }
 
-/// The targets of a row.
+/// Returns the targets of a row.
 fn targets(rows: &[Row], s: u32) -> &[u32]
     ensures { result.now ≡ slice_index_or rows.now s [] }
 {
@@ -142,7 +142,7 @@ fn targets(rows: &[Row], s: u32) -> &[u32]
     }
 }
 
-/// Marks what can be reached from a state, where no state is marked yet, and none waits.
+/// Marks the states that can be reached from a state, if no state is marked yet, and none waits.
 fn search(
     rows: &[Row],
     first: u32,
@@ -162,13 +162,13 @@ fn search(
     Ok(())
 }
 
-/// Tells of each state whether it can be reached from the first one over transitions whose guards are not known to be
-/// false.
+/// Returns for each state whether it can be reached from the first one over transitions with guards that are not known
+/// to be false.
 pub fn reachable(alloc: Global, system: &System, known: &Partial) -> Result<Vec<bool>, AllocError>
     requires { length known.now ≡ system.now.features }
     ensures { IfOk result (λ reached. AreReached known.now system.now reached.items) }
 {
-    // `transitions` tells what every system has.
+    // The contract of `transitions` states the invariant of every system.
     let _transitions = system.transitions();
     let rows = rows_of(alloc, system, known.values())?;
     let mut marks = vec![in alloc; false; rows.len()]?;
@@ -177,11 +177,11 @@ pub fn reachable(alloc: Global, system: &System, known: &Partial) -> Result<Vec<
     Ok(marks)
 }
 
-/// Tells of each state whether it can be reached from the first one over transitions, whatever their guards are.
+/// Returns for each state whether it can be reached from the first one over transitions, whatever their guards are.
 pub fn reachable_by_any(alloc: Global, system: &System) -> Result<Vec<bool>, AllocError>
     ensures { IfOk result (λ reached. AreReachedByAny system.now reached.items) }
 {
-    // `transitions` tells what every system has.
+    // The contract of `transitions` states the invariant of every system.
     let _transitions = system.transitions();
     let rows = all_rows_of(alloc, system)?;
     let mut reached = vec![in alloc; false; rows.len()]?;

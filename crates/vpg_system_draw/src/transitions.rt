@@ -6,14 +6,14 @@ ghost use Rattle.vpg_system_draw.specs.Arrows.{no_transition};
 
 use vpg_system::{System, Transition};
 
-/// How many transitions there are.
+/// Returns the number of transitions.
 pub(crate) fn transition_count(system: &System) -> usize
     ensures { result ≡ length system.now.transitions }
 {
     system.transitions().len()
 }
 
-/// The transition of a number.
+/// Returns the transition of a number.
 pub(crate) fn transition_at(system: &System, at: usize) -> &Transition
     requires { at < length system.now.transitions }
     ensures value { transition_of result.now ≡ slice_index_or system.now.transitions at no_transition }

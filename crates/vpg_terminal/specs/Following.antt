@@ -1,4 +1,5 @@
--- What an answer tells a session at a terminal, and which lines the session hands on by itself. This project's own.
+-- The kinds of answers that a session at a terminal hears, and the lines that it hands on by itself. This project's
+-- own.
 use Rattle.std.specs.Prelude.{ℕ, Bool, ◌||◌, if◌then◌else◌, nat_eq, List, [], ◌∷◌, ◌++◌, codes, decimal}
 use Rattle.std.specs.List.{starts_with}
 use Rattle.vpg_terminal.specs.Naming.{behind_word}
@@ -8,8 +9,8 @@ use Rattle.vpg_terminal.specs.declared.hearing.Heard.TheVariants as hears
 abbrev pub begins : List ℕ → List ℕ → Bool
 begins text word = starts_with nat_eq text word
 
--- What an answer tells: that the line is no command, that no feature has the name, that a decision contradicts the
--- page, that the page was swept, or that the vertex of a line of `show` is hopeless.
+-- The kind of an answer: the line is no command, no feature has the name, a decision contradicts the page, or the page
+-- was swept. Or it is the line of a hopeless vertex, as `show` has it.
 abbrev pub heard_of : List ℕ → Heard
 heard_of answer =
     if begins answer (codes "refused Word") || begins answer (codes "refused Args") then hears.Fault

@@ -1,4 +1,4 @@
-//! The line that a session hands on behind an answer.
+//! The line that a session hands on after an answer.
 ghost use Rattle.std.specs.Prelude.{◌≡◌, IfOk};
 ghost use Rattle.vpg_terminal.specs.Following.{why_line, vertex_line};
 
@@ -7,14 +7,14 @@ use itoa::Buffer;
 use std::alloc::{AllocError, Global};
 use vpg_places::Word;
 
-/// A line that follows an answer which tells this.
+/// A line that follows an answer of this kind.
 #[derive(Drop)]
 pub(crate) struct Following {
     pub(crate) behind: Heard,
     pub(crate) line: Vec<u8>,
 }
 
-/// The line that asks why a decision is refused.
+/// Returns the line that asks why a decision is refused.
 fn why_line(alloc: Global, sign: u8, feature: &[u8]) -> Result<Vec<u8>, AllocError>
     ensures { IfOk result (λ line. line.items ≡ why_line sign feature.now) }
 {
@@ -25,7 +25,7 @@ fn why_line(alloc: Global, sign: u8, feature: &[u8]) -> Result<Vec<u8>, AllocErr
     Ok(line)
 }
 
-/// The line of a command about a vertex.
+/// Returns the line of a command about a vertex.
 fn vertex_line(alloc: Global, command: &[u8], id: u32) -> Result<Vec<u8>, AllocError>
     ensures { IfOk result (λ line. line.items ≡ vertex_line command.now id) }
 {
@@ -37,7 +37,7 @@ fn vertex_line(alloc: Global, command: &[u8], id: u32) -> Result<Vec<u8>, AllocE
     Ok(line)
 }
 
-/// The words behind the label of a session.
+/// Returns the words after a session's label.
 fn without_label<'w, 'l>(words: &'w [Word<'l>]) -> &'w [Word<'l>] {
     match words {
         [label, rest @ ..] if label.bytes.ends_with(b":") => rest,
@@ -45,7 +45,7 @@ fn without_label<'w, 'l>(words: &'w [Word<'l>]) -> &'w [Word<'l>] {
     }
 }
 
-/// The line that follows one of these words, where the game starts at a vertex of this identifier.
+/// Returns the line that follows the answer to these words, if any. The game starts at the vertex of this identifier.
 pub(crate) fn behind_line(
     alloc: Global,
     words: &[Word<'_>],
@@ -72,7 +72,7 @@ pub(crate) fn behind_line(
     }
 }
 
-/// The line that follows one of the session's own. It asks why the start is hopeless.
+/// Returns the line that follows the answer to one of the session's own. It asks why the start is hopeless.
 pub(crate) fn behind_own(
     alloc: Global,
     behind: Heard,

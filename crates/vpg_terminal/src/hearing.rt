@@ -1,4 +1,4 @@
-//! What an answer tells a session, and a sink that listens.
+//! The kinds of answers that a session hears, and a sink that listens.
 ghost use Rattle.std.specs.Prelude.{◌≡◌};
 ghost use Rattle.vpg_terminal.specs.Following.{heard_of};
 
@@ -6,7 +6,7 @@ use crate::naming::behind_word;
 use std::cell::Cell;
 use vpg_script::{Failed, Sink};
 
-/// What an answer tells a session.
+/// The kind of an answer, as a session hears it.
 #[derive(Clone, Copy, Debug, PartialEq, Eq)]
 pub enum Heard {
     /// The line is no command.
@@ -17,13 +17,13 @@ pub enum Heard {
     Conflict,
     /// The page was swept.
     Swept,
-    /// The vertex whose line it is, as `show V` answers it, is hopeless.
+    /// The vertex of its line, as `show V` answers it, is hopeless.
     Hopeless,
-    /// Nothing of this.
+    /// None of these.
     Nothing,
 }
 
-/// What an answer tells.
+/// Returns the kind of an answer.
 pub fn heard_of(answer: &[u8]) -> Heard
     ensures { result ≡ heard_of answer.now }
 {
@@ -42,7 +42,7 @@ pub fn heard_of(answer: &[u8]) -> Heard
     }
 }
 
-/// A sink that passes answers on, and notes what each of them tells.
+/// A sink that passes answers on, and notes the kind of each.
 #[derive(Drop)]
 pub struct Ear<'c, W> {
     writer: W,
@@ -50,7 +50,7 @@ pub struct Ear<'c, W> {
 }
 
 impl<'c, W: Sink> Ear<'c, W> {
-    /// An ear that passes on to this writer.
+    /// Returns an ear that passes on to this writer.
     pub fn new(writer: W, heard: &'c Cell<Heard>) -> Ear<'c, W>
         ensures contents { ⟦<Ear<'c, W> as Sink>⟧.contents result ≡ W.contents writer }
         ensures failed { ⟦<Ear<'c, W> as Sink>⟧.has_failed result ≡ W.has_failed writer }

@@ -1,16 +1,16 @@
-//! What a session says of commands.
+//! The help of a session on commands.
 use std::alloc::{AllocError, Global};
 use vpg_places::words_of;
 
-/// How many bytes of a line of the list tell how commands are written.
+/// The number of bytes in a line of the list that show how commands are written.
 const WRITTEN: usize = 25;
 
-/// Whether a line of the list begins what is said of a command, and doesn't go on with it.
+/// Whether a line of the list begins the help on a command, and doesn't go on with it.
 fn begins(line: &[u8]) -> bool {
     line.starts_with(b"  ") && !line.starts_with(b"   ")
 }
 
-/// Whether a line that begins what is said of commands names this word.
+/// Returns whether a line that begins the help on commands names this word.
 fn names(alloc: Global, line: &[u8], command: &[u8]) -> Result<bool, AllocError> {
     let written = line.get(..WRITTEN).unwrap_or(line);
     let words = words_of(alloc, written, false)?;
@@ -22,7 +22,7 @@ fn names(alloc: Global, line: &[u8], command: &[u8]) -> Result<bool, AllocError>
     Ok(false)
 }
 
-/// Appends the lines of a list of commands that tell of one, and whether there are any.
+/// Appends the lines about one command from a list of commands. Returns whether there are any.
 pub(crate) fn put_command(
     alloc: Global,
     list: &str,

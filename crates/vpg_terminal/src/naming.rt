@@ -13,10 +13,10 @@ use vpg_game::GuardedGame;
 use vpg_names::VertexNames;
 use vpg_script::{Failed, Sink};
 
-/// One more than the greatest identifier: what stands for all numbers that are greater.
+/// One more than the greatest identifier: it stands for all numbers that are greater.
 const NO_IDENTIFIER: u64 = 4_294_967_296;
 
-/// How many bytes of the first word are there.
+/// Returns the number of bytes of the first word.
 fn word_len(line: &[u8]) -> usize
     ensures len { result ≡ prefix_len is_within_word line.now }
     ensures within { result ≤ length line.now }
@@ -30,7 +30,7 @@ fn first_word(line: &[u8]) -> &[u8]
     &line[..word_len(line)]
 }
 
-/// What stands behind the first word and the blank.
+/// Returns the text after the first word and the blank.
 pub(crate) fn behind_word(line: &[u8]) -> &[u8]
     ensures { result.now ≡ behind_word line.now }
 {
@@ -64,7 +64,7 @@ fn digit(b: u8) -> u64
     (b - b'0') as u64
 }
 
-/// The number that digits write, or what stands for all that are greater than identifiers are.
+/// Returns the number that digits write, or `NO_IDENTIFIER` for each that is greater than all identifiers.
 fn bounded_value(digits: &[u8]) -> u64
     requires { list_all is_ascii_digit digits.now ≡ true }
     ensures { result ≡ min 4294967296 (digits_value 10 digits.now) }
@@ -76,7 +76,7 @@ fn bounded_value(digits: &[u8]) -> u64
     value
 }
 
-/// The identifier that a word is.
+/// Returns the identifier that a word spells.
 fn identifier(word: &[u8]) -> Option<u32>
     ensures { result ≡ number_of largest_identifier word.now }
 {
@@ -97,7 +97,7 @@ fn vertex_at(game: &GuardedGame, identifier: u32) -> Option<u32>
     game.find(identifier)
 }
 
-/// The name of the vertex whose identifier this word is.
+/// Returns the name of the vertex of the identifier that this word spells.
 fn name_of<'n>(game: &GuardedGame, names: &'n VertexNames, word: &[u8]) -> &'n [u8]
     ensures { result.now ≡ name_of (vertex_ids game.now.vertices) names.now.names word.now }
 {
@@ -110,7 +110,7 @@ fn name_of<'n>(game: &GuardedGame, names: &'n VertexNames, word: &[u8]) -> &'n [
     }
 }
 
-/// A byte of a name as it is shown: `?` where it is a control character.
+/// Returns a byte of a name as it is shown: `?` for a control character.
 fn shown_byte(byte: u8) -> u8
     ensures { result ≡ shown_byte byte }
 {
@@ -140,7 +140,7 @@ fn put_quoted(name: &[u8], out: &mut Vec<u8>) -> Result<(), AllocError>
     out.extend_from_slice(b"\"")
 }
 
-/// Appends a name, where there is one.
+/// Appends a name, if there is one.
 fn put_beside(name: &[u8], out: &mut Vec<u8>) -> Result<(), AllocError>
     ensures { OnOk result (out.new.items ≡ out.old.items ++ beside name.now) }
 {
@@ -150,7 +150,7 @@ fn put_beside(name: &[u8], out: &mut Vec<u8>) -> Result<(), AllocError>
     put_quoted(name, out)
 }
 
-/// Appends two names, where there is one of them.
+/// Appends two names, if one of them isn't empty.
 fn put_both(name: &[u8], other: &[u8], out: &mut Vec<u8>) -> Result<(), AllocError>
     ensures { OnOk result (out.new.items ≡ out.old.items ++ beside_both name.now other.now) }
 {
@@ -198,7 +198,7 @@ fn is_of_vertex(word: &[u8]) -> bool
     is_of_lift(word) || (is_of_verdict(word) || is_of_fact(word))
 }
 
-/// Whether this stands behind the first word of a step.
+/// Whether this text stands after the first word of a step.
 fn is_step(rest: &[u8]) -> bool
     ensures { result ≡ is_step rest.now }
 {
@@ -208,7 +208,7 @@ fn is_step(rest: &[u8]) -> bool
     }
 }
 
-/// Appends what stands beside a line.
+/// Appends the names beside a line.
 fn put_labels(
     game: &GuardedGame,
     names: &VertexNames,
@@ -233,7 +233,7 @@ fn put_labels(
     }
 }
 
-/// Appends a line and what stands beside it.
+/// Appends a line and the names beside it.
 fn put_line(
     game: &GuardedGame,
     names: &VertexNames,
@@ -247,7 +247,7 @@ fn put_line(
     put_labels(game, names, line, out)
 }
 
-/// Appends a line feed, and a line and what stands beside it.
+/// Appends a line feed, a line and the names beside it.
 fn put_further(
     game: &GuardedGame,
     names: &VertexNames,
@@ -261,7 +261,7 @@ fn put_further(
     put_line(game, names, line, out)
 }
 
-/// Appends the same of each of these lines.
+/// Appends these lines, each with a line feed before it and the names beside it.
 fn put_rest(
     game: &GuardedGame,
     names: &VertexNames,
@@ -308,7 +308,7 @@ fn lines(alloc: Global, text: &[u8]) -> Result<Vec<&[u8]>, AllocError>
     text.split(|b| is_line_end(*b)).collect(alloc)
 }
 
-/// Whether lines are those of `count`, whose numbers are no identifiers.
+/// Whether lines are those of `count`, with numbers that are no identifiers.
 fn is_count(lines: &[&[u8]]) -> bool
     ensures { result ≡ is_count (map (λ w. w.now) lines.now) }
 {
@@ -318,7 +318,7 @@ fn is_count(lines: &[&[u8]]) -> bool
     }
 }
 
-/// The text of an answer with the names of vertices beside its lines.
+/// Returns the text of an answer with the names of vertices beside its lines.
 pub fn named_text(
     alloc: Global,
     game: &GuardedGame,
@@ -348,7 +348,7 @@ pub struct Named<'n, W> {
 }
 
 impl<'n, W: Sink> Named<'n, W> {
-    /// A sink that passes answers on to this writer.
+    /// Returns a sink that passes answers on to this writer.
     pub fn new(
         alloc: Global,
         game: &'n GuardedGame,
@@ -367,7 +367,7 @@ impl<'n, W: Sink> Named<'n, W> {
     }
 }
 
-/// Passes an answer on with the names of vertices beside its lines. It fails too where memory runs out.
+/// Passes an answer on with the names of vertices beside its lines. It also fails if memory runs out.
 fn put_named<W: Sink>(
     alloc: Global,
     game: &GuardedGame,

@@ -1,4 +1,4 @@
-//! How words are read.
+//! The parser of the program's words.
 use crate::task::{Asked, Picture, Task};
 use crate::usage::{ABOUT, AFTER, SHORT_AFTER};
 use crate::verbs::{Argument, Kind, VERBS, Verb, verb_of};
@@ -8,7 +8,7 @@ use clap::{Arg, ArgAction, ArgMatches, Command, Error};
 use std::alloc::{AllocError, Global};
 use vpg_family::{GamePaths, ModelPaths, Paths, Subject};
 
-/// The option whose value is a number of lifters.
+/// Returns an option with a number of lifters as its value.
 fn lifters<'a>(arg: Arg<'a>) -> Arg<'a> {
     arg.long("lifters")
         .value_name("N")
@@ -16,7 +16,7 @@ fn lifters<'a>(arg: Arg<'a>) -> Arg<'a> {
         .default_value("1")
 }
 
-/// An option without a value, which goes with another one, and without a third.
+/// Returns an option without a value, which goes with another one, and without a third.
 fn choice<'a>(
     arg: Arg<'a>,
     name: &'a str,
@@ -46,7 +46,7 @@ fn arg_of<'a>(alloc: Global, argument: Argument) -> Result<Arg<'a>, AllocError> 
     }
 }
 
-/// A command with one more argument.
+/// Returns a command with one more argument.
 fn with_argument<'a>(
     command: Command<'a>,
     arg: Result<Arg<'a>, AllocError>,
@@ -57,7 +57,7 @@ fn with_argument<'a>(
     }
 }
 
-/// A command with these arguments.
+/// Returns a command with these arguments.
 fn with_arguments<'a>(
     alloc: Global,
     command: Command<'a>,
@@ -79,7 +79,7 @@ fn command_of<'a>(alloc: Global, verb: &Verb) -> Result<Command<'a>, AllocError>
     with_arguments(alloc, command, verb.arguments)
 }
 
-/// A command, and one more within it.
+/// Returns a command, with one more within it.
 fn with_inner<'a>(
     command: Command<'a>,
     inner: Result<Command<'a>, AllocError>,
@@ -90,7 +90,7 @@ fn with_inner<'a>(
     }
 }
 
-/// A command, and all commands of the program within it.
+/// Returns a command, with all commands of the program within it.
 fn with_verbs<'a>(alloc: Global, command: Command<'a>) -> Result<Command<'a>, AllocError> {
     let mut command = command;
     for verb in &VERBS {
@@ -99,7 +99,7 @@ fn with_verbs<'a>(alloc: Global, command: Command<'a>) -> Result<Command<'a>, Al
     Ok(command)
 }
 
-/// All that the program may be called with.
+/// Returns the command with everything that the program may be called with.
 fn command<'a>(alloc: Global) -> Result<Command<'a>, AllocError> {
     let command = Command::new(alloc, "vpgdesk")
         .version("0.1.0")
@@ -110,7 +110,7 @@ fn command<'a>(alloc: Global) -> Result<Command<'a>, AllocError> {
     with_verbs(alloc, command)
 }
 
-/// What is told of words that are wrong.
+/// Returns the message about words that are wrong.
 fn wrong(alloc: Global, kind: ErrorKind, why: &str) -> Result<Error, AllocError> {
     match command(alloc) {
         Ok(mut command) => command.error(kind, why),
@@ -118,7 +118,7 @@ fn wrong(alloc: Global, kind: ErrorKind, why: &str) -> Result<Error, AllocError>
     }
 }
 
-/// What is told of words that no text in UTF-8 spells.
+/// Returns the message about words that no text in UTF-8 spells.
 pub fn not_text(alloc: Global) -> Result<Error, AllocError> {
     wrong(
         alloc,
@@ -127,7 +127,7 @@ pub fn not_text(alloc: Global) -> Result<Error, AllocError> {
     )
 }
 
-/// What is told where a command lacks a word. The parser refuses such words before.
+/// Returns the message about a command that lacks a word. The parser refuses such words before.
 fn lacking(alloc: Global) -> Result<Error, AllocError> {
     wrong(
         alloc,
@@ -136,7 +136,7 @@ fn lacking(alloc: Global) -> Result<Error, AllocError> {
     )
 }
 
-/// What is told of a word too many.
+/// Returns the message about a word too many.
 fn unexpected(alloc: Global, name: &str, word: &str) -> Result<Error, AllocError> {
     let told = format!(in alloc; "unexpected argument '{word}' found")?;
     let command = match verb_of(name) {
@@ -149,7 +149,7 @@ fn unexpected(alloc: Global, name: &str, word: &str) -> Result<Error, AllocError
     }
 }
 
-/// What is told of a number with a sign.
+/// Returns the message about a number with a sign.
 fn signed(alloc: Global) -> Result<Error, AllocError> {
     wrong(
         alloc,
@@ -158,7 +158,7 @@ fn signed(alloc: Global) -> Result<Error, AllocError> {
     )
 }
 
-/// Whether the number of lifters has a sign before its digits. The parser takes it so.
+/// Whether the number of lifters has a sign before its digits. The parser accepts it.
 fn has_sign(matches: &ArgMatches<'_>) -> bool {
     match matches.get_str("lifters") {
         Some(word) => word.starts_with('+'),
@@ -175,7 +175,7 @@ struct Files<'a> {
     unexpected: Option<&'a str>,
 }
 
-/// The files of a system, its requirements and a diagram.
+/// Returns the files of a system, its requirements and a diagram.
 fn model_of<'a>(system: &'a str, requirements: &'a str, diagram: &'a str) -> Paths<'a> {
     Paths {
         game: GamePaths::Model(ModelPaths {
@@ -186,8 +186,8 @@ fn model_of<'a>(system: &'a str, requirements: &'a str, diagram: &'a str) -> Pat
     }
 }
 
-/// The files that the words of a command name, where it takes a script or not, and these two stand in place of a game.
-/// Each word stands where the one before it would.
+/// Returns the files that the words of a command name, with these two in place of a game. Each word stands where the
+/// one before it would. `takes_script` says whether a script may follow.
 fn shifted<'a>(
     matches: &ArgMatches<'a>,
     takes_script: bool,
@@ -211,7 +211,7 @@ fn shifted<'a>(
     })
 }
 
-/// The files of a system that is drawn alone. It takes no script, and no picture of features.
+/// Returns the files of a system that is drawn alone. It takes no script, and no picture of features.
 fn system_files<'a>(matches: &ArgMatches<'a>, system: &'a str) -> Option<Files<'a>> {
     let diagram = matches.get_str("GAME")?;
     let of_features = if matches.get_flag("features") {
@@ -229,7 +229,7 @@ fn system_files<'a>(matches: &ArgMatches<'a>, system: &'a str) -> Option<Files<'
     })
 }
 
-/// The files of the command `model`.
+/// Returns the files of the command `model`.
 fn model_files<'a>(matches: &ArgMatches<'a>) -> Option<Files<'a>> {
     let system = matches.get_str("SYSTEM")?;
     let requirements = matches.get_str("REQUIREMENTS")?;
@@ -240,7 +240,7 @@ fn model_files<'a>(matches: &ArgMatches<'a>) -> Option<Files<'a>> {
     })
 }
 
-/// The files of a command over a game.
+/// Returns the files of a command over a game.
 fn game_files<'a>(matches: &ArgMatches<'a>) -> Option<Files<'a>> {
     Some(Files {
         paths: Paths {
@@ -252,7 +252,7 @@ fn game_files<'a>(matches: &ArgMatches<'a>) -> Option<Files<'a>> {
     })
 }
 
-/// The files that a command names. It has them where it was accepted.
+/// Returns the files that a command names. It has them if it was accepted.
 fn files_of<'a>(name: &str, matches: &ArgMatches<'a>) -> Option<Files<'a>> {
     if name == "model" {
         return model_files(matches);
@@ -275,7 +275,7 @@ fn features<'a>(alloc: Global, matches: &ArgMatches<'a>) -> Result<Vec<&'a str>,
     Ok(features)
 }
 
-/// What is drawn of these files.
+/// Returns the picture that a command draws of these files.
 fn picture_of(paths: Paths<'_>, matches: &ArgMatches<'_>) -> Picture {
     if matches!(paths.game, GamePaths::System(_)) || matches.get_flag("states") {
         Picture::System
@@ -286,7 +286,7 @@ fn picture_of(paths: Paths<'_>, matches: &ArgMatches<'_>) -> Picture {
     }
 }
 
-/// The task of a command over a family of these files, `None` where it lacks a word.
+/// Returns the task of a command over a family of these files, `None` if it lacks a word.
 fn task_of<'a>(
     alloc: Global,
     name: &str,
@@ -329,12 +329,12 @@ fn explains(name: &str, matches: &ArgMatches<'_>) -> bool {
     name == "lint" || name == "desk" || matches.get_flag("explain")
 }
 
-/// What is told in place of a task.
+/// Returns a message in place of a task.
 fn refused<'a>(told: Result<Error, AllocError>) -> Result<Asked<'a>, Error> {
     Err(told?)
 }
 
-/// What a command over a family of these files asks for.
+/// Returns the request of a command over a family of these files.
 fn asked_of<'a>(
     alloc: Global,
     name: &str,
@@ -350,7 +350,7 @@ fn asked_of<'a>(
     }
 }
 
-/// What a command over a family asks for.
+/// Returns the request of a command over a family.
 fn asked<'a>(alloc: Global, name: &str, matches: &ArgMatches<'a>) -> Result<Asked<'a>, Error> {
     if has_sign(matches) {
         return refused(signed(alloc));
@@ -367,7 +367,7 @@ fn asked<'a>(alloc: Global, name: &str, matches: &ArgMatches<'a>) -> Result<Aske
     }
 }
 
-/// What words ask for that the parser accepted.
+/// Returns the request of words that the parser accepted.
 fn accepted<'a>(alloc: Global, matches: &ArgMatches<'a>) -> Result<Asked<'a>, Error> {
     match matches.subcommand() {
         Some((name, inner)) => asked(alloc, name, inner),
@@ -378,8 +378,8 @@ fn accepted<'a>(alloc: Global, matches: &ArgMatches<'a>) -> Result<Asked<'a>, Er
     }
 }
 
-/// What the words ask for, the first of them being the program's name; else what is told of them, help and the version
-/// among it.
+/// Parses the words, the first of them being the program's name; `Err` is what `clap` prints, also help and the
+/// version.
 pub fn read<'a>(alloc: Global, words: &'a [String]) -> Result<Asked<'a>, Error> {
     match command(alloc)?.try_get_matches_from(words) {
         Ok(matches) => accepted(alloc, &matches),

@@ -1,7 +1,7 @@
-//! What the words ask for.
+//! The tasks that the words ask for.
 use vpg_family::{Paths, Subject};
 
-/// What the words ask for.
+/// The request of the words.
 #[derive(Drop)]
 pub struct Asked<'a> {
     pub task: Task<'a>,
@@ -9,7 +9,7 @@ pub struct Asked<'a> {
     pub explains: bool,
 }
 
-/// What is drawn.
+/// The subject of a picture.
 #[derive(Clone, Copy, PartialEq, Eq)]
 pub enum Picture {
     /// The game, or the feature diagram.
@@ -18,9 +18,9 @@ pub enum Picture {
     System,
 }
 
-/// What is to be done.
+/// The task to be done.
 pub enum Task<'a> {
-    /// A script from standard input, on the family that is built in.
+    /// A script from standard input, on the built-in family.
     BuiltIn,
     /// A script on a family.
     Run {
@@ -56,11 +56,11 @@ pub enum Task<'a> {
     Check {
         paths: Paths<'a>,
     },
-    /// What looks wrong in a family.
+    /// The lint of a family.
     Lint {
         paths: Paths<'a>,
     },
-    /// A picture of a family, on the page that a script leaves where there is one.
+    /// A picture of a family, on the page that a script leaves if there is one.
     Draw {
         paths: Paths<'a>,
         picture: Picture,
@@ -68,7 +68,7 @@ pub enum Task<'a> {
     },
 }
 
-// Not derived, so that letting one go is one call: a derived way would be proved anew at each exit that owns one.
+// Not derived: a derived `drop` would be proved again at each exit that owns such a value.
 impl Drop for Task<'_> {
     fn drop(self) {
         match self {
@@ -103,7 +103,7 @@ impl Drop for Task<'_> {
 }
 
 impl<'a> Task<'a> {
-    /// The files of the family that it is about, where they are named.
+    /// Returns the files of the family that it is about, if they are named.
     pub fn paths(&self) -> Option<Paths<'a>> {
         match self {
             Task::BuiltIn => None,
@@ -117,7 +117,7 @@ impl<'a> Task<'a> {
         }
     }
 
-    /// The file of its script, where it has one.
+    /// Returns the file of its script, if it has one.
     pub fn script(&self) -> Option<&'a str> {
         match self {
             Task::Run { script, .. } => Some(*script),

@@ -12,18 +12,18 @@ use vpg_lint::{explain_line, put_message, put_place, put_unknown};
 use vpg_places::{Line, Word, words_of};
 use vpg_script::{Failed, Next, Sink, Source, next_line};
 
-/// What stands before each line on a terminal.
+/// The prompt before each line on a terminal.
 const PROMPT: &[u8] = b"> ";
 
-/// What is said of a word that names no command.
+/// The message about a word that names no command.
 const UNKNOWN: &[u8] = b"no such command; `help` lists them\n";
 
-/// What a line asks of the session itself.
+/// A line's request to the session itself.
 #[derive(Clone, Copy)]
 enum Asked<'l> {
     Nothing,
     Help,
-    /// What is said of the commands of this word.
+    /// Help on the commands of this word.
     HelpOf(&'l [u8]),
     Quit,
 }
@@ -37,8 +37,8 @@ fn asked_of<'l>(words: &[Word<'l>]) -> Asked<'l> {
     }
 }
 
-/// What a session is given: the list of commands, the names of features, whether it writes prompts, the identifier of
-/// the vertex where the game starts, and what was heard of the last answer.
+/// The setting of a session: the list of commands, the names of features, whether it writes prompts, the identifier of
+/// the first vertex, and the kind of the last answer.
 #[derive(Clone, Copy)]
 pub struct Setting<'c> {
     pub commands: &'c str,
@@ -48,14 +48,14 @@ pub struct Setting<'c> {
     pub heard: &'c Cell<Heard>,
 }
 
-/// What a line is handed on as, and what follows it.
+/// A line that is handed on, and the line that follows its answer.
 #[derive(Drop)]
 struct Handed {
     line: Vec<u8>,
     following: Option<Following>,
 }
 
-/// The line in which a script says nothing.
+/// Returns an empty line, which asks a script for nothing.
 fn nothing(alloc: Global) -> Result<Handed, AllocError> {
     Ok(Handed {
         line: Vec::from_slice(alloc, b"\n")?,
@@ -63,7 +63,7 @@ fn nothing(alloc: Global) -> Result<Handed, AllocError> {
     })
 }
 
-/// What is handed on of a line that asks nothing of the session: the line itself.
+/// Returns the line itself, if it asks nothing of the session.
 fn as_typed(
     alloc: Global,
     line: &[u8],
@@ -97,7 +97,7 @@ fn put_help(
     }
 }
 
-/// Says how commands are written.
+/// Writes how commands are written.
 fn tell_help<W: Sink>(
     alloc: Global,
     commands: &str,
@@ -107,13 +107,13 @@ fn tell_help<W: Sink>(
     let mut text = Vec::new(alloc);
     let put = put_help(alloc, commands, command, &mut text);
     if put.is_ok() {
-        // Where this fails the answers are still to come.
+        // If this fails the answers are still to come.
         let _ = talk.put(&text);
     }
     put
 }
 
-/// What is handed on of a line that asks something of the session, which meets it.
+/// Carries out a line's request to the session, and returns the line that is handed on for it.
 fn met<W: Sink>(
     alloc: Global,
     setting: Setting<'_>,
@@ -135,7 +135,7 @@ fn met<W: Sink>(
     }
 }
 
-/// Meets words that were typed: what is handed on of their line, or `None` where the session ends.
+/// Carries out words that were typed. Returns the line that is handed on for theirs, or `None` if the session ends.
 fn meet_words<W: Sink>(
     alloc: Global,
     setting: Setting<'_>,
@@ -152,7 +152,7 @@ fn meet_words<W: Sink>(
     }
 }
 
-/// Meets a line that was typed: what is handed on of it, or `None` where the session ends.
+/// Carries out a line that was typed. Returns the line that is handed on for it, or `None` if the session ends.
 fn meet<W: Sink>(
     alloc: Global,
     setting: Setting<'_>,
@@ -165,7 +165,7 @@ fn meet<W: Sink>(
     }
 }
 
-/// Says why a line is no command. Where this fails the answers are still to come.
+/// Says why a line is no command. If this fails the answers are still to come.
 fn tell_fault<W: Sink>(alloc: Global, number: usize, line: &[u8], talk: &mut W) {
     let line = line.strip_suffix(b"\n").unwrap_or(line);
     if let Ok(message) = explain_line(alloc, number, line) {
@@ -176,7 +176,7 @@ fn tell_fault<W: Sink>(alloc: Global, number: usize, line: &[u8], talk: &mut W) 
     }
 }
 
-/// The name that a word says, which may have the sign of a decision before it, and where it stands.
+/// Returns the name in a word, which may have the sign of a decision before it, and its place.
 fn name_in<'l>(word: Word<'l>) -> Word<'l> {
     match word.bytes {
         [b'+' | b'-', bytes @ ..] => Word {
@@ -206,7 +206,7 @@ fn tell_last<W: Sink>(
     }
 }
 
-/// Says of a line which feature was perhaps meant by its last word. Where this fails the answers are still to come.
+/// Says which feature was perhaps meant by the last word of a line. If this fails the answers are still to come.
 fn tell_unknown<W: Sink>(
     alloc: Global,
     number: usize,
@@ -225,19 +225,19 @@ fn tell_unknown<W: Sink>(
     }
 }
 
-/// What was typed so far, and what is handed on of it.
+/// The text that was typed so far, and the line that is handed on.
 #[derive(Drop)]
 struct Session<'c, R: Source, W> {
     alloc: Global,
     setting: Setting<'c>,
     reader: R,
     talk: W,
-    /// What was read and not looked at, and how often it was read.
+    /// Text that was read and not looked at, and how often it was read.
     held: Vec<u8>,
     reads: u32,
-    /// How many lines were typed.
+    /// The number of lines that were typed.
     typed: usize,
-    /// What is handed on, how much of it was, and what follows it.
+    /// The line that is handed on, how much of it was, and the line that follows its answer.
     line: Vec<u8>,
     given: usize,
     following: Option<Following>,
@@ -269,7 +269,7 @@ impl<'c, R: Source, W: Sink> Session<'c, R, W> {
         }
     }
 
-    /// Takes a line that is to be handed on, or the end where there is none.
+    /// Takes a line that is to be handed on, or the end if there is none.
     fn take(&mut self, handed: Option<Handed>) {
         self.given = 0;
         match handed {
@@ -285,7 +285,7 @@ impl<'c, R: Source, W: Sink> Session<'c, R, W> {
         }
     }
 
-    /// What the session itself hands on behind an answer, where there is something.
+    /// Takes the session's own line after an answer, if there is one. Returns whether there is.
     fn own(&mut self, heard: Heard) -> Result<bool, AllocError> {
         match mem::replace(&mut self.following, None) {
             Some(Following { behind, line }) if behind == heard => {
@@ -297,7 +297,7 @@ impl<'c, R: Source, W: Sink> Session<'c, R, W> {
         }
     }
 
-    /// A line that was typed, or the rest of one that is too long.
+    /// Takes a line that was typed, or the rest of one that is too long.
     fn meet(&mut self, line: Vec<u8>) -> Result<(), AllocError> {
         let handed = if self.is_within {
             Some(as_typed(self.alloc, &line, &[], None)?)
@@ -342,7 +342,7 @@ impl<'c, R: Source, W: Sink> Session<'c, R, W> {
         }
     }
 
-    /// Says what is wrong with the line that was answered, where something is.
+    /// Says what is wrong with the line that was answered, if it is wrong.
     fn explain(&mut self, heard: Heard) {
         match heard {
             Heard::Fault => tell_fault(self.alloc, self.typed, &self.line, &mut self.talk),
@@ -357,7 +357,7 @@ impl<'c, R: Source, W: Sink> Session<'c, R, W> {
         }
     }
 
-    /// The next line, of the session itself or typed.
+    /// Takes the next line, the session's own or a typed one.
     fn next(&mut self) -> Result<(), Failed> {
         let heard = self.setting.heard.replace(Heard::Nothing);
         self.explain(heard);
@@ -373,7 +373,7 @@ impl<'c, R: Source, W: Sink> Session<'c, R, W> {
         self.given >= self.line.len() && !self.has_ended
     }
 
-    /// Hands on what is left of the line, as much as there is room for.
+    /// Hands on the rest of the line, as much as there is room for.
     fn hand_on(&mut self, buf: &mut [u8]) -> usize
         ensures bound { result ≤ length buf.new }
         ensures len { length buf.new ≡ length buf.old }
@@ -385,7 +385,7 @@ impl<'c, R: Source, W: Sink> Session<'c, R, W> {
     }
 }
 
-/// A script that is typed in. It ends where its reader does, or at a line `quit`.
+/// A script that is typed in. It ends with its reader, or at a line `quit`.
 #[derive(Drop)]
 pub struct Typed<'c, R: Source, W> {
     session: Session<'c, R, W>,
@@ -394,7 +394,7 @@ pub struct Typed<'c, R: Source, W> {
 }
 
 impl<'c, R: Source, W: Sink> Typed<'c, R, W> {
-    /// A script from this reader that was not read yet. What is said beside the answers goes to `talk`.
+    /// Returns a script from this reader, which was not read yet. The text beside the answers goes to `talk`.
     pub fn new(alloc: Global, setting: Setting<'c>, reader: R, talk: W) -> Typed<'c, R, W>
         requires { R.calls reader ≡ 0 }
         ensures unread { ⟦<Typed<'c, R, W> as Source>⟧.calls result ≡ 0 }
@@ -409,7 +409,7 @@ impl<'c, R: Source, W: Sink> Typed<'c, R, W> {
 }
 
 impl<R: Source + Drop, W: Sink> Typed<'_, R, W> {
-    /// What the lines that are said beside the answers were written to.
+    /// Returns the sink of the text beside the answers.
     pub fn into_talk(self) -> W {
         self.session.talk
     }

@@ -1,6 +1,6 @@
-//! What help says.
+//! The text of the help.
 
-/// What the program is for, in a few lines.
+/// The program's purpose, in a few lines.
 pub(crate) const ABOUT: &str = "\
 Configures a product family whose behaviour is a variability parity game.
 
@@ -16,7 +16,7 @@ requirements, formulas of the mu-calculus. Each requirement is a vertex of their
 game: it is sure where it holds in every product that is left, and hopeless
 where it holds in none.";
 
-/// What the words leave open: scripts, statuses, examples.
+/// More than the words say: scripts, statuses, examples.
 pub(crate) const AFTER: &str = "\
 Without a command a script is read from standard input and carried out on a
 small family that is built in: the features r (the root), f and g, and the
@@ -85,14 +85,14 @@ Examples:
 
 All formats, commands, answers and faults: docs/FORMATS.md";
 
-/// What is said of the commands of scripts: the lines about them.
+/// Returns the help on the commands of scripts: the lines about them.
 pub fn command_list() -> &'static str {
     let (_, behind) = AFTER.split_once("Scripts, ").unwrap_or(("", AFTER));
     let (list, _) = behind.split_once("\n\n").unwrap_or((behind, ""));
     list
 }
 
-/// The same in one line each.
+/// The end of the short help, a line for each subject.
 pub(crate) const SHORT_AFTER: &str = "\
 Without a command a script is read from standard input, on a small family that
 is built in. `vpgdesk --help` tells of scripts, statuses and examples.";
@@ -111,28 +111,28 @@ pub(crate) const DRAWN_SYSTEM_HELP: &str = "In place of GAME: a system, drawn it
 
 pub(crate) const TAKEN_REQUIREMENTS_HELP: &str = "The formulas that the system is to meet";
 
-/// How `run` is called.
+/// The words of `run`.
 pub(crate) const RUN_USAGE: &str = "\
 vpgdesk run [OPTIONS] <GAME> <DIAGRAM> <SCRIPT>
        vpgdesk run [OPTIONS] --system <SYSTEM> --requirements <FILE>
                    <DIAGRAM> <SCRIPT>";
 
-/// How `desk` is called.
+/// The words of `desk`.
 pub(crate) const DESK_USAGE: &str = "\
 vpgdesk desk [OPTIONS] <GAME> <DIAGRAM>
        vpgdesk desk [OPTIONS] --system <SYSTEM> --requirements <FILE> <DIAGRAM>";
 
-/// How `check` is called.
+/// The words of `check`.
 pub(crate) const CHECK_USAGE: &str = "\
 vpgdesk check [OPTIONS] <GAME> <DIAGRAM>
        vpgdesk check [OPTIONS] --system <SYSTEM> --requirements <FILE> <DIAGRAM>";
 
-/// How `lint` is called.
+/// The words of `lint`.
 pub(crate) const LINT_USAGE: &str = "\
 vpgdesk lint <GAME> <DIAGRAM>
        vpgdesk lint --system <SYSTEM> --requirements <FILE> <DIAGRAM>";
 
-/// How `draw` is called.
+/// The words of `draw`.
 pub(crate) const DRAW_USAGE: &str = "\
 vpgdesk draw [OPTIONS] <GAME> <DIAGRAM> [SCRIPT]
        vpgdesk draw [OPTIONS] --system <SYSTEM> --requirements <FILE>

@@ -6,7 +6,7 @@ use crate::usage::{
     SYSTEM_HELP, TAKEN_REQUIREMENTS_HELP, TAKEN_SYSTEM_HELP,
 };
 
-/// How an argument of a command is given.
+/// The kind of a command's argument.
 #[derive(Clone, Copy)]
 pub(crate) enum Kind {
     /// A word that has to be there.
@@ -24,9 +24,9 @@ pub(crate) enum Kind {
         with: &'static str,
         without: &'static str,
     },
-    /// An option whose value is a number of lifters.
+    /// An option with a number of lifters as its value.
     Lifters,
-    /// An option whose value is a file, and which goes with another option.
+    /// An option with a file as its value, which goes with another option.
     File {
         value: &'static str,
         with: &'static str,
@@ -50,7 +50,7 @@ pub(crate) struct Argument {
 pub(crate) struct Verb {
     pub(crate) name: &'static str,
     pub(crate) about: &'static str,
-    /// How it is called, where not all arguments stand together.
+    /// Its words, if not all arguments stand together.
     pub(crate) usage: Option<&'static str>,
     pub(crate) arguments: &'static [Argument],
 }
@@ -251,7 +251,7 @@ pub(crate) static VERBS: [Verb; 7] = [
     },
 ];
 
-/// The command of a name.
+/// Returns the command of a name.
 pub(crate) fn verb_of(name: &str) -> Option<Verb> {
     for verb in &VERBS {
         if verb.name == name {

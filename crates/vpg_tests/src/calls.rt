@@ -1,7 +1,7 @@
-//! Calls at a desk or an office, and what they give.
+//! Calls at a desk or an office, and their answers.
 //!
-//! What is generic over `Calls` names no type of an office. A function whose signature names one takes the prover
-//! seconds, so there are few.
+//! Code that is generic over `Calls` names no type of an office. A function with such a type in its signature takes the
+//! prover seconds, so there are few.
 ghost use Rattle.std.specs.Prelude.{◌≡◌};
 
 use crate::given::{require, require_at};
@@ -21,7 +21,7 @@ pub enum By {
     Two,
 }
 
-/// Where a token is held.
+/// The place where a token is held.
 #[derive(Clone, Copy)]
 pub enum At {
     First,
@@ -29,12 +29,12 @@ pub enum At {
     Third,
 }
 
-/// Another family than that of most examples.
+/// A family other than that of most examples.
 #[derive(Clone, Copy)]
 pub enum Other {
     /// One vertex over the same features.
     Game,
-    /// The same game over a diagram of one clause more.
+    /// The game of most examples, over a diagram with one more clause.
     Diagram,
 }
 
@@ -51,51 +51,51 @@ pub enum Call {
     Forget(At),
     /// An order, which is lifted until both tables are settled: the harvest that is held then.
     Order,
-    /// An order of which this vertex of the first table is lifted once: the harvest that is held then.
+    /// An order, with this vertex of its hopeful table lifted once: the harvest that is held then.
     Lift(u32),
-    /// An order of which nothing is lifted: the harvest that is held then.
+    /// An order, with nothing lifted: the harvest that is held then.
     Bare,
-    /// An order of the family of most examples, without decisions, of which the one seat of a board lifts each vertex
-    /// once: the harvest that is held then.
+    /// An order of the family of most examples, without decisions. The one seat of a board lifts each vertex once: the
+    /// harvest that is held then.
     Seated,
-    /// Hands the harvest in that is held, which comes back where it isn't taken.
+    /// Hands in the harvest that is held, which comes back if it isn't taken.
     Commit,
     Settled,
-    /// As `Settled`, by the front with which the first session began.
+    /// As `Settled`, by the front that the first session began with.
     SettledEarly,
     Verdict(u32),
     /// Whether the page is this text.
     Page(&'static str),
     /// A further watch. Those before stay.
     Watch,
-    /// Lets all watches go.
+    /// Drops all watches.
     Unwatch,
-    /// What the last watch reads.
+    /// The sheet that the last watch reads.
     Sees,
-    /// How many calls the front has.
+    /// The number of the front's calls.
     Calls,
-    /// How many the front has with which the first session began.
+    /// The number of calls of the front that the first session began with.
     EarlyCalls,
     /// The number of the session, and how many calls its front has.
     Number,
-    /// The same of a further session.
+    /// The number of a further session, and how many calls its front has.
     Join,
-    /// How many calls the front has once it met that of the second session.
+    /// The number of the front's calls once it met that of the second session.
     Meet,
     /// Whether all further sessions are numbered from 3, and the 1,025th alone is refused.
     JoinAll,
-    /// Whether there are 64 watches and no more, until they are let go.
+    /// Whether there are 64 watches and no more, until they are dropped.
     WatchAll,
     /// An order of a desk on another family, which is lifted until both tables are settled: the harvest that is held
     /// then.
     Other(Other),
-    /// How many vertices the game of the harvest that is held has, and how many clauses its diagram.
+    /// The number of vertices in the game of the harvest that is held, and the number of clauses in its diagram.
     Sizes,
-    /// Closes a desk, which comes back where tokens are out.
+    /// Closes a desk, which comes back if tokens are out.
     Close,
 }
 
-/// What a call gave.
+/// The answer of a call.
 #[derive(Clone, Copy, PartialEq)]
 pub enum Answer {
     Done,
@@ -108,7 +108,7 @@ pub enum Answer {
     Token(u64),
     /// A token, of whichever serial.
     AnyToken,
-    /// So many entries.
+    /// This many entries.
     Added(u32),
     Is(bool),
     /// Whether the vertex is hopeless, and whether it is sure.
@@ -119,15 +119,15 @@ pub enum Answer {
     NoWatch,
     /// There is no place for a further session or watch.
     NoPlace,
-    /// So many calls, or tokens that are out.
+    /// This many calls, or tokens that are out.
     Has(usize),
-    /// So many vertices, and so many clauses.
+    /// This many vertices, and this many clauses.
     Sizes(usize, usize),
-    /// A session of this number, and so many calls.
+    /// A session of this number, and this many calls.
     Joined(u32, usize),
-    /// The log is full, and has so many calls.
+    /// The log is full, and has this many calls.
     Full(usize),
-    /// The session made a call since, and the log has so many.
+    /// The session made a call since, and the log has this many.
     Doubled(usize),
     NotDecided(DecideFault),
     NotRetracted(RetractFault),
@@ -142,7 +142,7 @@ pub trait Calls {
 
     type Office;
 
-    /// How many vertices the office's game has.
+    /// The number of vertices in the office's game.
     ghost vertices: { ℕ };
 
     /// Makes a call that gives a token, which is held there, or spends the one that is held there.
@@ -155,7 +155,7 @@ pub trait Calls {
         call: Call,
     ) -> Answer;
 
-    /// The serial of the change whose token is held there, 0 where none is.
+    /// Returns the serial of the change of the token that is held there, 0 if none is.
     fn serial(&mut self, at: At) -> u64;
 
     /// Makes a call that is logged, takes no token and gives none.
@@ -167,7 +167,7 @@ pub trait Calls {
         call: Call,
     ) -> Answer;
 
-    /// What is said of a vertex.
+    /// Returns the verdict of a vertex.
     fn verdict<R: Wait + Abort>(
         &mut self,
         rt: &R,
@@ -186,10 +186,10 @@ pub trait Calls {
         call: Call,
     ) -> Answer;
 
-    /// Looks at what sessions have, also once the office has ended.
+    /// Looks at the values that sessions have, also once the office has ended.
     fn looks<R: Abort>(&mut self, rt: &R, by: By, call: Call) -> Answer;
 
-    /// The harvest that is held.
+    /// Returns the harvest that is held.
     fn harvest(&mut self) -> &mut Option<Harvest>;
 }
 
@@ -206,7 +206,7 @@ fn join_all<S: Calls, R: Wait + Abort + AllocGlobal>(
     hand.visits(rt, office, By::One, Call::Join) == Answer::NoPlace
 }
 
-/// Whether there are 64 watches and no more, until they are let go.
+/// Whether there are 64 watches and no more, until they are dropped.
 fn watch_all<S: Calls, R: Wait + Abort + AllocGlobal>(
     rt: &R,
     office: &S::Office,
@@ -221,7 +221,7 @@ fn watch_all<S: Calls, R: Wait + Abort + AllocGlobal>(
     last == Answer::NoPlace && hand.visits(rt, office, By::One, Call::Watch) == Answer::Done
 }
 
-/// Undoes or redoes a change. Behind that a token of the same serial is held, also where it is refused.
+/// Undoes or redoes a change. After that a token of the same serial is held, also if it is refused.
 fn turned<S: Calls, R: Wait + Abort + AllocGlobal>(
     rt: &R,
     office: &S::Office,
@@ -236,7 +236,7 @@ fn turned<S: Calls, R: Wait + Abort + AllocGlobal>(
     answer
 }
 
-/// Makes a call: what it gave.
+/// Makes a call, and returns its answer.
 pub fn answered<S: Calls, R: Wait + Abort + AllocGlobal>(
     rt: &R,
     office: &S::Office,
@@ -260,10 +260,10 @@ pub fn answered<S: Calls, R: Wait + Abort + AllocGlobal>(
     }
 }
 
-/// A call of a session, and what it gives.
+/// A call of a session, and its answer.
 pub type Step = (By, Call, Answer);
 
-/// Makes each call, which has to give what it says.
+/// Makes each call, which has to have its answer.
 pub fn carry_out<S: Calls, R: Wait + Abort + AllocGlobal>(
     rt: &R,
     office: &S::Office,
@@ -281,19 +281,19 @@ pub fn carry_out<S: Calls, R: Wait + Abort + AllocGlobal>(
     }
 }
 
-/// Holds a harvest. Whoever lets one go himself takes the prover seconds.
+/// Holds a harvest. A function that drops one itself takes the prover seconds.
 pub fn hold_harvest(held: &mut Option<Harvest>, harvest: Harvest) {
     *held = Some(harvest);
 }
 
-/// The harvest of an order of which one vertex is lifted once.
+/// Returns the harvest of an order with one vertex lifted once.
 pub fn lifted(rt: &impl Abort, order: Order, which: Which, vertex: u32) -> Harvest {
     assert!(rt; (vertex as usize) < order.game().vertices());
     Harvest::one(order, which, vertex)
 }
 
-/// The harvest of a board whose seat lifts each vertex of an order without decisions: the first lift raises something,
-/// and so does the last.
+/// Returns the harvest of a board with a seat that lifts each vertex of an order without decisions: the first lift
+/// raises something, and so does the last.
 fn seated_once<R: Abort + AllocGlobal>(rt: &R) -> Harvest {
     seated(
         rt,
@@ -302,8 +302,8 @@ fn seated_once<R: Abort + AllocGlobal>(rt: &R) -> Harvest {
     )
 }
 
-/// The harvest of an order of which one vertex is lifted, or nothing, or which is lifted until both tables are settled;
-/// or that of a board.
+/// Returns the harvest of an order with one vertex lifted, or nothing, or lifted until both tables are settled; or the
+/// harvest of a board.
 pub fn harvest_of<R: Abort + AllocGlobal>(rt: &R, order: Order, call: Call) -> Harvest {
     match call {
         Call::Lift(vertex) => lifted(rt, order, Which::Hopeful, vertex),

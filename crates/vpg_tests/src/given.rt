@@ -1,5 +1,5 @@
-//! What tests start from: the family of most examples, and what is made of the texts of a family. Features are numbered
-//! in the diagram's order: r is 0, f is 1, g is 2.
+//! The beginning of tests: the family of most examples, and the values made of the texts of a family. Features are
+//! numbered in the diagram's order: r is 0, f is 1, g is 2.
 ghost use Rattle.std.specs.Arc.{arc_value};
 ghost use Rattle.std.specs.Prelude.{◌≡◌};
 ghost use Rattle.vpg_diagram.specs.FeatureDiagram.{feature_count};
@@ -19,13 +19,13 @@ pub const F: u16 = 1;
 
 pub const G: u16 = 2;
 
-/// A diagram of which there is no product.
+/// A diagram without a product.
 pub const CONTRADICTORY: &[u8] = b"root r\nmandatory r a\nexcludes r a\n";
 
 /// Two alternatives.
 pub const ALTERNATIVE: &[u8] = b"root r\nalternative r: a b\n";
 
-/// What a call gave that isn't refused. It stops a test that is refused.
+/// Returns the value of a call that isn't refused. It stops a test that is refused.
 pub fn given<T, F>(rt: &impl Abort, answer: Result<T, F>) -> T {
     match answer {
         Ok(given) => given,
@@ -33,25 +33,25 @@ pub fn given<T, F>(rt: &impl Abort, answer: Result<T, F>) -> T {
     }
 }
 
-/// Stops a test where this doesn't hold. It takes the prover less than `assert!`, which names the line.
+/// Stops a test if this doesn't hold. It takes the prover less than `assert!`, which names the line.
 pub fn require(rt: &impl Abort, holds: bool, why: &str) {
     if !holds {
         rt.panic(why)
     }
 }
 
-/// The same of a row of a table.
+/// Stops a test if this doesn't hold of a row of a table.
 pub fn require_at(rt: &impl Abort, holds: bool, table: &str, row: usize) {
     assert!(rt; holds, "{table}, row {row}");
 }
 
-/// The diagram of a text, to be shared.
+/// Returns the diagram of a text, to be shared.
 pub fn diagram_of<R: Abort + AllocGlobal>(rt: &R, text: &[u8]) -> Arc<Diagram> {
     let diagram = given(rt, Diagram::read(rt.alloc(), text));
     given(rt, Arc::new(rt.alloc(), diagram))
 }
 
-/// The game of a text, with the diagram's features, to be shared.
+/// Returns the game of a text, with the diagram's features, to be shared.
 pub fn game_of<R: Abort + AllocGlobal>(rt: &R, diagram: &Diagram, text: &[u8]) -> Arc<GuardedGame> {
     let game = given(rt, GuardedGame::read(rt.alloc(), text, diagram.names()));
     given(rt, Arc::new(rt.alloc(), game))
@@ -81,7 +81,7 @@ pub fn lone_game<R: Abort + AllocGlobal>(
     }
 }
 
-/// The game and the diagram that these texts spell.
+/// Returns the game and the diagram that these texts spell.
 pub fn family<R: Abort + AllocGlobal>(
     rt: &R,
     game: &[u8],

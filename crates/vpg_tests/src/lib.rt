@@ -1,4 +1,4 @@
-//! Tests of the libraries from progress measures up to offices: of what lifters, desks, sessions and watchers do.
+//! Tests of the libraries from progress measures up to offices: of lifters, desks, sessions and watchers.
 //!
 //! A crate that has tests is proved once more with them, and reads all that is proved below it for that. So the tests
 //! of these crates stand here, in one crate that has nothing else.

@@ -5,7 +5,7 @@ use vpg_measure::Table;
 use vpg_trail::{Assumed, Entry, Page};
 use vpg_verdict::Which;
 
-/// A text that is written. What finds no memory is noted, and told once the text is whole.
+/// A text that is written. If memory runs out this is noted, and reported once the text is whole.
 #[derive(Drop)]
 struct Line {
     text: String,
@@ -25,13 +25,13 @@ impl Line {
         !self.lacks && self.text.as_str() == text
     }
 
-    /// Writes a word or a number, and a space behind it.
+    /// Writes a word or a number, and a space after it.
     fn put<T: Display + Copy>(&mut self, word: T) {
         self.lacks |= write!(self.text, "{word} ").is_err();
     }
 }
 
-/// The feature's name in the diagram of the tests.
+/// Returns the feature's name in the diagram of the tests.
 fn name(feature: u16) -> &'static str {
     match feature {
         0 => "r",
@@ -41,7 +41,7 @@ fn name(feature: u16) -> &'static str {
     }
 }
 
-/// The feature's name behind its sign.
+/// Returns the feature's name after its sign.
 fn signed(feature: u16, value: bool) -> &'static str {
     match (feature, value) {
         (0, true) => "+r",

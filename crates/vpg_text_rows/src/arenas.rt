@@ -1,10 +1,10 @@
-//! Rows of what decisions make known, and of what they leave of games.
+//! Rows on the features that decisions make known, and on the games that they leave.
 //!
 //! - `close DECISIONS ~ DIAGRAM` is answered a sign for each feature: known in (`+`), known out (`-`) or not known (`?`).
-//! - `product DECISIONS ~ DIAGRAM` is answered whether each feature is known, and the product where there is one.
+//! - `product DECISIONS ~ DIAGRAM` is answered whether each feature is known, and the product if there is one.
 //! - `hopeful DECISIONS ~ GAME` is answered owner, priority and kept successors of each vertex of the hopeful game, over the
 //!   optional features `f` and `g` of the root `r`; `hopeful-of-dual` those of the dual.
-//! - `project SIGNS ~ GAME` is answered what is written of the game of the set of features with `+`, behind a text that
+//! - `project SIGNS ~ GAME` is answered the text of the game of the set of features with `+`, after a text that
 //!   stood there before.
 
 use crate::asked::Asked;
@@ -19,7 +19,7 @@ use vpg_guards::Tri;
 use vpg_hope::{Arena, PlainGame, project};
 use vpg_partial::Partial;
 
-/// What the decisions of a row make known.
+/// Returns the features that the decisions of a row make known.
 fn known_of(diagram: &Diagram, text: &[u8], line: &mut Line) -> Option<Partial> {
     match decisions_of(diagram.names(), text, line) {
         Some(decisions) => close_checked(diagram, &decisions, line),
@@ -38,7 +38,7 @@ fn put_values(values: &[Tri], line: &mut Line) {
     }
 }
 
-/// Writes what is known of each feature, asked by its number.
+/// Writes the value of each feature, looked up by its number.
 fn put_each(known: &Partial, line: &mut Line) {
     for feature in 0..512u16 {
         if (feature as usize) < known.values().len() {
@@ -48,7 +48,7 @@ fn put_each(known: &Partial, line: &mut Line) {
     }
 }
 
-/// Writes whether each feature is known, what is known of each, and the product.
+/// Writes whether each feature is known, the value of each, and the product.
 fn put_product(known: &Partial, line: &mut Line) {
     line.show(&known.is_full());
     put_each(known, line);
@@ -59,7 +59,7 @@ fn put_product(known: &Partial, line: &mut Line) {
     }
 }
 
-/// Answers a row of what decisions make known.
+/// Answers a row on the features that decisions make known.
 fn known_told(asked: &Asked, text: &[u8], line: &mut Line) {
     let (decisions, text) = two_of(text);
     if let Some(diagram) = diagram_of(text, line) {
@@ -83,7 +83,7 @@ fn put_vertices(arena: &Arena, line: &mut Line) {
     }
 }
 
-/// Writes what is left of a game, or of its dual.
+/// Writes the game that is left, or its dual.
 fn put_arena(asked: &Asked, game: &GuardedGame, known: &Partial, line: &mut Line) {
     if known.values().len() != game.features() {
         line.put("features");
@@ -98,7 +98,7 @@ fn put_arena(asked: &Asked, game: &GuardedGame, known: &Partial, line: &mut Line
     }
 }
 
-/// Writes what decisions leave of a game.
+/// Writes the game that decisions leave.
 fn put_left(
     asked: &Asked,
     decisions: &[u8],
@@ -111,7 +111,7 @@ fn put_left(
     }
 }
 
-/// The game of a set of features, where there is a value for each; or in the line why not.
+/// Returns the game of a set of features, if there is a value for each; or writes in the line why not.
 fn projection(
     signs: &[u8],
     diagram: &Diagram,
@@ -132,7 +132,7 @@ fn projection(
     }
 }
 
-/// Writes what is written of the game of a set of features, behind a text.
+/// Writes the text of the game of a set of features, after a text.
 fn put_projected(signs: &[u8], diagram: &Diagram, game: &GuardedGame, line: &mut Line) {
     if let Some(plain) = projection(signs, diagram, game, line) {
         line.put("plain: ");
@@ -152,7 +152,7 @@ fn free(diagram: &Diagram, asked: &Asked, text: &[u8], line: &mut Line) {
     }
 }
 
-/// Answers a row, over the diagram of free features where it has none of its own.
+/// Answers a row, over the diagram of free features if it has none of its own.
 pub(crate) fn answer(diagram: &Diagram, asked: &Asked, text: &[u8], line: &mut Line) {
     match asked {
         Asked::Close | Asked::Product => known_told(asked, text, line),

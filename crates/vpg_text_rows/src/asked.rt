@@ -1,6 +1,6 @@
 //! The words that rows ask by.
 
-/// What a row asks. The module of its table says what that is.
+/// The question of a row. The module of its table says which that is.
 pub(crate) enum Asked {
     Add,
     All,
@@ -77,7 +77,7 @@ static WORDS: [(&str, Asked); 34] = [
     ("write", Asked::Write),
 ];
 
-/// What a word asks.
+/// Returns the question that a word names.
 pub(crate) fn asked_of(word: &str) -> &'static Asked {
     for (name, asked) in &WORDS {
         if *name == word {

@@ -1,4 +1,4 @@
-//! What the words of rows ask of a page.
+//! Questions of rows about a page.
 //!
 //! Vertices stand as the game's file numbers them, features by name.
 //!
@@ -9,10 +9,10 @@
 //! | `against +F` | which decisions contradict this one more |
 //! | `lost V`, `won V`, `barren` | which decisions leave no product that Even (Odd) wins; no product at all |
 //! | `example V`, `counterexample V`, `product` | a product that is left and that Even (Odd) wins; any |
-//! | `needs V`, `fails V`, `forced` | what each product has that is left and that Even (Odd) wins; that is left |
+//! | `needs V`, `fails V`, `forced` | the features that all products left that Even (Odd) wins have or lack; all left |
 //! | `offer +F V`, `without N V` | the verdicts of the vertex with one more decision; without the Nth |
 //! | `still N V`, `certain N V` | whether the vertex would be hopeless, or sure, without the Nth |
-//! | `repair V`, `expose V` | what to retract so that it is not hopeless any more; not sure any more |
+//! | `repair V`, `expose V` | the decisions to retract so that it is not hopeless any more; not sure any more |
 ghost use Rattle.std.specs.Prelude.{◌<◌, IfSome, length};
 ghost use Rattle.vpg_diagram.specs.FeatureDiagram.{feature_count};
 ghost use Rattle.vpg_why.specs.Suffices.{IsAim};
@@ -30,7 +30,7 @@ use vpg_why::{
     why_known, why_lost,
 };
 
-/// What a word asks.
+/// The question of a word.
 #[derive(Clone, Copy)]
 enum Asked {
     Why,
@@ -51,7 +51,7 @@ const HOPEFUL: Option<Which> = Some(Which::Hopeful);
 
 const DUAL: Option<Which> = Some(Which::Dual);
 
-/// What each word asks, and of which table; of none where it asks of all products.
+/// The question of each word, and its table; no table if it is about all products.
 static WORDS: [(&str, Asked, Option<Which>); 19] = [
     ("hopeless", Asked::Why, HOPEFUL),
     ("sure", Asked::Why, DUAL),
@@ -74,7 +74,7 @@ static WORDS: [(&str, Asked, Option<Which>); 19] = [
     ("expose", Asked::Repair, DUAL),
 ];
 
-/// What a word asks, and of which table.
+/// Returns the question of a word, and its table.
 fn asked_of(word: &str) -> (Asked, Option<Which>) {
     for (name, asked, which) in &WORDS {
         if *name == word {
@@ -84,7 +84,7 @@ fn asked_of(word: &str) -> (Asked, Option<Which>) {
     (Asked::Nothing, HOPEFUL)
 }
 
-/// The number of a word; or in the line why it has none.
+/// Returns the number of a word; or writes in the line why it has none.
 fn number_of(word: &str, line: &mut Line) -> Option<u32> {
     match word.parse::<u32>() {
         Ok(number) => Some(number),
@@ -95,7 +95,7 @@ fn number_of(word: &str, line: &mut Line) -> Option<u32> {
     }
 }
 
-/// The vertex of an identifier.
+/// Returns the vertex of an identifier.
 fn vertex_of(order: &Order, word: &str, line: &mut Line) -> Option<u32>
     ensures { IfSome result (λ v. v < length order.now.game.vertices) }
 {
@@ -109,7 +109,7 @@ fn vertex_of(order: &Order, word: &str, line: &mut Line) -> Option<u32>
     }
 }
 
-/// The choice of a word, `+F` or `-F`, as a decision.
+/// Returns the choice of a word, `+F` or `-F`, as a decision.
 fn choice_of(order: &Order, word: &str, line: &mut Line) -> Option<Decision>
     ensures { IfSome result (λ choice. choice.feature < feature_count order.now.diagram.lines) }
 {
@@ -122,7 +122,7 @@ fn choice_of(order: &Order, word: &str, line: &mut Line) -> Option<Decision>
     }
 }
 
-/// The place of the decision that a word numbers, from 1 on.
+/// Returns the place of the decision that a word numbers, from 1 on.
 fn place_of(order: &Order, word: &str, line: &mut Line) -> Option<usize>
     ensures { IfSome result (λ place. place < length order.now.decisions) }
 {
@@ -134,7 +134,7 @@ fn place_of(order: &Order, word: &str, line: &mut Line) -> Option<usize>
     Some(number - 1)
 }
 
-/// What products are asked for: those that win at the vertex of a word, for Even or for Odd, or any.
+/// Returns the aim of a search for products: those that win at the vertex of a word, for Even or for Odd, or any.
 fn aim_of(order: &Order, which: Option<Which>, word: &str, line: &mut Line) -> Option<Aim>
     ensures { IfSome result (λ aim. IsAim order.now.game aim) }
 {
@@ -145,7 +145,7 @@ fn aim_of(order: &Order, which: Option<Which>, word: &str, line: &mut Line) -> O
     Some(Aim::Won { which, vertex })
 }
 
-/// Asks of a vertex: why its verdict is so, or what to retract so that it is not so any more.
+/// Asks of a vertex: why its verdict is so, or the decisions to retract so that it is not so any more.
 fn ask_vertex(
     order: &Order,
     asked: Asked,
@@ -166,7 +166,7 @@ fn ask_vertex(
     }
 }
 
-/// Asks what makes a choice known, or what contradicts it.
+/// Asks for the decisions that make a choice known, or that contradict it.
 fn ask_choice(order: &Order, asked: Asked, word: &str, line: &mut Line) {
     if let Some(choice) = choice_of(order, word, line) {
         let found = match asked {
@@ -195,7 +195,7 @@ fn ask_offer(order: &Order, choice: &str, word: &str, limits: Limits, line: &mut
     }
 }
 
-/// Asks what would be without a decision: of both tables, or of one.
+/// Asks for the verdicts without a decision: by both tables, or by one.
 fn ask_fewer(
     order: &Order,
     which: Option<Which>,
@@ -218,7 +218,7 @@ fn ask_fewer(
     }
 }
 
-/// Asks what two words say: a choice or the number of a decision, and a vertex.
+/// Asks about two words: a choice or the number of a decision, and a vertex.
 fn ask_of_two(
     order: &Order,
     asked: Asked,

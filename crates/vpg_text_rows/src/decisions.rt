@@ -1,4 +1,4 @@
-//! Decisions, written as `+f -g`, and what they make known.
+//! Decisions, written as `+f -g`, and the features that they make known.
 
 ghost use Rattle.std.specs.Prelude.{◌↔◌, ◌<◌, IsTrue, All, map};
 ghost use Rattle.vpg_partial.specs.Known.{literal_of};
@@ -25,7 +25,8 @@ pub(crate) fn are_choices(diagram: &Diagram, decisions: &[Decision]) -> bool
     are_below(features, decisions)
 }
 
-/// What the decisions make known, where each is of a feature of the diagram; or in the line why not.
+/// Returns the features that the decisions make known, if each is on a feature of the diagram; or writes in the line
+/// why not.
 pub(crate) fn close_checked(
     diagram: &Diagram,
     decisions: &[Decision],
@@ -44,7 +45,7 @@ pub(crate) fn close_checked(
     }
 }
 
-/// The decision of a word.
+/// Returns the decision of a word.
 pub(crate) fn decision_of(names: &Names, word: &[u8]) -> Option<Decision> {
     let (sign, name) = word.split_first()?;
     let feature = names.get(name)?;
@@ -56,7 +57,7 @@ pub(crate) fn decision_of(names: &Names, word: &[u8]) -> Option<Decision> {
     })
 }
 
-/// Adds the decision of each word to a list, and says whether each has one.
+/// Adds the decision of each word to a list, and returns whether each has one.
 fn add_all(names: &Names, words: &[&[u8]], decisions: &mut Vec<Decision>, line: &mut Line) -> bool {
     for word in words {
         match decision_of(names, word) {
@@ -68,7 +69,7 @@ fn add_all(names: &Names, words: &[&[u8]], decisions: &mut Vec<Decision>, line: 
     true
 }
 
-/// The decisions of a text; or in the line that a word names no feature.
+/// Returns the decisions of a text; or writes in the line that a word names no feature.
 pub(crate) fn decisions_of(names: &Names, text: &[u8], line: &mut Line) -> Option<Vec<Decision>> {
     let mut decisions = Vec::new(line.alloc);
     let words = parts_of(text, b' ', line);

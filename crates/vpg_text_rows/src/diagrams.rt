@@ -4,8 +4,8 @@
 //! - `names DIAGRAM` is answered the features in order, and how many there are.
 //! - `products DIAGRAM` is answered the products of a diagram of at most five features, each as a row of ones and zeros;
 //!   the first feature changes first.
-//! - `clauses DIAGRAM` is answered the clauses, each behind a bar: literals with the features' numbers.
-//! - `counts DIAGRAM` is answered the counts, each behind a bar: the parent, the range and the members.
+//! - `clauses DIAGRAM` is answered the clauses, each after a bar: literals with the features' numbers.
+//! - `counts DIAGRAM` is answered the counts, each after a bar: the parent, the range and the members.
 //! - `same DIAGRAM ~ DIAGRAM` asks whether both are the same.
 //! - `most-rules` is answered how many rules a diagram may have.
 
@@ -15,7 +15,7 @@ use crate::text::two_of;
 use vpg_diagram::{Clause, Count, Diagram, MOST_RULES};
 use vpg_guards::Names;
 
-/// The features in order, and how many there are.
+/// Writes the features in order, and how many there are.
 fn put_names(names: &Names, line: &mut Line) {
     for place in 0..512u16 {
         if (place as usize) < names.len() {
@@ -25,7 +25,7 @@ fn put_names(names: &Names, line: &mut Line) {
     line.show(&names.len());
 }
 
-/// The next set of features, with the root changing first. The empty set comes behind the full one.
+/// Moves on to the next set of features, with the root changing first. The empty set comes after the full one.
 fn next_set(set: &mut [bool]) {
     for f in 0..set.len() {
         set[f] = !set[f];
@@ -43,7 +43,7 @@ fn put_set(set: &[bool], line: &mut Line) {
     }
 }
 
-/// The products among the first 32 sets.
+/// Writes the products among the first 32 sets.
 fn put_products(diagram: &Diagram, set: &mut [bool], line: &mut Line) {
     for _ in 0..32 {
         if set.len() == diagram.features() && diagram.is_product(set) {
@@ -100,7 +100,7 @@ fn put_all_products(diagram: &Diagram, line: &mut Line) {
     }
 }
 
-/// Writes what is asked of a diagram.
+/// Writes the answer to a question about a diagram.
 fn put(asked: &Asked, diagram: &Diagram, line: &mut Line) {
     match asked {
         Asked::Read => line.put("read"),
@@ -112,7 +112,7 @@ fn put(asked: &Asked, diagram: &Diagram, line: &mut Line) {
     }
 }
 
-/// The diagram that a text spells, or its fault in the line.
+/// Returns the diagram that a text spells, or writes its fault in the line.
 pub(crate) fn diagram_of(text: &[u8], line: &mut Line) -> Option<Diagram> {
     match Diagram::read(line.alloc, text) {
         Ok(diagram) => Some(diagram),

@@ -14,7 +14,7 @@ use vpg_system::System;
 use vpg_system_draw::{draw_system, reachable};
 use vpg_verdict::Verdict;
 
-/// A diagram with each form of line, of which mistakes are looked for in games.
+/// A diagram with each form of line, to look for mistakes in games over it.
 pub(crate) const DIAGRAM: &[u8] = b"root node\nmandatory node f\nor f: g h\ngroup node 0 1: i
 alternative i: graph strict\nexcludes g i\nrequires strict h\n";
 
@@ -29,7 +29,7 @@ const SYSTEM: &[u8] = b"des (1, 7, 4)
 /// Two of its transitions are marked, and the last one stands past the end.
 const MARKS: [bool; 6] = [false, true, false, false, false, true];
 
-/// A verdict for each vertex: hopeless at each second, sure at two of four.
+/// Returns a verdict for each vertex: hopeless at each second, sure at two of four.
 fn verdicts(vertices: usize, line: &mut Line) -> Vec<Verdict> {
     let mut list = Vec::new(line.alloc);
     for v in 0..vertices {
@@ -146,13 +146,13 @@ fn put_decided(
     }
 }
 
-/// The names of the game's vertices.
+/// Returns the names of the game's vertices.
 fn names_of(line: &mut Line) -> Option<VertexNames> {
     let names = VertexNames::read(line.alloc, GAME);
     line.kept(names)
 }
 
-/// Writes where the game starts.
+/// Writes the vertex where the game starts.
 pub(crate) fn put_start(line: &mut Line) {
     if let Some(names) = names_of(line) {
         line.put("start ");

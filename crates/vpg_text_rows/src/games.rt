@@ -1,10 +1,10 @@
 //! Rows of games, over the features `r`, `f` and `g`.
 //!
 //! - `read GAME` is answered `read`, or the fault.
-//! - `write GAME` and `dual GAME` are answered what is written of the game and of its dual, behind a text that stood there
+//! - `write GAME` and `dual GAME` are answered the text of the game and of its dual, after a text that stood there
 //!   before.
-//! - `dual-of-dual GAME` is answered whether the game and its dual are at the limit of priorities, and what the dual of the
-//!   dual is.
+//! - `dual-of-dual GAME` is answered whether the game and its dual are at the limit of priorities, and the dual of the
+//!   dual.
 //! - `look GAME` is answered identifier, priority, owner and edges of each vertex; `!` is a guard that always holds, `?F`
 //!   the feature with the number F, `..` any other.
 //! - `find N ~ GAME` is answered the place of the vertex with the identifier N.
@@ -20,7 +20,7 @@ use crate::text::{number_of, numbers_of, two_of};
 use vpg_game::{Edge, GuardedGame, odd_counts, top_within_limit};
 use vpg_guards::{Guard, Names};
 
-/// Writes what is written of a game behind a text.
+/// Writes the text of a game after a text.
 fn put_game(names: &Names, game: &GuardedGame, line: &mut Line) {
     line.put("game: ");
     if names.len() == game.features() {
@@ -29,7 +29,7 @@ fn put_game(names: &Names, game: &GuardedGame, line: &mut Line) {
     }
 }
 
-/// A game's dual, or in the line why it has none.
+/// Returns a game's dual, or writes in the line why it has none.
 fn dual_of(game: &GuardedGame, line: &mut Line) -> Option<GuardedGame> {
     match game.dual(line.alloc) {
         Ok(dual) => Some(dual),
@@ -40,14 +40,14 @@ fn dual_of(game: &GuardedGame, line: &mut Line) -> Option<GuardedGame> {
     }
 }
 
-/// Writes what is written of a game's dual, or why it has none.
+/// Writes the text of a game's dual, or why it has none.
 fn put_dual(names: &Names, game: &GuardedGame, line: &mut Line) {
     if let Some(dual) = dual_of(game, line) {
         put_game(names, &dual, line);
     }
 }
 
-/// Writes whether a game and its dual are at the limit, and what the dual of the dual is.
+/// Writes whether a game and its dual are at the limit, and the dual of the dual.
 fn put_duals(names: &Names, game: &GuardedGame, line: &mut Line) {
     if let Some(dual) = dual_of(game, line) {
         line.show(&game.is_at_limit());
@@ -79,7 +79,7 @@ fn put_edges(edges: &[Edge], line: &mut Line) {
     line.put(";");
 }
 
-/// Writes what is asked of each vertex.
+/// Writes the answer about each vertex.
 fn put_vertices(game: &GuardedGame, line: &mut Line) {
     let count = game.vertices() as u32;
     for v in 0..count {
@@ -107,7 +107,7 @@ fn put_tops(game: &GuardedGame, line: &mut Line) {
     line.number(" ", dual);
 }
 
-/// Writes what is asked of a game.
+/// Writes the answer to a question about a game.
 fn put(names: &Names, asked: &Asked, game: &GuardedGame, line: &mut Line) {
     match asked {
         Asked::Read => line.put("read"),
@@ -121,7 +121,7 @@ fn put(names: &Names, asked: &Asked, game: &GuardedGame, line: &mut Line) {
     }
 }
 
-/// The game that a text spells, or its fault in the line.
+/// Returns the game that a text spells, or writes its fault in the line.
 pub(crate) fn game_of(names: &Names, text: &[u8], line: &mut Line) -> Option<GuardedGame> {
     match GuardedGame::read(line.alloc, text, names) {
         Ok(game) => Some(game),
@@ -146,7 +146,7 @@ fn put_same(names: &Names, game: &GuardedGame, text: &[u8], line: &mut Line) {
     }
 }
 
-/// Answers a row of two parts: what its first asks of the game of its second.
+/// Answers a row of two parts: the question of its first about the game of its second.
 fn paired(names: &Names, asked: &Asked, text: &[u8], line: &mut Line) {
     let (first, second) = two_of(text);
     if let Some(game) = game_of(names, second, line) {

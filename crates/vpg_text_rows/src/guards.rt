@@ -1,12 +1,12 @@
 //! Rows of guards, over the features `a` and `b`. Guards are parted by `~`.
 //!
 //! - `read GUARD` is answered `read`, or the fault.
-//! - `write GUARD` is answered what is written of it.
+//! - `write GUARD` is answered its text.
 //! - `same GUARD ~ GUARD` asks whether both are the same.
 //! - `or GUARD ~ GUARD ~ GUARD` asks whether the last two joined by `or` are the first; `twice GUARD ~ GUARD` whether a
 //!   copy of the last joined with it by `and` is the first; `all GUARD ~ GUARD ~ GUARD` whether an `and` made of a list of
 //!   the last two is the first.
-//! - `known SIGNS ~ GUARD` is answered the value where a feature is known in (`+`), known out (`-`) or not known (`?`);
+//! - `known SIGNS ~ GUARD` is answered the value if a feature is known in (`+`), known out (`-`) or not known (`?`);
 //!   `holds SIGNS ~ GUARD` the truth in a set of features (`+` and `-`).
 ghost use Rattle.std.specs.Prelude.{IfSome, length};
 ghost use Rattle.vpg_guards.specs.Formula.{IsBelow};
@@ -17,7 +17,7 @@ use crate::line::Line;
 use crate::text::{set_of, two_of};
 use vpg_guards::{Guard, Guards, Names, Tri, parse_guard};
 
-/// The guard that a text spells, or its fault in the line.
+/// Returns the guard that a text spells, or writes its fault in the line.
 fn guard_of(names: &Names, text: &[u8], line: &mut Line) -> Option<Guard>
     ensures { IfSome result (λ guard. IsBelow (length names.now) (formula_of guard)) }
 {
@@ -30,7 +30,7 @@ fn guard_of(names: &Names, text: &[u8], line: &mut Line) -> Option<Guard>
     }
 }
 
-/// What signs say of each feature.
+/// Returns the value that signs give each feature.
 fn known_of(signs: &[u8], line: &mut Line) -> Vec<Tri> {
     let mut known = Vec::new(line.alloc);
     for sign in signs {
@@ -70,7 +70,7 @@ fn put_truth(names: &Names, signs: &[u8], guard: &Guard, line: &mut Line)
     }
 }
 
-/// Writes what is asked of a guard.
+/// Writes the answer to a question about a guard.
 fn put(names: &Names, asked: &Asked, signs: &[u8], guard: &Guard, line: &mut Line)
     requires { IsBelow (length names.now) (formula_of guard.now) }
 {
@@ -92,7 +92,7 @@ fn told(names: &Names, asked: &Asked, signs: &[u8], text: &[u8], line: &mut Line
     }
 }
 
-/// A guard and its copy, both of which have to hold.
+/// Returns the `and` of a guard and its copy.
 fn and_itself(guard: Guard, line: &mut Line) -> Option<Guard> {
     let copy = guard.copy(line.alloc);
     match line.kept(copy) {
@@ -104,7 +104,7 @@ fn and_itself(guard: Guard, line: &mut Line) -> Option<Guard> {
     }
 }
 
-/// Two guards joined by `or`, or by an `and` of a list, which goes through both forms of a list.
+/// Returns two guards joined by `or`, or by an `and` of a list, which goes through both forms of a list.
 fn joined(asked: &Asked, guard: Guard, other: Guard, line: &mut Line) -> Option<Guard> {
     match asked {
         Asked::Or => {
@@ -120,7 +120,7 @@ fn joined(asked: &Asked, guard: Guard, other: Guard, line: &mut Line) -> Option<
     }
 }
 
-/// The guard that a row makes of a guard, and of another where it has one.
+/// Returns the guard that a row makes of a guard, and of another if it has one.
 fn made(names: &Names, asked: &Asked, guard: Guard, text: &[u8], line: &mut Line) -> Option<Guard> {
     match asked {
         Asked::Same => Some(guard),

@@ -1,19 +1,19 @@
-//! A text that is written. What finds no memory is noted, and told once the text is whole.
+//! A text that is written. If memory runs out this is noted, and reported once the text is whole.
 
 use std::alloc::{AllocError, Global};
 use std::fmt::{Debug, Display};
 
-/// What was written so far.
+/// The text written so far.
 #[derive(Drop)]
 pub(crate) struct Line {
     pub(crate) alloc: Global,
     pub(crate) text: Vec<u8>,
-    /// Whether something found no memory.
+    /// Whether memory ran out.
     pub(crate) lacks: bool,
 }
 
 impl Line {
-    /// Nothing yet.
+    /// Returns a line without text.
     pub(crate) fn new(alloc: Global) -> Line {
         Line {
             alloc,
@@ -22,12 +22,12 @@ impl Line {
         }
     }
 
-    /// Notes whether something was done that takes memory.
+    /// Notes whether a step that takes memory was done.
     pub(crate) fn note(&mut self, done: bool) {
         self.lacks |= !done;
     }
 
-    /// What was made, unless it found no memory.
+    /// Returns the value that was made, unless memory ran out.
     pub(crate) fn kept<T>(&mut self, made: Result<T, AllocError>) -> Option<T> {
         match made {
             Ok(value) => Some(value),
@@ -48,19 +48,19 @@ impl Line {
         self.put_bytes(words.as_bytes());
     }
 
-    /// Writes words, one behind the other.
+    /// Writes words, one after the other.
     pub(crate) fn put_each(&mut self, words: &[&str]) {
         for word in words {
             self.put(word);
         }
     }
 
-    /// Writes `yes` where something holds, else `no`.
+    /// Writes `yes` if this holds, else `no`.
     pub(crate) fn put_yes_or_no(&mut self, holds: bool) {
         self.put(if holds { "yes" } else { "no" });
     }
 
-    /// Writes a value as it is shown.
+    /// Writes a value by its `Display`.
     pub(crate) fn show<T: Display>(&mut self, value: &T) {
         match format!(in self.alloc; "{value}") {
             Ok(text) => self.put(text.as_str()),
@@ -68,7 +68,7 @@ impl Line {
         }
     }
 
-    /// Writes a number behind words.
+    /// Writes a number after words.
     pub(crate) fn number(&mut self, words: &str, number: u64) {
         self.put(words);
         self.show(&number);

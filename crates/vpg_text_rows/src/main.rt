@@ -1,20 +1,20 @@
-//! Rows of facts of texts and of answers about pages.
+//! Rows of facts about texts and about answers on pages.
 //!
 //!     vpg_text_rows [FILE..]
 //!
-//! Each file of the folder that the program runs in is a table: a row is a word for what is asked, and the text that it
-//! is asked of. The program writes each row with its answer behind ` = `, and comments as they stand. `text` says how a
-//! row writes a text; the modules of the tables say what each word asks. A fault is an answer as any other.
+//! Each file of the folder that the program runs in is a table: a row is a word for a question, and the text that it is
+//! about. The program writes each row with its answer after ` = `, and comments as they stand. `text` says how a row
+//! writes a text; the modules of the tables explain each word. A fault is an answer as any other.
 //!
-//! Behind the facts of guards, feature diagrams, games, systems and decisions comes what is shown at a terminal.
-//! `family` has a family, and makes up verdicts of it, so that each of the four is there. The program writes where its
-//! game starts, its two pictures and that of a system under each list of decisions of `pictures`, and what is said of
-//! each text of `mistakes`. At last come answers about pages (`pages`): why a verdict is so, what else could be
-//! decided, a product that is won. Where words name files, these are tables of such questions, and the program answers
-//! them alone.
+//! After the facts of guards, feature diagrams, games, systems and decisions come the texts that are shown at a
+//! terminal. `family` has a family, and makes up verdicts of it, so that each of the four is there. The program writes
+//! where its game starts, its two pictures and that of a system under each list of decisions of `pictures`, and the
+//! messages about each text of `mistakes`. At last come answers about pages (`pages`): why a verdict is so, which
+//! decisions could still be made, a product that is won. If words name files, these are tables of such questions, and
+//! the program answers them alone.
 //!
-//! Nothing has more than one way out that could be let go at its end: an answer goes into a `Line`, which also notes
-//! that something found no memory, and the program ends once a line lacks something.
+//! No function has more than one exit at which something is dropped: an answer goes into a `Line`, which also notes
+//! that memory ran out. The program ends once a line lacks memory.
 #![tactic(auto)]
 
 mod arenas;
@@ -71,13 +71,13 @@ static TABLES: [(&str, Table); 11] = [
     ("families", Table::Pages),
 ];
 
-/// A diagram of the features `a` and `b`, of which guards are.
+/// A diagram of the features `a` and `b`, for guards.
 const PAIR: &[u8] = b"root a\noptional a b\n";
 
-/// A diagram of the features `r`, `f` and `g`, of which games and systems are.
+/// A diagram of the features `r`, `f` and `g`, for games and systems.
 const FREE: &[u8] = b"root r\noptional r f\noptional r g\n";
 
-/// Writes the answer to what is asked of a text over a diagram.
+/// Writes the answer to a question about a text over a diagram.
 fn answer_over(diagram: &Diagram, table: Table, asked: &Asked, text: &[u8], line: &mut Line) {
     match table {
         Table::Guards => guards::answer(diagram.names(), asked, text, line),
@@ -88,7 +88,7 @@ fn answer_over(diagram: &Diagram, table: Table, asked: &Asked, text: &[u8], line
     }
 }
 
-/// The diagram over which texts of a table are.
+/// Returns the diagram of a table's texts.
 fn diagram_below(table: Table) -> &'static [u8] {
     match table {
         Table::Guards => PAIR,
@@ -97,7 +97,7 @@ fn diagram_below(table: Table) -> &'static [u8] {
     }
 }
 
-/// Writes the answer to what is asked of a text.
+/// Writes the answer to a question about a text.
 fn answer(table: Table, asked: &Asked, text: &[u8], line: &mut Line) {
     match table {
         Table::Names => names::answer(asked, text, line),
@@ -117,7 +117,7 @@ fn answer_row(table: Table, word: &str, writing: &str, line: &mut Line) {
     answer(table, asked_of(word), &text.text, line);
 }
 
-/// Makes each line feed from a place on a `/`.
+/// Turns each line feed from a place on into a `/`.
 fn flatten(text: &mut [u8], from: usize) {
     for place in from..text.len() {
         if text[place] == b'\n' {
@@ -126,7 +126,7 @@ fn flatten(text: &mut [u8], from: usize) {
     }
 }
 
-/// Writes an answer behind its row, a line feed as `/`.
+/// Writes an answer after its row, with each line feed as `/`.
 fn put_answer(table: Table, word: &str, writing: &str, line: &mut Line) {
     line.put(" = ");
     let from = line.text.len();
@@ -134,7 +134,7 @@ fn put_answer(table: Table, word: &str, writing: &str, line: &mut Line) {
     flatten(&mut line.text, from);
 }
 
-/// Writes what is behind a row of a table.
+/// Writes the text after a row of a table.
 fn put_behind<'r>(page: &mut Page<'r>, table: Table, row: &'r str, line: &mut Line) {
     let (word, writing) = row.split_once(' ').unwrap_or((row, ""));
     match table {
@@ -155,7 +155,7 @@ fn put_behind<'r>(page: &mut Page<'r>, table: Table, row: &'r str, line: &mut Li
     }
 }
 
-/// Writes a row and what is behind it; of a comment nothing is.
+/// Writes a row and the text after it; a comment has none.
 fn put_row<'r>(page: &mut Page<'r>, table: Table, row: &'r str, line: &mut Line) {
     if let Table::Pictures | Table::Mistakes = table {
         line.put("# ");
@@ -170,7 +170,7 @@ fn put_row<'r>(page: &mut Page<'r>, table: Table, row: &'r str, line: &mut Line)
     }
 }
 
-/// Writes what the rows of a table give.
+/// Writes the answers of a table's rows.
 fn put_rows(table: Table, rows: &str, line: &mut Line) {
     let mut page = blank();
     if let Table::Pictures = table {

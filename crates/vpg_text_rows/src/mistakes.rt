@@ -1,8 +1,8 @@
-//! Rows of mistakes: what is said of texts that are refused.
+//! Rows of mistakes: the messages about texts that are refused.
 //!
-//! - `game TEXT` is told what is wrong with the text as a game over the features of the family.
-//! - `diagram TEXT` is told what is wrong with it as a diagram.
-//! - `line TEXT` is told what is wrong with it as the second line of a script.
+//! - `game TEXT` is answered the mistake of the text as a game over the features of the family.
+//! - `diagram TEXT` is answered its mistake as a diagram.
+//! - `line TEXT` is answered its mistake as the second line of a script.
 
 use crate::asked::Asked;
 use crate::line::Line;
@@ -12,10 +12,10 @@ use vpg_game::GuardedGame;
 use vpg_guards::Names;
 use vpg_lint::{Message, explain_diagram, explain_game, explain_line, put_message};
 
-/// What is said of a text that has no mistake.
+/// The message about a text that has no mistake.
 const NOTHING: &str = "nothing is wrong\n";
 
-/// Writes a message about what has this name.
+/// Writes a message about the file of this name.
 fn put(name: &str, message: Result<Message, AllocError>, line: &mut Line) {
     if let Some(message) = line.kept(message) {
         let done = put_message(name, &message, &mut line.text).is_ok();
@@ -23,7 +23,7 @@ fn put(name: &str, message: Result<Message, AllocError>, line: &mut Line) {
     }
 }
 
-/// Writes what is said of a text as a game.
+/// Writes the message about a text as a game.
 fn put_game(names: &Names, text: &[u8], line: &mut Line) {
     match GuardedGame::read(line.alloc, text, names) {
         Ok(_) => line.put(NOTHING),
@@ -31,7 +31,7 @@ fn put_game(names: &Names, text: &[u8], line: &mut Line) {
     }
 }
 
-/// Writes what is said of a text as a diagram.
+/// Writes the message about a text as a diagram.
 fn put_diagram(text: &[u8], line: &mut Line) {
     match Diagram::read(line.alloc, text) {
         Ok(_) => line.put(NOTHING),
@@ -39,7 +39,7 @@ fn put_diagram(text: &[u8], line: &mut Line) {
     }
 }
 
-/// Writes what is said of the text of a row.
+/// Writes the message about the text of a row.
 pub(crate) fn answer(names: &Names, asked: &Asked, text: &[u8], line: &mut Line) {
     match asked {
         Asked::Game => put_game(names, text, line),

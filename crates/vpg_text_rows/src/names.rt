@@ -1,7 +1,7 @@
-//! Rows of names. Names that are added one behind the other are parted by `~`.
+//! Rows of names. Names that are added one after the other are parted by `~`.
 //!
 //! - `add NAME~..` adds the names to none, and is answered the answer to each and how many there are then.
-//! - `last NAME~..` is answered the same of the last alone.
+//! - `last NAME~..` is answered so for the last alone.
 //! - `get NAME~NAME~..` looks the first up among the others.
 //! - `at PLACE~NAME~..` is answered the name at the place.
 //! - `is NAME` asks whether it is the name of a feature.
@@ -20,7 +20,7 @@ fn put_answer(added: Result<u16, NameFault>, line: &mut Line) {
     line.put(", ");
 }
 
-/// Whether the answer to a name is written, behind which there are so many.
+/// Whether the answer to a name is written, with this many names after it.
 fn is_written(asked: &Asked, behind: usize) -> bool {
     match asked {
         Asked::Add => true,
@@ -62,7 +62,7 @@ fn put_name(names: &Names, place: u32, line: &mut Line) {
     }
 }
 
-/// Adds all names but the first, and looks that up.
+/// Adds all names except the first, and looks that up.
 fn put_found(names: &mut Names, asked: &Asked, text: &[u8], line: &mut Line) {
     let (word, others) = two_of(text);
     add_all(names, asked, others, line);

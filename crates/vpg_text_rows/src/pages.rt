@@ -1,7 +1,7 @@
-//! The page that rows ask of: the order of its decisions, with both tables settled.
+//! The page that rows ask about: the order of its decisions, with both tables settled.
 //!
-//! The rows `diagram TEXT`, `game TEXT`, `page DECISION..` and `limits BUDGET ROUNDS TRIALS` say what the rows behind
-//! them are asked of; every other row is a question, which `asking` answers.
+//! The rows `diagram TEXT`, `game TEXT`, `page DECISION..` and `limits BUDGET ROUNDS TRIALS` set the page for the rows
+//! after them; every other row is a question, which `asking` answers.
 ghost use Rattle.std.specs.Arc.{arc_value};
 ghost use Rattle.std.specs.Prelude.{◌≡◌, IsTrue, map};
 ghost use Rattle.vpg_diagram.specs.FeatureDiagram.{feature_count};
@@ -24,7 +24,7 @@ use vpg_measure::{Order, Refused, Shape, Table};
 use vpg_partial::Decision;
 use vpg_why::Limits;
 
-/// What rows ask of, as rows write it.
+/// The page that rows ask about, as rows write it.
 #[derive(Drop)]
 pub(crate) struct Page<'a> {
     diagram: &'a str,
@@ -33,7 +33,7 @@ pub(crate) struct Page<'a> {
     limits: Limits,
 }
 
-/// No texts, and limits that no small game meets.
+/// Returns a page without texts, with limits that no small game meets.
 pub(crate) fn blank() -> Page<'static> {
     Page {
         diagram: "",
@@ -60,7 +60,7 @@ fn set_limits(limits: &mut Limits, writing: &str, line: &mut Line) {
     }
 }
 
-/// Takes what a row says of the page; or answers that it says nothing of it.
+/// Takes a row about the page. Returns whether it is one.
 pub(crate) fn take<'a>(page: &mut Page<'a>, word: &str, writing: &'a str, line: &mut Line) -> bool {
     match word {
         "diagram" => page.diagram = writing,
@@ -80,7 +80,7 @@ fn fit(game: &GuardedGame, diagram: &Diagram, decisions: &[Decision]) -> bool
     game.features() == diagram.features() && are_choices(diagram, decisions)
 }
 
-/// The order of decisions with two tables of zeros, or why there is none.
+/// Returns the order of decisions with two tables of zeros, or why there is none.
 fn zeros_over(
     alloc: Global,
     game: Arc<GuardedGame>,
@@ -99,7 +99,7 @@ fn zeros_over(
     Ok(Order::of(alloc, game, diagram, decisions, hopeful, dual))
 }
 
-/// The order with both tables raised by certified bounds.
+/// Returns the order with both tables raised by certified bounds.
 fn raised(order: Order, line: &mut Line) -> Option<Order> {
     let harvest = harvest_by_bounds(line.alloc, order, &mut Groundwork::none(), 1 << 27).ok();
     line.note(harvest.is_some());
@@ -109,7 +109,7 @@ fn raised(order: Order, line: &mut Line) -> Option<Order> {
     }
 }
 
-/// The order of decisions on a game and a diagram; or in the line why there is none.
+/// Returns the order of decisions on a game and a diagram; or writes in the line why there is none.
 fn order_over(
     game: Arc<GuardedGame>,
     diagram: Arc<Diagram>,
@@ -133,7 +133,7 @@ fn order_over(
     }
 }
 
-/// The game that a row writes over a diagram; or in the line why it writes none.
+/// Returns the game that a row writes over a diagram; or writes in the line why it writes none.
 fn shared_game(diagram: &Diagram, writing: &str, line: &mut Line) -> Option<Arc<GuardedGame>> {
     let text = spelled(line.alloc, writing);
     match game_of(diagram.names(), &text.text, line) {
@@ -146,7 +146,7 @@ fn shared_game(diagram: &Diagram, writing: &str, line: &mut Line) -> Option<Arc<
     }
 }
 
-/// The diagram that a row writes; or in the line why it writes none.
+/// Returns the diagram that a row writes; or writes in the line why it writes none.
 fn shared_diagram(writing: &str, line: &mut Line) -> Option<Arc<Diagram>> {
     let text = spelled(line.alloc, writing);
     match diagram_of(&text.text, line) {
@@ -159,7 +159,7 @@ fn shared_diagram(writing: &str, line: &mut Line) -> Option<Arc<Diagram>> {
     }
 }
 
-/// The page's order; or in the line why there is none.
+/// Returns the page's order; or writes in the line why there is none.
 fn order_of(page: &Page<'_>, line: &mut Line) -> Option<Order> {
     let diagram = shared_diagram(page.diagram, line)?;
     let decisions = decisions_of(diagram.names(), page.decisions.as_bytes(), line)?;
@@ -167,7 +167,7 @@ fn order_of(page: &Page<'_>, line: &mut Line) -> Option<Order> {
     order_over(game, diagram, decisions, line)
 }
 
-/// Writes the answer to a question behind its row.
+/// Writes the answer to a question after its row.
 pub(crate) fn put_answer(page: &Page<'_>, word: &str, words: &str, line: &mut Line) {
     line.put(" = ");
     if let Some(order) = order_of(page, line) {

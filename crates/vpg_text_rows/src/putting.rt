@@ -1,4 +1,4 @@
-//! How answers are written.
+//! The text of answers.
 
 use crate::line::Line;
 use std::alloc::AllocError;
@@ -31,7 +31,7 @@ fn put_explanation(diagram: &Diagram, found: &Explanation, line: &mut Line) {
     line.put(if found.exact { "" } else { " or fewer" });
 }
 
-/// Writes an explanation: `by` and its decisions, `no` where there is none.
+/// Writes an explanation: `by` and its decisions, `no` if there is none.
 pub(crate) fn put_why(
     order: &Order,
     found: Result<Option<Explanation>, AllocError>,
@@ -66,7 +66,7 @@ fn put_example(diagram: &Diagram, found: &Example, line: &mut Line) {
     });
 }
 
-/// Writes what a search found.
+/// Writes the result of a search.
 pub(crate) fn put_found(order: &Order, found: Result<Found, AllocError>, line: &mut Line) {
     match line.kept(found) {
         Some(Found::Product(example)) => put_example(order.diagram(), &example, line),
@@ -98,7 +98,7 @@ fn put_forced(diagram: &Diagram, found: &Forced, line: &mut Line) {
     line.put(if found.exact { "" } else { " or more" });
 }
 
-/// Writes what is needed.
+/// Writes the needs.
 pub(crate) fn put_demand(order: &Order, found: Result<Demand, AllocError>, line: &mut Line) {
     match line.kept(found) {
         Some(Demand::These(forced)) => put_forced(order.diagram(), &forced, line),
@@ -108,7 +108,7 @@ pub(crate) fn put_demand(order: &Order, found: Result<Demand, AllocError>, line:
     }
 }
 
-/// The word for a verdict of a table that there would be.
+/// Returns the word for a verdict of a table that there would be.
 fn verdict_word(which: Which, shown: Shown) -> &'static str {
     match (which, shown) {
         (Which::Hopeful, Shown::Yes) => "hopeless",
@@ -147,7 +147,7 @@ fn put_retraction(diagram: &Diagram, found: &Retraction, line: &mut Line) {
     line.put(if found.exact { "" } else { " or more" });
 }
 
-/// Writes what to retract.
+/// Writes the decisions to retract.
 pub(crate) fn put_remedy(order: &Order, found: Result<Remedy, AllocError>, line: &mut Line) {
     match line.kept(found) {
         Some(Remedy::Retract(found)) => put_retraction(order.diagram(), &found, line),

@@ -1,7 +1,7 @@
 //! Rows of transition systems, over the features `r`, `f` and `g`.
 //!
 //! - `read SYSTEM` is answered `read`, or the fault.
-//! - `write SYSTEM` is answered what is written of the system, behind a text that stood there before.
+//! - `write SYSTEM` is answered the text of the system, after a text that stood there before.
 //! - `look SYSTEM` is answered the first state, how many states and actions there are, the names of the actions, and of
 //!   each transition the numbers of its source, its action and its target.
 //! - `find NAME~SYSTEM` is answered the number of the action of that name.
@@ -12,7 +12,7 @@ use crate::text::two_of;
 use vpg_guards::Names;
 use vpg_system::{System, Transition};
 
-/// Writes what is written of a system behind a text.
+/// Writes the text of a system after a text.
 fn put_system(names: &Names, system: &System, line: &mut Line) {
     line.put("system: ");
     if names.len() == system.features() {
@@ -48,7 +48,7 @@ fn put_numbers(system: &System, line: &mut Line) {
     }
 }
 
-/// Writes what is asked of a system.
+/// Writes the answer to a question about a system.
 fn put(names: &Names, asked: &Asked, system: &System, line: &mut Line) {
     match asked {
         Asked::Read => line.put("read"),
@@ -58,7 +58,7 @@ fn put(names: &Names, asked: &Asked, system: &System, line: &mut Line) {
     }
 }
 
-/// The system that a text spells, or its fault in the line.
+/// Returns the system that a text spells, or writes its fault in the line.
 fn system_of(names: &Names, text: &[u8], line: &mut Line) -> Option<System> {
     match System::read(line.alloc, text, names) {
         Ok(system) => Some(system),
@@ -76,7 +76,7 @@ fn told(names: &Names, asked: &Asked, text: &[u8], line: &mut Line) {
     }
 }
 
-/// Answers which number an action has.
+/// Answers with the number of an action.
 fn found(names: &Names, text: &[u8], line: &mut Line) {
     let (name, rest) = two_of(text);
     if let Some(system) = system_of(names, rest, line) {

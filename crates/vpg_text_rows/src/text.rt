@@ -1,13 +1,14 @@
-//! How a row writes a text.
+//! The writing of texts in rows.
 //!
-//! `/` is a line feed, and what can't be seen has its picture: `␉` a tab, `␋` a vertical tab, `␍` a carriage return, `␠`
-//! a blank at the end. `�` is a byte 255, which no text in UTF-8 has. `<N|PART>` is the part N times, one behind the
-//! other; in it `#` is the number of the repetition, from 0, `%` twice that, and `@` one more than twice that.
+//! `/` is a line feed, and a byte that can't be seen has its picture: `␉` a tab, `␋` a vertical tab, `␍` a carriage
+//! return, `␠` a blank at the end. `�` is a byte 255, which no text in UTF-8 has. `<N|PART>` is the part N times, one
+//! after the other. In it `#` is the number of the repetition, from 0, `%` twice that, and `@` one more than twice
+//! that.
 
 use crate::line::Line;
 use std::alloc::Global;
 
-/// What a sign stands for that is not written as it stands.
+/// Returns the bytes for a sign that doesn't stand for itself.
 fn meant(sign: char) -> Option<&'static [u8]> {
     match sign {
         '/' => Some(b"\n"),
@@ -20,7 +21,7 @@ fn meant(sign: char) -> Option<&'static [u8]> {
     }
 }
 
-/// Writes what a sign stands for.
+/// Writes the bytes for a sign.
 fn put_sign(text: &mut Line, sign: char) {
     match meant(sign) {
         Some(bytes) => text.put_bytes(bytes),
@@ -31,7 +32,7 @@ fn put_sign(text: &mut Line, sign: char) {
     }
 }
 
-/// The number that a sign stands for in a repetition.
+/// Returns the number that a sign stands for in a repetition.
 fn number_at(sign: char, repetition: Option<u64>) -> Option<u64> {
     let number = repetition?;
     match sign {
@@ -42,7 +43,7 @@ fn number_at(sign: char, repetition: Option<u64>) -> Option<u64> {
     }
 }
 
-/// Writes what signs stand for, in a repetition or outside of one.
+/// Writes the bytes for signs, in a repetition or outside of one.
 fn put_signs(text: &mut Line, signs: &str, repetition: Option<u64>) {
     for sign in signs.chars() {
         match number_at(sign, repetition) {
@@ -52,21 +53,21 @@ fn put_signs(text: &mut Line, signs: &str, repetition: Option<u64>) {
     }
 }
 
-/// Writes a part so often.
+/// Writes a part a number of times.
 fn put_parts(text: &mut Line, part: &str, count: u64) {
     for number in 0..count {
         put_signs(text, part, Some(number));
     }
 }
 
-/// Takes the writing of a repetition behind its `<` apart: how often, which part, and what stands behind it.
+/// Takes a repetition apart after its `<`. Returns how often, which part, and the text after it.
 fn repetition_of(writing: &str) -> Option<(u64, &str, &str)> {
     let (repeated, behind) = writing.split_once('>')?;
     let (count, part) = repeated.split_once('|')?;
     Some((count.parse::<u64>().ok()?, part, behind))
 }
 
-/// Writes a piece, which begins behind a `<` where it is a repetition.
+/// Writes a piece, which begins after a `<` if it is a repetition.
 fn put_piece(text: &mut Line, piece: &str) {
     match repetition_of(piece) {
         Some((count, part, behind)) => {
@@ -77,7 +78,7 @@ fn put_piece(text: &mut Line, piece: &str) {
     }
 }
 
-/// The text that a row writes so.
+/// Returns the text that a row writes so.
 pub(crate) fn spelled(alloc: Global, writing: &str) -> Line {
     let mut text = Line::new(alloc);
     for piece in writing.split('<') {
@@ -86,7 +87,7 @@ pub(crate) fn spelled(alloc: Global, writing: &str) -> Line {
     text
 }
 
-/// The two parts of a row's text, which stand beside the first `~`.
+/// Returns the two parts of a row's text, before and after the first `~`.
 pub(crate) fn two_of(text: &[u8]) -> (&[u8], &[u8]) {
     for place in 0..text.len() {
         if text[place] == b'~' {
@@ -96,7 +97,7 @@ pub(crate) fn two_of(text: &[u8]) -> (&[u8], &[u8]) {
     (text, b"")
 }
 
-/// The parts of a text, which stand beside a byte.
+/// Returns the parts of a text between bytes of this value.
 pub(crate) fn parts_of<'t>(text: &'t [u8], beside: u8, line: &mut Line) -> Vec<&'t [u8]> {
     let mut parts = Vec::new(line.alloc);
     let mut from = 0;
@@ -110,7 +111,7 @@ pub(crate) fn parts_of<'t>(text: &'t [u8], beside: u8, line: &mut Line) -> Vec<&
     parts
 }
 
-/// The set of the features with `+`.
+/// Returns the set of the features with `+`.
 pub(crate) fn set_of(signs: &[u8], line: &mut Line) -> Vec<bool> {
     let mut set = Vec::new(line.alloc);
     for sign in signs {
@@ -121,7 +122,7 @@ pub(crate) fn set_of(signs: &[u8], line: &mut Line) -> Vec<bool> {
     set
 }
 
-/// The number that the digits of a text spell.
+/// Returns the number that the digits of a text spell.
 pub(crate) fn number_of(text: &[u8]) -> u32 {
     let mut number = 0u32;
     for digit in text {
@@ -133,7 +134,7 @@ pub(crate) fn number_of(text: &[u8]) -> u32 {
     number
 }
 
-/// The numbers of a text, which stand beside blanks.
+/// Returns the numbers of a text, which stand between blanks.
 pub(crate) fn numbers_of(text: &[u8], line: &mut Line) -> Vec<u32> {
     let mut numbers = Vec::new(line.alloc);
     let words = parts_of(text, b' ', line);

@@ -1,4 +1,4 @@
--- Which verdicts are other than they were. This project's own.
+-- Verdicts that differ from earlier ones. This project's own.
 use Rattle.std.specs.Prelude.{ℕ, zero, suc, ◌+◌, Bool, false, ◌&&◌, ◌==◌, if◌then◌else◌, List, [], ◌∷◌, ◌++◌, length, slice_index, slice_index_or, codes, decimal}
 use Rattle.std.specs.Bool.{beq}
 use Rattle.vpg_guards.specs.Formula.{Formula}
@@ -10,12 +10,12 @@ use Rattle.vpg_texts.specs.Text.{count_line, hopeless_text}
 
 -- ---- the verdicts of a page
 
--- what two measures of a vertex say of it
+-- the verdict of a vertex by its two measures
 abbrev pub verdict_of : (hopeful_top dual_top hopeful dual : ℕ) → Verdict
 verdict_of hopeful_top dual_top hopeful dual =
     record { hopeless = hopeful == hopeful_top; sure = dual == dual_top }
 
--- those of the vertices below n
+-- the verdicts of the vertices below n
 abbrev pub verdicts_below : (hopeful_top dual_top : ℕ) → (hopeful dual : List ℕ) → ℕ → List Verdict
 verdicts_below hopeful_top dual_top hopeful dual zero = []
 verdicts_below hopeful_top dual_top hopeful dual (suc n) =
@@ -33,7 +33,7 @@ verdicts_by game hopeful dual =
 abbrev pub unseen : Verdict
 unseen = record { hopeless = false; sure = false }
 
--- what was seen of a vertex; where nothing was, as it is on the opening page
+-- the verdict seen of a vertex; if none was seen, that of the opening page
 abbrev pub seen_at : List Verdict → ℕ → Verdict
 seen_at seen v = slice_index_or seen v unseen
 
@@ -48,28 +48,28 @@ sure_word sure = if sure then codes " sure" else codes " unsure"
 abbrev pub verdict_words : Verdict → List ℕ
 verdict_words verdict = hopeless_text verdict.hopeless ++ sure_word verdict.sure
 
--- a vertex's identifier, what was seen of it, and its verdicts now
+-- a vertex's identifier, the verdict seen of it, and its verdict now
 abbrev pub change_line : ℕ → (before now : Verdict) → List ℕ
 change_line identifier before now = decimal identifier ++ verdict_words before ++ verdict_words now ++ 10 ∷ []
 
--- where they are other verdicts
+-- the line if the verdicts differ
 abbrev pub change_text : ℕ → (before now : Verdict) → List ℕ
 change_text identifier before now = if same_verdicts before now then [] else change_line identifier before now
 
--- those of the vertices below n
+-- the lines of the vertices below n
 abbrev pub change_lines : List ℕ → (seen now : List Verdict) → ℕ → List ℕ
 change_lines identifiers seen now zero = []
 change_lines identifiers seen now (suc n) =
     change_lines identifiers seen now n
     ++ change_text (slice_index identifiers n) (seen_at seen n) (seen_at now n)
 
--- how many they are
+-- the number of these lines
 abbrev pub change_count : (seen now : List Verdict) → ℕ → ℕ
 change_count seen now zero = 0
 change_count seen now (suc n) =
     change_count seen now n + (if same_verdicts (seen_at seen n) (seen_at now n) then 0 else 1)
 
--- a line for each vertex of which the verdicts are other than what was seen, and their number
+-- a line for each vertex with another verdict than was seen, and their number
 abbrev pub changed_text : List ℕ → (seen now : List Verdict) → List ℕ
 changed_text identifiers seen now =
     change_lines identifiers seen now (length identifiers)

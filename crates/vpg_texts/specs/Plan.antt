@@ -1,4 +1,4 @@
--- Plans: what Even does at a full and settled page.
+-- Plans: Even's moves at a full and settled page.
 use Rattle.std.specs.Prelude.{◌≡◌, ℕ, ◌<◌, Bool, Option, List, length, map, slice_index, ⊤}
 use Rattle.vpg_guards.specs.declared.tri.Tri.{Tri}
 use Rattle.vpg_guards.specs.Formula.{Formula, truth}
@@ -22,8 +22,8 @@ abbrev pub AreChosen : List Tri → GuardedGame Formula → List ℕ → List (O
 AreChosen known game hopeful chosen =
     AreChoices (levels_for Hopeful game) (arena_for (kleene known) Hopeful game) hopeful chosen
 
--- Under what is known, each feature is known, both tables are progress tables, and the text has the choices of the
--- first.
+-- Under these known features, each feature is known, both tables are progress tables, and the text has the choices of
+-- the hopeful table.
 pub record PlansUnder (scene : Scene) (known : List Tri) (hopeful dual text : List ℕ) : Type 0 where
   pub full : AreAllKnown (length known) known
   pub settled : AreProgressTables known scene.game hopeful dual
@@ -36,7 +36,7 @@ abbrev pub IsPlanned : Scene → List Decision → (hopeful dual text : List ℕ
 IsPlanned scene decisions hopeful dual text =
     UnderKnown scene decisions (λ known. PlansUnder scene known hopeful dual text)
 
--- why there is none: some feature isn't known, or each is and some table is no progress table; out of memory tells
+-- why there is none: some feature isn't known, or each is and some table is no progress table; out of memory says
 -- nothing
 abbrev pub IsPlanFault : Scene → List Decision → (hopeful dual : List ℕ) → PlanFault → Type 0
 IsPlanFault scene decisions hopeful dual NotFull =

@@ -15,7 +15,7 @@ use Rattle.vpg_measure.specs.TwoGames.{top_for, IsProgressOf}
 use Rattle.vpg_trail.specs.Page.{Which, Hopeful, Dual, Entry, Decided, Lifted, Decision, literal_of}
 use Rattle.vpg_texts.specs.Text.{show_text, count_text, products_text, known_text}
 
--- what texts need of a game and of the diagram over whose features it is
+-- the part of a game, and of the diagram with its features, that texts need
 pub record Scene : Type 0 where
   pub game : GuardedGame Formula
   pub lines : List Line
@@ -23,7 +23,7 @@ pub record Scene : Type 0 where
   pub names : List (List ℕ)
   pub identifiers : List ℕ
 
--- what texts need of a game and of the diagram over whose features it is
+-- the scene of a game and the diagram with its features
 abbrev pub scene_of : NamedGame → NamedDiagram → Scene
 scene_of game diagram =
     record {
@@ -33,7 +33,7 @@ scene_of game diagram =
       identifiers = vertex_ids game.vertices;
     }
 
--- it is so of what the decisions make known
+-- this holds of the features that the decisions make known
 abbrev pub UnderKnown : Scene → List Decision → (List Tri → Type 0) → Type 0
 UnderKnown scene decisions P =
     (known : List Tri) × (IsKnownTable scene.lines (map literal_of decisions) known × P known)
@@ -75,7 +75,7 @@ IsShown scene decisions hopeful dual text =
     UnderKnown scene decisions
     (λ known. TellsUnder scene known hopeful dual (shown_lines scene decisions hopeful dual) text)
 
--- how many vertices have which verdict by these tables
+-- the number of vertices with each verdict by these tables
 abbrev pub counted_lines : Scene → (hopeful dual : List ℕ) → (full settled : Bool) → List ℕ
 counted_lines scene hopeful dual full settled =
     count_text (top_for Hopeful scene.game) (top_for Dual scene.game) full settled hopeful dual
@@ -85,11 +85,11 @@ abbrev pub IsCounted : Scene → List Decision → (hopeful dual text : List ℕ
 IsCounted scene decisions hopeful dual text =
     UnderKnown scene decisions (λ known. TellsUnder scene known hopeful dual (counted_lines scene hopeful dual) text)
 
--- The text tells of each feature whether the decisions make it known.
+-- The text says of each feature whether the decisions make it known.
 abbrev pub TellsKnown : Scene → List Decision → List ℕ → Type 0
 TellsKnown scene decisions text = UnderKnown scene decisions (λ known. text ≡ products_text scene.names known)
 
--- The text tells of this feature whether the decisions make it known.
+-- The text says of this feature whether the decisions make it known.
 abbrev pub TellsFeature : Scene → List Decision → ℕ → List ℕ → Type 0
 TellsFeature scene decisions f text = UnderKnown scene decisions (λ known. text ≡ known_text scene.names known f)
 

@@ -1,4 +1,4 @@
--- What is seen of a page: the answer to a lookup. This project's own.
+-- The answers to lookups, which look at a page. This project's own.
 use Rattle.std.specs.Prelude.{◌≡◌, ◌⊎◌, ℕ, Bool, true, not, ◌&&◌, ◌==◌, if◌then◌else◌, List, [], ◌++◌, Option, Some, None, flat_map, is_some, position, slice_index, codes}
 use Rattle.std.specs.List.{list_all}
 use Rattle.vpg_script.specs.declared.command.Claim.{Claim}
@@ -52,15 +52,15 @@ named_lines hopeful_top dual_top identifiers hopeful dual vertices =
 
 -- ---- assertions
 
--- Whether a verdict is asserted rightly of a vertex. Once a vertex has the top it keeps it; that it stays below the top
--- shows a settled page alone.
+-- Whether a claim about a vertex is right. Once a vertex has the top it keeps it; only a settled page shows that it
+-- stays below the top.
 abbrev pub holds : (settled hopeless sure : Bool) → Claim → Bool
 holds settled hopeless sure claims.Hopeless = hopeless
 holds settled hopeless sure claims.Possible = settled && not hopeless
 holds settled hopeless sure claims.Sure = sure
 holds settled hopeless sure claims.Unsure = settled && not sure
 
--- whether a verdict could still be another once the page is settled
+-- whether settling the page could still change a claim's truth
 abbrev pub is_open : (settled hopeless sure : Bool) → Claim → Bool
 is_open settled hopeless sure claims.Hopeless = not settled && not hopeless
 is_open settled hopeless sure claims.Possible = not settled && not hopeless
@@ -73,11 +73,11 @@ claim_text claims.Possible = codes " possible"
 claim_text claims.Sure = codes " sure"
 claim_text claims.Unsure = codes " unsure"
 
--- a verdict, where it is asserted wrongly
+-- a claim, if it is wrong
 abbrev pub failing_text : (settled hopeless sure : Bool) → Claim → List ℕ
 failing_text settled hopeless sure claim = if holds settled hopeless sure claim then [] else claim_text claim
 
--- the end of a line: whether one of the verdicts could still be another
+-- the end of a line: whether settling the page could still change one of the claims
 abbrev pub open_text : Bool → List ℕ
 open_text none = if none then codes "\n" else codes " unsettled\n"
 
@@ -88,7 +88,7 @@ verdicts_text settled hopeless sure asserted =
     else codes "fails" ++ flat_map (failing_text settled hopeless sure) asserted
     ++ open_text (list_all (λ claim. not (is_open settled hopeless sure claim)) asserted)
 
--- of the vertex at a place
+-- the claims about the vertex at a place
 abbrev pub verdicts_at : ℕ → ℕ → (hopeful dual : List ℕ) → Bool → List Claim → Option ℕ → List ℕ
 verdicts_at hopeful_top dual_top hopeful dual settled asserted None = []
 verdicts_at hopeful_top dual_top hopeful dual settled asserted (Some v) =
@@ -128,7 +128,7 @@ IsPlanAnswer scene decisions hopeful dual text =
     ⊎ (IsPlanFault scene decisions hopeful dual NotFull × (text ≡ codes "refused NotFull\n"))
     ⊎ (IsPlanFault scene decisions hopeful dual NotSettled × (text ≡ codes "refused NotSettled\n"))
 
--- The text is what a lookup shows of a page with these entries, decisions and tables.
+-- The text is the answer to a lookup on a page with these entries, decisions and tables.
 abbrev pub IsSeen : Scene → script.Lookup → List Entry → List Decision → (hopeful dual text : List ℕ) → Type 0
 IsSeen scene script.Show entries decisions hopeful dual text = IsShown scene decisions hopeful dual text
 IsSeen scene (script.Vertices vertices) entries decisions hopeful dual text =

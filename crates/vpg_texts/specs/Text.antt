@@ -44,7 +44,7 @@ vertex_line hopeful_top dual_top identifier hopeful dual =
     decimal identifier ++ blank_number hopeful ++ blank_number dual ++ hopeless_text (hopeful == hopeful_top)
     ++ sure_text (dual == dual_top)
 
--- those of the vertices below n
+-- the lines of the vertices below n
 abbrev pub vertex_lines : ℕ → ℕ → List ℕ → List ℕ → List ℕ → ℕ → List ℕ
 vertex_lines hopeful_top dual_top identifiers hopeful dual zero = []
 vertex_lines hopeful_top dual_top identifiers hopeful dual (suc n) =
@@ -64,7 +64,7 @@ show_text names identifiers hopeful_top dual_top choices full settled hopeful du
 abbrev pub count_line : List ℕ → ℕ → List ℕ
 count_line word n = word ++ blank_number n ++ 10 ∷ []
 
--- how many vertices have the top in a table, and how many have not
+-- how many vertices have the top in a table, and how many lack it
 abbrev pub count_lines : List ℕ → List ℕ → ℕ → List ℕ → List ℕ
 count_lines at_top below top table =
     count_line at_top (count_by (λ n. n == top) table) ++ count_line below (count_by (λ n. not (n == top)) table)
@@ -88,7 +88,7 @@ abbrev pub table_text : Which → List ℕ
 table_text Hopeful = codes "hopeful"
 table_text Dual = codes "dual"
 
--- a decision with its serial; a lift of a vertex in a table, with the old and the new value and what it assumed
+-- a decision with its serial; a lift of a vertex in a table, with the old and the new value and its assumptions
 abbrev pub entry_line : List (List ℕ) → List ℕ → Entry → List ℕ
 entry_line names identifiers (Decided d) =
     deciding_text d.value ++ blank_name names d.feature ++ blank_number d.serial ++ 10 ∷ []
@@ -112,7 +112,7 @@ is_value _ _ = false
 abbrev pub name_if : Bool → List (List ℕ) → ℕ → List ℕ
 name_if b names f = if b then blank_name names f else []
 
--- those of the first n features of which this is known
+-- the names of those of the first n features with this knowledge
 abbrev pub names_known : List (List ℕ) → List Tri → Tri → ℕ → List ℕ
 names_known names known value zero = []
 names_known names known value (suc n) =
@@ -136,7 +136,7 @@ known_word Yes = codes "in"
 known_word No = codes "out"
 known_word Unknown = codes "open"
 
--- what is known of a feature, in a word, and its name
+-- the knowledge of a feature, in a word, and its name
 abbrev pub known_text : List (List ℕ) → List Tri → ℕ → List ℕ
 known_text names known f = known_word (slice_index_or known f Unknown) ++ blank_name names f ++ 10 ∷ []
 
@@ -148,7 +148,7 @@ plan_line identifiers v None = []
 plan_line identifiers v (Some w) =
     codes "plan" ++ blank_number (slice_index identifiers v) ++ blank_number (slice_index identifiers w) ++ 10 ∷ []
 
--- those of the vertices below n
+-- the lines of the vertices below n
 abbrev pub plan_lines : List ℕ → List (Option ℕ) → ℕ → List ℕ
 plan_lines identifiers chosen zero = []
 plan_lines identifiers chosen (suc n) =

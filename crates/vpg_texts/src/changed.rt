@@ -1,4 +1,4 @@
-//! The verdicts of a page's vertices, and the lines of those that are other than they were.
+//! The verdicts of a page's vertices, and the lines of those that differ from earlier ones.
 ghost use Rattle.std.specs.Prelude.{◌≡◌, ◌++◌, ◌<◌, length, slice_index, IfOk, OnOk};
 ghost use Rattle.vpg_game.specs.Game.{vertex_ids};
 ghost use Rattle.vpg_game.specs.Levels.{top_of};
@@ -16,7 +16,7 @@ const UNSEEN: Verdict = Verdict {
     sure: false,
 };
 
-/// What two tables say of a vertex.
+/// Returns the verdict of a vertex by two tables.
 fn verdict(games: &PageGames, hopeful: &Table, dual: &Table, v: u32) -> Verdict
     requires hopeful { v < length hopeful.now }
     requires dual { v < length dual.now }
@@ -29,7 +29,7 @@ fn verdict(games: &PageGames, hopeful: &Table, dual: &Table, v: u32) -> Verdict
     }
 }
 
-/// What two tables say of each vertex.
+/// Returns the verdict of each vertex by two tables.
 pub(crate) fn verdicts(
     alloc: Global,
     games: &PageGames,
@@ -51,7 +51,7 @@ pub(crate) fn verdicts(
     Ok(verdicts)
 }
 
-/// What was seen of a vertex; where nothing was, as it is on the opening page.
+/// Returns the verdict seen of a vertex; if none was seen, that of the opening page.
 fn seen_at(seen: &[Verdict], v: u32) -> Verdict
     ensures { result ≡ seen_at seen.now v }
 {
@@ -84,7 +84,7 @@ fn words(verdict: Verdict, out: &mut Vec<u8>) -> Result<(), AllocError>
     sure_word(verdict.sure, out)
 }
 
-/// The line of a vertex: its identifier, what was seen of it, and its verdicts now.
+/// Appends the line of a vertex: its identifier, the verdict seen of it, and its verdict now.
 fn change(id: u32, before: Verdict, now: Verdict, out: &mut Vec<u8>) -> Result<(), AllocError>
     ensures { OnOk result (out.new.items ≡ out.old.items ++ change_line id before now) }
 {
@@ -95,7 +95,7 @@ fn change(id: u32, before: Verdict, now: Verdict, out: &mut Vec<u8>) -> Result<(
     Ok(())
 }
 
-/// The lines of the vertices whose verdicts are other than what was seen; how many they are.
+/// Appends the lines of the vertices with another verdict than was seen, and returns their number.
 fn changes(
     game: &GuardedGame,
     seen: &[Verdict],
@@ -119,7 +119,7 @@ fn changes(
     Ok(changed)
 }
 
-/// A line for each vertex whose verdicts are other than what was seen, and their number.
+/// Appends a line for each vertex with another verdict than was seen, and their number.
 pub(crate) fn changed(
     game: &GuardedGame,
     seen: &[Verdict],

@@ -1,19 +1,19 @@
 //! Texts of pages.
 //!
-//! `show` writes a page's decisions, its tables and its verdicts, `count` how many vertices have which verdict, `trail`
-//! its entries, `products` what is known of each feature, `put_known` the same of one, and `plan` what Even does where
-//! everything is known and settled. They take a page with its game and its diagram, and know no desk. The crate of runs
-//! above answers lines by them, and takes `blank_number` and `blank_name` for its own answers.
+//! `show` writes a page's decisions, its tables and its verdicts, `count` how many vertices have which verdict, and
+//! `trail` its entries. `products` writes what is known of each feature, `put_known` what is known of one, and `plan`
+//! Even's moves if everything is known and settled. They take a page with its game and its diagram, and know no desk.
+//! The crate of runs above answers lines by them, and takes `blank_number` and `blank_name` for its own answers.
 //!
-//! What the page's decisions make of its game they make once, as `PageGames`. Who holds that already, as a desk
-//! does, takes `show_over`, `products_over`, `put_known_over`, `plan_over` and `count_over`, which write the same
-//! and look at no guard, and `draw_over`, which writes the picture of the game. A game with a priority of 65,536
-//! has no dual and so no page: that it has none is a condition. `look_over` is all of them but `put_known_over`, by
-//! a `Lookup` of a script: it also writes the lines of some vertices, and whether an assertion holds.
-//! `verdicts_over` gives the verdicts of a page, `verdicts_by` those of two tables, and `put_changed` writes which
-//! of them are other than some that were seen earlier.
+//! They make the games that the page's decisions leave once, as `PageGames`. A caller who holds these already, as a
+//! desk does, takes `show_over`, `products_over`, `put_known_over`, `plan_over` and `count_over`, which write the same
+//! texts and look at no guard. `draw_over` writes the picture of the game. A game with a priority of 65,536 has no dual
+//! and so no page: that it has none is a condition. `look_over` answers a `Lookup` of a script by each of these except
+//! `put_known_over`; it also writes the lines of some vertices, and whether an assertion holds. `verdicts_over` returns
+//! the verdicts of a page, `verdicts_by` those of two tables, and `put_changed` writes which of them differ from some
+//! that were seen earlier.
 //!
-//! The texts are defined in `specs/Text`, `specs/Sights` and `specs/Changed`, what they tell of a page in
+//! The texts are defined in `specs/Text`, `specs/Sights` and `specs/Changed`, and their meaning for a page in
 //! `specs/Scene`, `specs/Picture` and `specs/Plan`. All are this project's own.
 #![tactic(auto)]
 

@@ -32,7 +32,7 @@ use vpg_game::GuardedGame;
 use vpg_measure::{OrderFault, PageGames};
 use vpg_partial::Decision;
 
-/// What decisions without a conflict make of a game that has a dual.
+/// Returns the games that decisions without a conflict leave of a game that has a dual.
 pub(crate) fn games_of(
     alloc: Global,
     game: &GuardedGame,

@@ -1,4 +1,4 @@
-//! The texts of some vertices of a page, and of what is asserted of it.
+//! The texts of some vertices of a page, and of assertions about it.
 ghost use Rattle.std.specs.Prelude.{◌≡◌, ◌==◌, ◌++◌, ◌<◌, IfSome, Some, flat_map, length, map, not, position, true, OnOk};
 ghost use Rattle.std.specs.List.{list_all};
 ghost use Rattle.vpg_game.specs.Game.{vertex_ids};
@@ -13,7 +13,7 @@ use vpg_measure::{PageGames, Table};
 use vpg_script::{Assertion, Claim, Lookup, Vertex};
 use vpg_verdict::Which;
 
-/// The place of the vertex of an identifier.
+/// Returns the place of the vertex of an identifier.
 fn found(game: &GuardedGame, identifier: u32) -> Option<u32>
     ensures vertex { result ≡ position (λ n. n == identifier) (vertex_ids game.now.vertices) }
     ensures within { IfSome result (λ v. v < length game.now.vertices) }
@@ -21,8 +21,8 @@ fn found(game: &GuardedGame, identifier: u32) -> Option<u32>
     game.find(identifier)
 }
 
-/// The place of a vertex that a line names: that of its identifier. `None` for each name: a game has no names of
-/// vertices.
+/// Returns the place of a vertex that a line names: that of its identifier. `None` for each name: a game has no names
+/// of vertices.
 pub fn vertex_at(game: &GuardedGame, vertex: Vertex<'_>) -> Option<u32>
     ensures vertex { result ≡ vertex_of (vertex_ids game.now.vertices) (vertex_shown vertex.entry) }
     ensures within { IfSome result (λ v. v < length game.now.vertices) }
@@ -70,7 +70,7 @@ pub fn has_vertices(game: &GuardedGame, lookup: &Lookup<'_>) -> bool
     }
 }
 
-/// The place of a vertex that the game has.
+/// Returns the place of a vertex that the game has.
 fn place(game: &GuardedGame, vertex: Vertex<'_>) -> u32
     requires { is_vertex (vertex_ids game.now.vertices) (vertex_shown vertex) ≡ true }
     ensures place { vertex_of (vertex_ids game.now.vertices) (vertex_shown vertex.entry) ≡ Some result }
@@ -82,7 +82,7 @@ fn place(game: &GuardedGame, vertex: Vertex<'_>) -> u32
     }
 }
 
-/// The lines of these vertices.
+/// Appends the lines of these vertices.
 pub(crate) fn named(
     games: &PageGames,
     game: &GuardedGame,
@@ -115,7 +115,7 @@ fn holds(claim: Claim, settled: bool, hopeless: bool, sure: bool) -> bool
     }
 }
 
-/// Whether a verdict could still be another once the page is settled.
+/// Whether settling the page could still change a claim's truth.
 fn is_open(claim: Claim, settled: bool, hopeless: bool, sure: bool) -> bool
     ensures { result ≡ is_open settled hopeless sure claim }
 {
@@ -137,7 +137,7 @@ fn claim(claim: Claim, out: &mut Vec<u8>) -> Result<(), AllocError>
     Ok(())
 }
 
-/// The verdicts that are asserted wrongly.
+/// Appends the claims that are wrong.
 fn failing(
     settled: bool,
     hopeless: bool,
@@ -156,7 +156,7 @@ fn failing(
     Ok(())
 }
 
-/// The end of a line: whether one of the verdicts could still be another.
+/// Appends the end of a line: whether settling the page could still change one of the claims.
 fn open_end(none: bool, out: &mut Vec<u8>) -> Result<(), AllocError>
     ensures { OnOk result (out.new.items ≡ out.old.items ++ open_text none) }
 {
@@ -179,7 +179,7 @@ fn none_is_open(claims: &[Claim], settled: bool, hopeless: bool, sure: bool) -> 
     claims.iter().all(|c| !is_open(*c, settled, hopeless, sure))
 }
 
-/// Whether all verdicts are asserted rightly, or those that are not.
+/// Appends whether all claims are right, or those that are not.
 fn verdicts(
     settled: bool,
     hopeless: bool,
@@ -217,7 +217,7 @@ fn settled_line(settled: bool, out: &mut Vec<u8>) -> Result<(), AllocError>
     }
 }
 
-/// The answer to an assertion.
+/// Appends the answer to an assertion.
 pub(crate) fn assertion(
     games: &PageGames,
     game: &GuardedGame,

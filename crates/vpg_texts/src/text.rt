@@ -71,7 +71,7 @@ fn literal(d: &Decision) -> Literal
     }
 }
 
-/// What some decisions choose.
+/// Appends the choices of some decisions.
 fn decided(names: &Names, ds: &[Decision], out: &mut Vec<u8>) -> Result<(), AllocError>
     requires { All (λ d. d.feature < length names.now) ds.now }
     ensures { OnOk result (out.new.items ≡ out.old.items ++ choices_text names.now (map literal_of ds.now)) }
@@ -82,7 +82,7 @@ fn decided(names: &Names, ds: &[Decision], out: &mut Vec<u8>) -> Result<(), Allo
     Ok(())
 }
 
-/// What a lift assumed.
+/// Appends the choices that a lift assumed.
 fn assumed(names: &Names, ls: &[Literal], out: &mut Vec<u8>) -> Result<(), AllocError>
     requires { All (λ l. l.feature < length names.now) ls.now }
     ensures { OnOk result (out.new.items ≡ out.old.items ++ choices_text names.now ls.now) }
@@ -144,7 +144,7 @@ pub(crate) fn identifier(game: &GuardedGame, v: u32) -> u32
     game.id(v)
 }
 
-/// The line of a vertex.
+/// Appends the line of a vertex.
 pub(crate) fn vertex(
     games: &PageGames,
     game: &GuardedGame,
@@ -163,7 +163,7 @@ pub(crate) fn vertex(
     measures(games, identifier(game, v), hopeful.get(v), dual.get(v), out)
 }
 
-/// The lines of all vertices.
+/// Appends the lines of all vertices.
 fn vertices(
     games: &PageGames,
     game: &GuardedGame,
@@ -184,7 +184,7 @@ fn vertices(
     Ok(())
 }
 
-/// The lines of a page.
+/// Appends the lines of a page.
 pub(crate) fn page(
     names: &Names,
     game: &GuardedGame,
@@ -222,21 +222,21 @@ pub(crate) fn count_line(word: &[u8], n: usize, out: &mut Vec<u8>) -> Result<(),
     Ok(())
 }
 
-/// How many vertices have the top.
+/// Returns the number of vertices that have the top.
 fn tops(table: &Table, top: u64) -> usize
     ensures { result ≡ count_by (λ n. n == top) table.now }
 {
     table.values().iter().filter(|n| **n == top).count()
 }
 
-/// How many have not.
+/// Returns the number of vertices that lack the top.
 fn others(table: &Table, top: u64) -> usize
     ensures { result ≡ count_by (λ n. not (n == top)) table.now }
 {
     table.values().iter().filter(|n| **n != top).count()
 }
 
-/// How many vertices have the top, and how many have not.
+/// Appends how many vertices have the top, and how many lack it.
 fn count_lines(
     at_top: &[u8],
     below: &[u8],
@@ -250,7 +250,7 @@ fn count_lines(
     count_line(below, others(table, top), out)
 }
 
-/// Whether the page is settled, and whether each feature is known.
+/// Appends whether the page is settled, and whether each feature is known.
 fn state_lines(settled: bool, full: bool, out: &mut Vec<u8>) -> Result<(), AllocError>
     ensures { OnOk result (out.new.items ≡ out.old.items ++ state_lines settled full) }
 {
@@ -260,7 +260,7 @@ fn state_lines(settled: bool, full: bool, out: &mut Vec<u8>) -> Result<(), Alloc
     answer(full, out)
 }
 
-/// How many vertices have which verdict, and whether the page is settled and full.
+/// Appends how many vertices have which verdict, and whether the page is settled and full.
 pub(crate) fn count(
     games: &PageGames,
     full: bool,
@@ -306,7 +306,7 @@ fn decision(names: &Names, d: Decision, out: &mut Vec<u8>) -> Result<(), AllocEr
     Ok(())
 }
 
-/// The line of an entry.
+/// Appends the line of an entry.
 fn entry(names: &Names, game: &GuardedGame, e: &Entry, out: &mut Vec<u8>) -> Result<(), AllocError>
     requires { EntryIsWithin (length names.now) (length game.now.vertices) (entry_of e.now) }
     ensures { OnOk result (out.new.items ≡ out.old.items
@@ -332,7 +332,7 @@ fn entry(names: &Names, game: &GuardedGame, e: &Entry, out: &mut Vec<u8>) -> Res
     }
 }
 
-/// The lines of a page's entries, and their number.
+/// Appends the lines of a page's entries, and their number.
 pub(crate) fn trail(
     names: &Names,
     game: &GuardedGame,
@@ -352,7 +352,7 @@ pub(crate) fn trail(
     Ok(())
 }
 
-/// The names of the features of which this is known.
+/// Appends the names of the features with this knowledge.
 fn names_known(
     names: &Names,
     known: &Partial,
@@ -387,7 +387,7 @@ fn products_line(
     Ok(())
 }
 
-/// The features that are known in, known out, and not known.
+/// Appends the features that are known in, known out, and not known.
 pub(crate) fn products(names: &Names, known: &Partial, out: &mut Vec<u8>) -> Result<(), AllocError>
     requires { length known.now ≡ length names.now }
     ensures { OnOk result (out.new.items ≡ out.old.items ++ products_text names.now known.now) }
@@ -408,7 +408,7 @@ fn known_word(value: Tri, out: &mut Vec<u8>) -> Result<(), AllocError>
     Ok(())
 }
 
-/// What is known of a feature.
+/// Appends the knowledge of a feature, in a word, and its name.
 pub(crate) fn known(
     names: &Names,
     known: &Partial,
@@ -425,7 +425,7 @@ pub(crate) fn known(
     Ok(())
 }
 
-/// The line of a vertex that has a chosen successor.
+/// Appends the line of a vertex that has a chosen successor.
 fn plan_line(
     game: &GuardedGame,
     v: u32,
@@ -454,7 +454,7 @@ fn chosen_count(chosen: &[Option<u32>]) -> usize
     chosen.iter().filter(|w| w.is_some()).count()
 }
 
-/// The chosen successors, and their number.
+/// Appends the chosen successors, and their number.
 pub(crate) fn plan(
     game: &GuardedGame,
     chosen: &[Option<u32>],

@@ -1,4 +1,4 @@
--- What contracts see of entries, and tables entry by entry.
+-- Entries as contracts see them, and tables entry by entry.
 use Rattle.std.specs.Prelude.{ℕ, ◌≡◌, ◌<◌, max, slice_index, slice_set, if◌then◌else◌, List, [], ◌∷◌, All, ⊤}
 use Rattle.vpg_verdict.specs.declared.which.Which.{Which}
 use Rattle.vpg_verdict.specs.declared.which.Which.TheVariants.{Hopeful, Dual}
@@ -7,7 +7,7 @@ use Rattle.vpg_trail.specs.WellFormed.{LiftsStandAfter}
 use Rattle.vpg_trail.specs.declared.entry.Entry.{Entry}
 use Rattle.vpg_trail.specs.declared.entry.Entry.TheVariants.{Decide, Lift}
 
--- an entry of the code, with the list of what a lift assumed
+-- an entry of the code, with the list of the choices that a lift assumed
 abbrev pub entry_of : Entry → Step
 entry_of (Decide d) = Decided d
 entry_of (Lift table vertex old new under) =
@@ -25,13 +25,13 @@ pub record Track : Type 0 where
 
 -- ---- tables with one entry more, and with the last one taken back
 
--- the table once the entry is put behind the page that gives it
+-- the table after the entry is appended to the page that gives it
 abbrev pub after_entry : Which → List ℕ → Step → List ℕ
 after_entry table values (Decided d) = values
 after_entry table values (Lifted l) =
     if same_table table l.table then slice_set values l.vertex (max (slice_index values l.vertex) l.new) else values
 
--- the table once the entry is taken from behind the page that gives it
+-- the table after the entry is removed from the end of the page that gives it
 abbrev pub before_entry : Which → List ℕ → Step → List ℕ
 before_entry table values (Decided d) = values
 before_entry table values (Lifted l) = if same_table table l.table then slice_set values l.vertex l.old else values
@@ -48,7 +48,8 @@ with_old hopeful dual (Lifted l) = Lifted (record l { old = slice_index (picked 
 abbrev pub what_stays : ℕ → List ℕ → List ℕ → Step → List Step
 what_stays f hopeful dual e = if assumes f e then [] else with_old hopeful dual e ∷ []
 
--- the tables are those of the entries, and each lift's old value is what the entries before it give, below its new one
+-- the tables are those of the entries, and each lift's old value is the one that the entries before it give, below its
+-- new one
 pub record IsTracked (vertices : ℕ) (entries : List Step) (hopeful dual : List ℕ) : Type 0 where
   pub below : All (VertexBelow vertices) entries
   pub lifts : LiftsStandAfter [] entries

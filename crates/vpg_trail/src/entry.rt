@@ -1,4 +1,4 @@
-//! Entries: decisions, and lifts with what they assumed.
+//! Entries: decisions, and lifts with the decisions that they assumed.
 ghost use Rattle.std.specs.Prelude.{◌≡◌, ◌==◌, IfOk};
 ghost use Rattle.std.specs.List.{list_any};
 
@@ -25,21 +25,21 @@ impl Model for Assumed {
 }
 
 impl Assumed {
-    /// Made from a list, without memory.
+    /// Makes it of a list, without memory.
     pub fn new(literals: Vec<Literal>) -> Assumed
         ensures { result ≡ literals.items }
     {
         Assumed { literals }
     }
 
-    /// The list itself.
+    /// Returns the list itself.
     pub fn into_vec(self) -> Vec<Literal>
         ensures { result.items ≡ self }
     {
         self.literals
     }
 
-    /// The literals in their order.
+    /// Returns the literals in their order.
     pub fn literals(&self) -> &[Literal]
         ensures { result.now ≡ self.now }
     {
@@ -66,7 +66,7 @@ pub enum Entry {
     },
 }
 
-// Not derived, so that letting one go is one call: a derived way would be proved anew at each exit that owns one.
+// Not derived: a derived `drop` would be proved again at each exit that owns such a value.
 impl Drop for Entry {
     fn drop(self) {
         match self {
@@ -85,7 +85,7 @@ impl Drop for Entry {
 impl Entry {
     ghost use Rattle.vpg_trail.specs.Shown.{entry_of};
 
-    /// The same entry; the assumed decisions are shared.
+    /// Returns a copy of the entry; the assumed decisions are shared.
     pub fn copy(&self) -> Result<Entry, AllocError>
         ensures { IfOk result (λ e. entry_of e ≡ entry_of self.now) }
     {

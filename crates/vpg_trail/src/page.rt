@@ -1,4 +1,4 @@
-//! What the entries of a page give, and a page by itself.
+//! The decisions that the entries of a page give, and a page by itself.
 ghost use Rattle.std.specs.Prelude.{◌≡◌, ◌+◌, ◌<◌, length, map, take, drop, is_some, IfOk, IfSome};
 ghost use Rattle.vpg_trail.specs.Page.{decisions_of, decision_on, has_decided, before_decision, after_decision};
 
@@ -24,14 +24,14 @@ impl Model for Decisions {
 }
 
 impl Decisions {
-    /// Made from a list, without memory.
+    /// Makes it of a list, without memory.
     pub fn new(decisions: Vec<Decision>) -> Decisions
         ensures { result ≡ decisions.items }
     {
         Decisions { decisions }
     }
 
-    /// The list itself.
+    /// Returns the list itself.
     pub fn into_vec(self) -> Vec<Decision>
         ensures { result.items ≡ self }
     {
@@ -45,7 +45,7 @@ impl Decisions {
     }
 }
 
-/// Entries in their order; contracts see what they assume as lists.
+/// Entries in their order; contracts see their assumed decisions as lists.
 #[derive(Drop)]
 pub struct Entries {
     items: Vec<Entry>,
@@ -64,14 +64,14 @@ impl Model for Entries {
 impl Entries {
     ghost use Rattle.vpg_trail.specs.Shown.{entry_of};
 
-    /// Made from a list, without memory.
+    /// Makes it of a list, without memory.
     pub fn new(items: Vec<Entry>) -> Entries
         ensures { result ≡ map entry_of items.items }
     {
         Entries { items }
     }
 
-    /// The list itself.
+    /// Returns the list itself.
     pub fn into_vec(self) -> Vec<Entry>
         ensures { map entry_of result.items ≡ self }
     {
@@ -84,7 +84,7 @@ impl Entries {
         self.items.as_slice()
     }
 
-    /// The same entries; what they assume is shared.
+    /// Returns a copy of the entries; their assumed decisions are shared.
     pub fn copy_of(alloc: Global, entries: &[Entry]) -> Result<Entries, AllocError>
         ensures { IfOk result (λ copy. copy ≡ map entry_of entries.now) }
     {
@@ -104,7 +104,7 @@ pub struct Page {
     pub entries: Entries,
 }
 
-// Not derived, so that letting one go is one call: a derived way would be proved anew at each exit that owns one.
+// Not derived: a derived `drop` would be proved again at each exit that owns such a value.
 impl Drop for Page {
     fn drop(self) {
         let Page {
@@ -118,7 +118,7 @@ impl Drop for Page {
 
 ghost use Rattle.vpg_trail.specs.Shown.{entry_of};
 
-/// The decisions among the entries, in their order.
+/// Returns the decisions among the entries, in their order.
 pub fn decisions_among(alloc: Global, entries: &[Entry]) -> Result<Vec<Decision>, AllocError>
     ensures { IfOk result (λ ds. ds.items ≡ decisions_of (map entry_of entries.now)) }
 {
@@ -131,7 +131,7 @@ pub fn decisions_among(alloc: Global, entries: &[Entry]) -> Result<Vec<Decision>
     Ok(decisions)
 }
 
-/// The decision on a feature.
+/// Returns the decision on a feature.
 pub fn decided(entries: &[Entry], feature: u16) -> Option<Decision>
     ensures { result ≡ decision_on feature (map entry_of entries.now) }
 {
@@ -145,7 +145,7 @@ pub fn decided(entries: &[Entry], feature: u16) -> Option<Decision>
     None
 }
 
-/// The place of the decision on a feature.
+/// Returns the place of the decision on a feature.
 pub fn place_of(entries: &[Entry], feature: u16) -> Option<usize>
     ensures decided { is_some result ≡ has_decided feature (map entry_of entries.now) }
     ensures place { IfSome result (λ place. place < length entries.now) }

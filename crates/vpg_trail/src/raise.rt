@@ -9,8 +9,8 @@ use std::sync::Arc;
 use vpg_measure::Table;
 use vpg_verdict::Which;
 
-/// One lift for each value above the present one, in the order of the vertices: the lifts of every page that has this
-/// present table.
+/// Returns one lift for each value above the present one, in the order of the vertices: the lifts of every page that
+/// has this present table.
 pub fn lifts(
     alloc: Global,
     table: Which,

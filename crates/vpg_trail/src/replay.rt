@@ -18,7 +18,7 @@ fn raise(values: &mut Table, vertex: u32, new: u64)
     values.set(vertex, old.max(new));
 }
 
-/// The two tables after one entry more.
+/// Adds one more entry to the two tables.
 pub(crate) fn take_in(hopeful: &mut Table, dual: &mut Table, entry: &Entry)
     requires hopeful { VertexBelow (length hopeful.old) (entry_of entry.now) }
     requires dual { VertexBelow (length dual.old) (entry_of entry.now) }
@@ -41,7 +41,7 @@ pub(crate) fn take_in(hopeful: &mut Table, dual: &mut Table, entry: &Entry)
     }
 }
 
-/// The two tables of a page after further entries.
+/// Adds further entries to the two tables of a page.
 pub(crate) fn take_all(entries: &[Entry], hopeful: &mut Table, dual: &mut Table, vertices: u32)
     requires below { All (λ e. VertexBelow vertices (entry_of e)) entries.now }
     requires hopeful_len { length hopeful.old ≡ vertices }
@@ -56,7 +56,7 @@ pub(crate) fn take_all(entries: &[Entry], hopeful: &mut Table, dual: &mut Table,
     }
 }
 
-/// The two tables without their last entry.
+/// Removes the last entry from the two tables.
 fn take_back(hopeful: &mut Table, dual: &mut Table, entry: &Entry)
     requires hopeful { VertexBelow (length hopeful.old) (entry_of entry.now) }
     requires dual { VertexBelow (length dual.old) (entry_of entry.now) }
@@ -79,7 +79,7 @@ fn take_back(hopeful: &mut Table, dual: &mut Table, entry: &Entry)
     }
 }
 
-/// The two tables of a page without its last entries, which are taken back from the last to the first.
+/// Removes the last entries of a page from its two tables, from the last to the first.
 pub(crate) fn take_all_back(entries: &[Entry], hopeful: &mut Table, dual: &mut Table, vertices: u32)
     requires below { All (λ e. VertexBelow vertices (entry_of e)) entries.now }
     requires hopeful_len { length hopeful.old ≡ vertices }
@@ -97,7 +97,7 @@ pub(crate) fn take_all_back(entries: &[Entry], hopeful: &mut Table, dual: &mut T
     }
 }
 
-/// The two tables that entries give, over tables of zeros.
+/// Sets two tables of zeros to those that entries give.
 pub(crate) fn replay(entries: &[Entry], hopeful: &mut Table, dual: &mut Table, vertices: u32)
     requires below { All (λ e. VertexBelow vertices (entry_of e)) entries.now }
     requires hopeful_zeros { hopeful.old ≡ replicate vertices 0 }

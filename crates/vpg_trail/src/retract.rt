@@ -1,4 +1,4 @@
-//! What stays of a page once a decision is retracted.
+//! The entries of a page that stay once a decision is retracted.
 ghost use Rattle.std.specs.Prelude.{[], ◌≡◌, ◌+◌, ◌<◌, length, map, filter, not, take, drop, replicate, All, option_to_list, IfOk, IfSome};
 ghost use Rattle.vpg_trail.specs.Page.{Hopeful, Dual, assumes as assumes_of, reset_all};
 ghost use Rattle.vpg_trail.specs.Shown.{entry_of, VertexBelow, what_stays};
@@ -10,8 +10,7 @@ use std::alloc::{AllocError, Global};
 use vpg_measure::Table;
 use vpg_verdict::Which;
 
-/// What stays of an entry: nothing of a lift that assumed the feature, else the entry with the old value that the
-/// tables give.
+/// Returns nothing for a lift that assumed the feature; else the entry with the old value that the tables give.
 fn reset_entry(
     entry: &Entry,
     feature: u16,
@@ -59,8 +58,9 @@ fn zeros(alloc: Global, vertices: u32) -> Result<Table, AllocError>
     Ok(Table::of(vec![in alloc; 0; vertices as usize]?))
 }
 
-/// What stands after the decision at `place`, on this feature, once it is retracted: the later entries in their order,
-/// without each lift that assumed the feature, with the old values that the entries now before them give.
+/// Returns the entries after the decision at `place`, on this feature, once it is retracted. These are the later
+/// entries in their order, without each lift that assumed the feature. They have the old values that the entries now
+/// before them give.
 pub fn kept_after(
     alloc: Global,
     entries: &[Entry],

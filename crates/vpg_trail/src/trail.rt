@@ -19,7 +19,7 @@ pub struct Trail {
     dual: Table,
 }
 
-// Not derived, so that letting one go is one call: a derived way would be proved anew at each exit that owns one.
+// Not derived: a derived `drop` would be proved again at each exit that owns such a value.
 impl Drop for Trail {
     fn drop(self) {
         let Trail {
@@ -61,7 +61,7 @@ fn exchange(
     Ok(())
 }
 
-/// How many entries are decisions.
+/// Returns the number of decisions among the entries.
 fn count_decisions(entries: &[Entry]) -> usize
     ensures { result ≡ length (decisions_of (map entry_of entries.now)) }
 {
@@ -96,7 +96,8 @@ impl Trail {
         })
     }
 
-    /// The entries in their order. Each lift's old value is what the entries before it give, below its new one.
+    /// Returns the entries in their order. Each lift's old value is the one that the entries before it give, below its
+    /// new one.
     pub fn entries(&self) -> &[Entry]
         ensures entries { map entry_of result.now ≡ self.now.entries }
         ensures vertices { All (λ e. VertexBelow self.now.vertices (entry_of e)) result.now }
@@ -105,28 +106,28 @@ impl Trail {
         self.entries.as_slice()
     }
 
-    /// The number of vertices.
+    /// Returns the number of vertices.
     pub fn vertices(&self) -> u32
         ensures { result ≡ self.now.vertices }
     {
         self.vertices
     }
 
-    /// The first table.
+    /// Returns the hopeful table.
     pub fn hopeful(&self) -> &Table
         ensures { result.now ≡ table_of Hopeful self.now.entries self.now.vertices }
     {
         &self.hopeful
     }
 
-    /// The second table.
+    /// Returns the dual table.
     pub fn dual(&self) -> &Table
         ensures { result.now ≡ table_of Dual self.now.entries self.now.vertices }
     {
         &self.dual
     }
 
-    /// Both tables.
+    /// Returns both tables.
     pub fn tables(&self) -> (&Table, &Table)
         ensures hopeful { result.0.now ≡ table_of Hopeful self.now.entries self.now.vertices }
         ensures dual { result.1.now ≡ table_of Dual self.now.entries self.now.vertices }
@@ -134,7 +135,7 @@ impl Trail {
         (&self.hopeful, &self.dual)
     }
 
-    /// The number of decisions among the first entries.
+    /// Returns the number of decisions among the first entries.
     pub fn level(&self, place: usize) -> usize
         requires { place ≤ length self.now.entries }
         ensures { result ≡ length (decisions_of (take place self.now.entries)) }
@@ -142,8 +143,8 @@ impl Trail {
         count_decisions(&self.entries[..place])
     }
 
-    /// Puts one entry behind the others. A lift's old value is what they give, below its new one. The entry comes back
-    /// where memory was refused; the trail is then as it was.
+    /// Appends one entry. A lift's old value is the one that the others give, below its new one. The entry comes back
+    /// if memory was refused; the trail is then as it was.
     pub fn append(&mut self, entry: Entry) -> Result<(), AllocFailed<Entry>>
         requires vertices { VertexBelow self.old.vertices (entry_of entry) }
         requires lifts { LiftStands self.old.entries (entry_of entry) }
@@ -160,8 +161,8 @@ impl Trail {
         Ok(())
     }
 
-    /// Puts these entries behind the others. Each lift's old value is what the entries before it give, below its new
-    /// one. The entries come back where memory was refused; the trail is then as it was.
+    /// Appends these entries. Each lift's old value is the one that the entries before it give, below its new one. The
+    /// entries come back if memory was refused; the trail is then as it was.
     pub fn extend(&mut self, more: Vec<Entry>) -> Result<(), AllocFailed<Vec<Entry>>>
         requires vertices { All (λ e. VertexBelow self.old.vertices (entry_of e)) more.items }
         requires lifts { LiftsStandAfter self.old.entries (map entry_of more.items) }
@@ -179,9 +180,9 @@ impl Trail {
         Ok(())
     }
 
-    /// Puts the suffix in place of the entries from a place on, and gives those. Each lift's old value is what the
-    /// entries before it give, below its new one. The tables change by the lifts of both suffixes alone. The suffix
-    /// comes back where memory was refused; the trail is then as it was.
+    /// Puts the suffix in place of the entries from a place on, and returns those. Each lift's old value is the one
+    /// that the entries before it give, below its new one. The tables change by the lifts of both suffixes alone. The
+    /// suffix comes back if memory was refused; the trail is then as it was.
     pub fn splice(
         &mut self,
         place: usize,

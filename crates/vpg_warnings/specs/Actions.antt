@@ -1,4 +1,4 @@
--- Which actions of requirements no transition has, and which actions of transitions no requirement names. This
+-- The actions of requirements that no transition has, and the actions of transitions that no requirement names. This
 -- project's own.
 use Rattle.std.specs.Prelude.{ℕ, Bool, false, not, ◌||◌, if◌then◌else◌, List, map, filter, codes, bytes_eq, Option, Some, None}
 use Rattle.std.specs.List.{list_any}

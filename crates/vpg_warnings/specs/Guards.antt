@@ -1,4 +1,4 @@
--- Which guards of a system no product meets, as far as propagation shows it. This project's own.
+-- The guards of a system that no product meets, as far as propagation shows it. This project's own.
 use Rattle.std.specs.Prelude.{◌≡◌, ◌≢◌, ◌≤◌, ◌<◌, ◌⊎◌, ℕ, Bool, true, false, List, [], ◌∷◌, ◌++◌, length, Contains, slice_index_or}
 use Rattle.vpg_guards.specs.declared.tri.Tri.{Tri}
 use Rattle.vpg_guards.specs.declared.tri.Tri.TheVariants.{No}
@@ -25,16 +25,16 @@ AreTried guard features = (f : ℕ) → Contains (named guard) f → Contains fe
 abbrev pub decided : ℕ → Bool → Literal
 decided f value = record { feature = f; value = value }
 
--- Each of the features can be decided, behind these choices, so that propagation finds no contradiction and the guard
--- is not known to be false.
+-- Each of the features can be decided, after these choices, so that propagation finds no contradiction and the guard is
+-- not known to be false.
 pub data IsOpen (lines : List Line) (guard : Formula) : List ℕ → List Literal → Type 0 where
   left : {choices : List Literal} (known : List Tri) → IsKnownTable lines choices known → kleene known guard ≢ No →
       IsOpen lines guard [] choices
   choose : {f : ℕ} {features : List ℕ} {choices : List Literal} (value : Bool) →
       IsOpen lines guard features (choices ++ decided f value ∷ []) → IsOpen lines guard (f ∷ features) choices
 
--- No way to decide the features is left: choices contradict each other, or make the guard known false, or nothing is
--- left where the next feature is in, and nothing where it is out.
+-- No way to decide the features is left. The choices contradict each other, or make the guard known false, or no way is
+-- left with the next feature in, and none with it out.
 pub data IsRefuted (lines : List Line) (guard : Formula) : List ℕ → List Literal → Type 0 where
   contradicted : {features : List ℕ} {choices : List Literal} (f : ℕ) →
       NamesConflict (clauses_of lines) (counts_of lines) choices f → IsRefuted lines guard features choices
@@ -44,7 +44,7 @@ pub data IsRefuted (lines : List Line) (guard : Formula) : List ℕ → List Lit
       IsRefuted lines guard features (choices ++ decided f true ∷ []) →
       IsRefuted lines guard features (choices ++ decided f false ∷ []) → IsRefuted lines guard (f ∷ features) choices
 
--- what is told of a guard whose features are to be decided behind choices: no way is left, or one is
+-- the answer for a guard with features to be decided after choices: no way is left, or one is
 abbrev pub IsFound : List Line → Formula → List ℕ → List Literal → Bool → Type 0
 IsFound lines guard features choices true = IsRefuted lines guard features choices
 IsFound lines guard features choices false = IsOpen lines guard features choices
@@ -55,18 +55,18 @@ pub record IsLeftOpen (lines : List Line) (guard : Formula) : Type 0 where
   pub tried : AreTried guard features
   pub is_open : IsOpen lines guard features []
 
--- what a mark says of a guard: no product meets it, or it is left open
+-- the meaning of a mark for a guard: no product meets it, or it is left open
 abbrev pub IsJudged : List Line → Formula → Bool → Type 0
 IsJudged lines guard true = IsUnmet lines guard
 IsJudged lines guard false = IsLeftOpen lines guard
 
--- the marks of so many transitions, each of which says what holds of the guard
+-- the marks of this many transitions, each true of the transition's guard
 pub record AreJudged (lines : List Line) (transitions : List Transition) (n : ℕ) (marks : List Bool) : Type 0 where
   pub count : length marks ≡ n
   pub each : (t : ℕ) → t < n →
       IsJudged lines (slice_index_or transitions t no_transition).guard (slice_index_or marks t false)
 
--- The numbers of the transitions whose guards no product meets, in order. Each other guard is left open.
+-- The numbers of the transitions with guards that no product meets, in order. Each other guard is left open.
 pub record AreUnmet (lines : List Line) (transitions : List Transition) (found : List ℕ) : Type 0 where
   pub marks : List Bool
   pub judged : AreJudged lines transitions (length transitions) marks

@@ -1,4 +1,4 @@
--- Which states of a system cannot be reached: there is no path to them. This project's own.
+-- The states of a system that cannot be reached: there is no path to them. This project's own.
 use Rattle.std.specs.Prelude.{ℕ, ◌<◌, ◌↔◌, List, Contains}
 use Rattle.vpg_system.specs.SystemText.{NamedSystem}
 use Rattle.vpg_system_draw.specs.Reached.{Leads, Step}

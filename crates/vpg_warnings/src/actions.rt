@@ -27,7 +27,7 @@ fn is_blank(byte: u8) -> bool
     matches!(byte, b' ' | b'\t' | b'\r' | b'\n')
 }
 
-/// A text but for its blanks.
+/// Returns a text without its blanks.
 fn without_blanks(alloc: Global, text: &[u8]) -> Result<Vec<u8>, AllocError>
     ensures { IfOk result (λ v. v.items ≡ labels.without_blanks text.now) }
 {
@@ -49,7 +49,7 @@ fn is_named(alloc: Global, label: &Label, name: &[u8]) -> Result<bool, AllocErro
     Ok(is_same(bare.as_slice(), other.as_slice()))
 }
 
-/// The label that a word of an action formula is.
+/// Returns the label that a word of an action formula spells.
 fn action_label(alloc: Global, word: &[u8]) -> Result<Option<Label>, AllocError>
     ensures { IfOk result (λ found. found ≡ action_label word.now) }
 {
@@ -82,7 +82,8 @@ fn is_unknown(alloc: Global, system: &System, word: &[u8]) -> Result<bool, Alloc
 }
 
 /// Returns the words of a text of requirements that name an action that no transition has, each with its place, in the
-/// order of the text. Names are compared as for requirements: those in quotes byte for byte, and others but for blanks.
+/// order of the text. Names are compared as for requirements: those in quotes byte for byte, and others without their
+/// blanks.
 pub fn unknown_actions<'t>(
     alloc: Global,
     system: &System,
@@ -130,7 +131,7 @@ fn is_mentioned(alloc: Global, words: &[PlacedWord<'_>], name: &[u8]) -> Result<
     Ok(false)
 }
 
-/// For each action whether words of action formulas do not mention it.
+/// Returns for each action whether words of action formulas do not mention it.
 fn unmentioned(
     alloc: Global,
     system: &System,

@@ -18,7 +18,7 @@ use vpg_system::System;
 /// The most features of a guard that are tried, as the work doubles with each.
 pub const MOST_TRIED: usize = 6;
 
-/// These decisions, and one behind them.
+/// Returns these decisions, and one after them.
 fn with(
     alloc: Global,
     decisions: &[Decision],
@@ -67,7 +67,7 @@ fn is_closed(
     }
 }
 
-/// Whether no way to decide the features is left, behind these decisions.
+/// Returns whether no way to decide the features is left, after these decisions.
 fn is_refuted(
     alloc: Global,
     diagram: &Diagram,
@@ -122,7 +122,7 @@ fn note(features: &mut Vec<u16>, feature: u16) -> Result<(), AllocError>
     Ok(())
 }
 
-/// The features of these that are tried.
+/// Returns the features of these that are tried.
 fn tried_of(alloc: Global, named: &[u16]) -> Result<Vec<u16>, AllocError>
     ensures { IfOk result (λ features. AreTriedOf named.now features.items) }
 {
@@ -133,7 +133,7 @@ fn tried_of(alloc: Global, named: &[u16]) -> Result<Vec<u16>, AllocError>
     Ok(features)
 }
 
-/// The features of a guard that are tried.
+/// Returns the features of a guard that are tried.
 fn tried(alloc: Global, guard: &Guard) -> Result<Vec<u16>, AllocError>
     ensures { IfOk result (λ features. AreTriedOf (named (formula_of guard.now)) features.items) }
 {
@@ -147,20 +147,20 @@ fn is_unmet(alloc: Global, diagram: &Diagram, guard: &Guard) -> Result<bool, All
     requires { IsBelow (feature_count diagram.now.lines) (formula_of guard.now) }
     ensures { IfOk result (IsJudged diagram.now.lines (formula_of guard.now)) }
 {
-    // `features` tells what every diagram has.
+    // The contract of `features` states the invariant of every diagram.
     let _features = diagram.features();
     let features = tried(alloc, guard)?;
     is_refuted(alloc, diagram, guard, &features, &[])
 }
 
-/// How many transitions there are.
+/// Returns the number of transitions.
 fn transition_count(system: &System) -> usize
     ensures { result ≡ length system.now.transitions }
 {
     system.transitions().len()
 }
 
-/// The guard of the transition of a number.
+/// Returns the guard of the transition of a number.
 fn guard_at(system: &System, at: usize) -> &Guard
     requires { at < length system.now.transitions }
     ensures value { formula_of result.now ≡ (slice_index_or system.now.transitions at no_transition).guard }
@@ -170,7 +170,7 @@ fn guard_at(system: &System, at: usize) -> &Guard
     &transitions[at].guard
 }
 
-/// For each transition whether no product meets its guard, as far as propagation shows it.
+/// Returns for each transition whether no product meets its guard, as far as propagation shows it.
 fn unmet_marks(alloc: Global, diagram: &Diagram, system: &System) -> Result<Vec<bool>, AllocError>
     requires { system.now.features ≡ feature_count diagram.now.lines }
     ensures { IfOk result (λ marks. AreJudged diagram.now.lines system.now.transitions
@@ -183,10 +183,10 @@ fn unmet_marks(alloc: Global, diagram: &Diagram, system: &System) -> Result<Vec<
     Ok(marks)
 }
 
-/// Returns the numbers of the transitions whose guards no product of the diagram meets, in order, as far as propagation
-/// shows it: the features that a guard names, or six of them, are decided in each way, and each way contradicts the
-/// diagram or makes the guard known false. Each other guard is left open by one way. In a diagram that has no product
-/// these are all transitions.
+/// Returns the numbers of the transitions with guards that no product of the diagram meets, in order, as far as
+/// propagation shows it. The features that a guard names, or six of them, are decided in each way, and each way
+/// contradicts the diagram or makes the guard known false. Each other guard is left open by one way. In a diagram that
+/// has no product these are all transitions.
 pub fn unmet_guards(
     alloc: Global,
     diagram: &Diagram,

@@ -1,12 +1,13 @@
-//! What looks wrong in a featured transition system and its requirements.
+//! Warnings of a featured transition system and its requirements.
 //!
-//! `unreached_states` are the states that no transitions lead to from the first one. `unmet_guards` are the transitions
-//! whose guards no product of the diagram meets, as far as propagation shows it. `unknown_actions` are the words of a
-//! text of requirements that name an action that no transition has, and `unnamed_actions` the actions that no
-//! requirement names. The layer above says where they stand, and in which words.
+//! `unreached_states` returns the states that no transitions lead to from the first one. `unmet_guards` returns the
+//! transitions with guards that no product of the diagram meets, as far as propagation shows it. `unknown_actions`
+//! returns the words of a text of requirements that name an action that no transition has, and `unnamed_actions` the
+//! actions that no requirement names. The layer above says where they stand, and in which words.
 //!
-//! `specs/States` says which states those are, by paths; `specs/Guards` which guards, by the diagram's products, and
-//! what is tried; `specs/Actions` which actions, by the words of a text; `specs/Numbers` has marks and their numbers.
+//! `specs/States` defines these states, by paths; `specs/Guards` the guards, by the diagram's products, and the
+//! features that are tried; `specs/Actions` the actions, by the words of a text; `specs/Numbers` has marks and their
+//! numbers.
 #![tactic(auto)]
 
 mod actions;

@@ -4,7 +4,7 @@ ghost use Rattle.vpg_warnings.specs.Numbers.{numbers_from};
 
 use std::alloc::{AllocError, Global};
 
-/// The numbers of the marks that are true, in order.
+/// Returns the numbers of the marks that are true, in order.
 pub(crate) fn numbers_of(alloc: Global, marks: &[bool]) -> Result<Vec<usize>, AllocError>
     ensures { IfOk result (λ numbers. numbers.items ≡ numbers_from 0 marks.now) }
 {

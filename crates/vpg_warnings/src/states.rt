@@ -7,7 +7,7 @@ use std::alloc::{AllocError, Global};
 use vpg_system::System;
 use vpg_system_draw::reachable_by_any;
 
-/// For each mark whether it is false.
+/// Returns for each mark whether it is false.
 fn unmarked(alloc: Global, marks: &[bool]) -> Result<Vec<bool>, AllocError>
     ensures { IfOk result (λ others. others.items ≡ map not marks.now) }
 {

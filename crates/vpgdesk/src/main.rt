@@ -1,7 +1,7 @@
 //! `vpgdesk` configures product families whose behaviour is a variability parity game.
 //!
-//! What its words are, what it writes and how it ends stands at the head of `vpg_program`, whose `program` it calls.
-//! Its stored run carries out a script on the family that is built in, and ends with status 0.
+//! Its words, its output and its statuses are described at the head of `vpg_program`; it calls `program` there. Its
+//! stored run carries out a script on the built-in family, and ends with status 0.
 #![tactic(auto)]
 
 use std::process::ExitCode;

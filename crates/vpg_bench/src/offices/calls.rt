@@ -10,7 +10,7 @@ pub(crate) struct Seat<L: Terms> {
     pub(crate) front: Front<L>,
 }
 
-// Not derived, so that letting one go is one call.
+// Not derived: a derived `drop` would be proved again at each exit that owns such a value.
 impl<L: Terms> Drop for Seat<L> {
     fn drop(self) {
         let Seat {
@@ -46,15 +46,15 @@ pub(crate) enum Call {
     /// A copy of the front, which a front of before all calls meets.
     Meet,
     Watch,
-    /// What the watch reads.
+    /// The sheet of the watch.
     Read,
-    /// What the harvest and its order tell, and what is made of them.
+    /// The values of the harvest and its order, and those made of them.
     Carry,
     /// Opens the office.
     Open,
     /// Closes the office.
     Close,
-    /// Ends the office, and hands so many tokens in.
+    /// Ends the office, and hands this many tokens in.
     End(usize),
 }
 
@@ -81,7 +81,7 @@ impl Call {
             )
     }
 
-    /// How many tokens are held as the office is ended or closed.
+    /// Returns the number of tokens that are held as the office is ended or closed.
     pub(crate) fn tokens(self) -> usize {
         match self {
             Call::End(tokens) => tokens,
@@ -90,7 +90,7 @@ impl Call {
     }
 }
 
-/// A further session.
+/// Returns the seat of a further session.
 pub(crate) fn joined<L: Terms, R: Wait>(rt: &R, office: &Office<L>) -> Option<Seat<L>> {
     match office.join(rt) {
         Ok((session, front)) => Some(Seat { session, front }),
@@ -98,7 +98,7 @@ pub(crate) fn joined<L: Terms, R: Wait>(rt: &R, office: &Office<L>) -> Option<Se
     }
 }
 
-/// How a refused call ended. Whoever lets a fault go himself takes the prover seconds.
+/// Returns the end of a refused call. A function that drops a fault itself takes the prover seconds.
 pub(crate) fn end_of<L: Terms, F: Drop>(fault: Fault<L, F>) -> End {
     match fault {
         Fault::Memory => End::Memory,
@@ -106,7 +106,7 @@ pub(crate) fn end_of<L: Terms, F: Drop>(fault: Fault<L, F>) -> End {
     }
 }
 
-/// The serial of the token that is held.
+/// Returns the serial of the token that is held.
 pub(crate) fn serial_of<L: Terms>(held: &Held<L>) -> Option<u64> {
     match held {
         Held::Nothing => None,
@@ -115,7 +115,7 @@ pub(crate) fn serial_of<L: Terms>(held: &Held<L>) -> Option<u64> {
     }
 }
 
-/// The call that spends the token that is held.
+/// Returns the call that spends the token that is held.
 fn spending<L: Terms>(held: &Held<L>) -> Option<Call> {
     match held {
         Held::Nothing => None,
@@ -124,7 +124,7 @@ fn spending<L: Terms>(held: &Held<L>) -> Option<Call> {
     }
 }
 
-/// The token of a change, and how that ended.
+/// Returns the token of a change, and the call's end.
 fn changed<L: Terms, F: Drop>(answer: Result<Undo<L>, Fault<L, F>>) -> (Held<L>, End) {
     match answer {
         Ok(token) => (Held::Undo(token), End::Done),
@@ -132,8 +132,8 @@ fn changed<L: Terms, F: Drop>(answer: Result<Undo<L>, Fault<L, F>>) -> (Held<L>,
     }
 }
 
-/// Makes a call that gives a token or spends one: what is held then, and how it ended. Undo and keep need the token of
-/// a change, redo and forget that of an undone one, and a change needs that none is held.
+/// Makes a call that gives a token or spends one. Returns the token that is held then, and the call's end. Undo and
+/// keep need the token of a change, redo and forget that of an undone one, and a change needs that none is held.
 pub(crate) fn made<L: Terms, R: Wait>(
     rt: &R,
     alloc: Global,
@@ -176,7 +176,7 @@ pub(crate) fn made<L: Terms, R: Wait>(
     }
 }
 
-/// Spends the token that is held, if one is: what is held then. A call that is refused gives it back.
+/// Spends the token that is held, if one is. Returns the token that is held then. A call that is refused returns it.
 pub(crate) fn spent<L: Terms, R: Wait>(
     rt: &R,
     alloc: Global,

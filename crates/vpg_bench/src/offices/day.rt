@@ -1,5 +1,5 @@
 //! A day of two sessions of one office, each in a thread of its own: one lifts while the other decides. Then the page
-//! is settled, and the decision is taken back by its token.
+//! is settled, and the decision is undone by its token.
 
 use crate::offices::calls::{Call, Held, Seat, end_of, joined, made};
 use crate::offices::watcher::is_read;
@@ -15,10 +15,10 @@ use vpg_scarce::End;
 /// The feature that is decided.
 const FEATURE: u16 = 1;
 
-/// Lets a harvest go that isn't taken, here alone.
+/// Drops a harvest that isn't taken, here alone.
 fn let_go(_harvest: Harvest) {}
 
-/// Takes an order, lifts until both tables are settled, and commits: how many lifts that added.
+/// Takes an order, lifts until both tables are settled, and commits. Returns how many lifts that added.
 fn lifts<L: Terms, R: Wait>(
     rt: &R,
     alloc: Global,
@@ -40,7 +40,7 @@ fn lifts<L: Terms, R: Wait>(
     }
 }
 
-/// As `lifts`, by a session of its own.
+/// Lifts as `lifts` does, by a session of its own.
 fn lifts_once<L: Terms, R: Wait>(
     rt: &R,
     alloc: Global,
@@ -50,8 +50,8 @@ fn lifts_once<L: Terms, R: Wait>(
     lifts(rt, alloc, office, &mut seat)
 }
 
-/// One session lifts while the other decides the feature out: how many lifts that added, what is held of the decision,
-/// and how that ended.
+/// One session lifts while the other decides the feature out. Returns how many lifts that added, the token of the
+/// decision, and the call's end.
 fn works<L: Terms + Send + Sync, R: Threads + Wait + Sync>(
     rt: &R,
     alloc: Global,
@@ -76,8 +76,8 @@ fn works<L: Terms + Send + Sync, R: Threads + Wait + Sync>(
     (lifted, decided)
 }
 
-/// Settles the page, and takes the decision back once the watcher has read what is said then. It waits for the watcher
-/// again behind that. What is held then, and why that was not done.
+/// Settles the page, and undoes the decision once the watcher has read the sheet. After that it waits for the watcher
+/// again. Returns the token that is held then, or why that was not done.
 fn settles_and_undoes<L: Terms, R: Wait>(
     rt: &R,
     alloc: Global,
@@ -103,12 +103,12 @@ fn settles_and_undoes<L: Terms, R: Wait>(
     (held, stopped)
 }
 
-/// Whether a decision was taken back.
+/// Whether a decision was undone.
 fn is_undone<L: Terms>(held: &Held<L>) -> bool {
     matches!(held, Held::Redo(_))
 }
 
-/// What came of the work of two.
+/// Returns the result of the work of two.
 fn done_by_two(
     stopped: Option<Stopped>,
     added: Option<u32>,
@@ -121,7 +121,7 @@ fn done_by_two(
     }
 }
 
-/// Two sessions work, and the decision is taken back: how many lifts were added, and the token that is left.
+/// Two sessions work, and the decision is undone. Returns how many lifts were added, and the token that is left.
 fn work_of<L: Terms + Send + Sync, R: Threads + Wait + Sync>(
     rt: &R,
     alloc: Global,
@@ -139,7 +139,7 @@ fn work_of<L: Terms + Send + Sync, R: Threads + Wait + Sync>(
     (done_by_two(stopped, added, is_undone(&held)), held)
 }
 
-/// Two sessions join and work, once the watcher has read what is said at the opening.
+/// Two sessions join and work, once the watcher has read the sheet of the opening.
 pub(crate) fn work_in_two<L: Terms + Send + Sync, R: Threads + Wait + Sync>(
     rt: &R,
     alloc: Global,

@@ -1,4 +1,4 @@
-//! Reading beside sessions that change the page: by watches, and of the same sheet behind a mutex.
+//! Reading beside sessions that change the page: by watches, and of the same sheet under a mutex.
 use std::sync::atomic::{AtomicU64, Ordering};
 use std::sync::{Arc, Mutex, Wait};
 use vpg_office::{Front, Terms, read};
@@ -7,7 +7,7 @@ use vpg_watch::{Sheet, Watch};
 /// The sheet of an office that a session last put there.
 pub type Shown<L> = Mutex<Option<Arc<Sheet<Front<L>>>>>;
 
-/// A further owner of the sheet that is shown.
+/// Returns a further owner of the sheet that is shown.
 fn again<L: Terms>(shown: &Option<Arc<Sheet<Front<L>>>>) -> Option<Arc<Sheet<Front<L>>>> {
     match shown {
         Some(sheet) => Arc::try_clone(sheet).ok(),
@@ -15,7 +15,7 @@ fn again<L: Terms>(shown: &Option<Arc<Sheet<Front<L>>>>) -> Option<Arc<Sheet<Fro
     }
 }
 
-/// Whether the watch reads a sheet that tells something; where there is none, whether one is shown behind the mutex.
+/// Whether the watch reads a sheet with verdicts; without a watch, whether one is shown under the mutex.
 fn reads<L: Terms, R: Wait>(rt: &R, watch: &mut Option<Watch<Front<L>>>, shown: &Shown<L>) -> bool {
     let sheet = match watch {
         Some(watch) => read(watch).ok(),
@@ -27,7 +27,7 @@ fn reads<L: Terms, R: Wait>(rt: &R, watch: &mut Option<Watch<Front<L>>>, shown: 
     }
 }
 
-/// Reads so until the changes have ended: how many sheets.
+/// Reads so until the changes have ended. Returns how many sheets.
 pub fn read_on<L: Terms, R: Wait>(
     rt: &R,
     watch: &mut Option<Watch<Front<L>>>,
@@ -46,7 +46,7 @@ pub fn read_on<L: Terms, R: Wait>(
     unreachable!()
 }
 
-/// Puts the sheet that a watch reads behind the mutex, if there is a watch. Whether no sheet was lacking.
+/// Puts the sheet that a watch reads under the mutex, if there is a watch. Returns whether no sheet was missing.
 pub fn show<L: Terms, R: Wait>(
     rt: &R,
     watch: &mut Option<Watch<Front<L>>>,

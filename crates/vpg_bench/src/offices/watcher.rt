@@ -1,4 +1,4 @@
-//! A watcher in a thread of its own: it prints what is said of a vertex as that changes, until the office has ended.
+//! A watcher in a thread of its own: it prints the verdicts of a vertex as they change, until the office has ended.
 use std::io;
 use std::sync::Wait;
 use std::sync::atomic::{AtomicU64, Ordering};
@@ -7,10 +7,11 @@ use vpg_office::{Front, Terms, read};
 use vpg_verdict::Verdict;
 use vpg_watch::Watch;
 
-/// How often a session looks whether the watcher has read its call.
+/// The number of times that a session looks whether the watcher has read its call.
 const MOST_LOOKS: u32 = 10_000_000;
 
-/// Of how many calls the sheet is that is shown, and what it says of vertex 0. Nothing once the office has ended.
+/// Returns the number of calls of the sheet that is shown, and its verdict of vertex 0. Nothing once the office has
+/// ended.
 fn told<L: Terms>(watch: &mut Watch<Front<L>>) -> Option<(u32, Verdict)> {
     let sheet = read(watch).ok()?;
     let verdict = sheet.verdicts.as_slice().first()?;
@@ -48,8 +49,8 @@ pub fn follow<L: Terms, R: Wait + Print>(rt: &R, watch: Watch<Front<L>>, seen: &
     unreachable!()
 }
 
-/// Waits until the watcher has read a sheet of so many calls, but not for ever: a sheet that finds no memory is left
-/// out, and is not made later. What it says can be read nowhere else, so then the watcher's lines can't be whole.
+/// Waits until the watcher has read a sheet of this many calls, but not for ever: a sheet that finds no memory is left
+/// out, and is not made later. Its verdicts can be read nowhere else, so then the watcher's lines can't be whole.
 pub fn is_read(seen: &AtomicU64, calls: usize) -> bool {
     for _ in 0..MOST_LOOKS {
         if seen.load(Ordering::SeqCst) > calls as u64 {

@@ -18,11 +18,11 @@ pub enum Step {
     Undo,
     /// Spends the token that is held.
     Spend,
-    /// Puts the sheet that a watch reads behind the mutex.
+    /// Puts the sheet that a watch reads under the mutex.
     Show,
 }
 
-/// Spends a token. It can't be let go, so a call that is refused is made again: the log has to have room for it.
+/// Spends a token. It can't be dropped, so a call that is refused is made again: the log has to have room for it.
 fn spend<L: Terms, R: Wait>(
     rt: &R,
     alloc: Global,
@@ -40,13 +40,13 @@ fn spend<L: Terms, R: Wait>(
     unreachable!()
 }
 
-/// Where the calls of a session stand in the log, from 1.
+/// The places of a session's calls in the log, from 1.
 #[derive(Clone, Copy)]
 struct Places {
     last: usize,
     /// The sum of the places.
     sum: u64,
-    /// Whether each stands behind the one before.
+    /// Whether each stands after the one before.
     in_order: bool,
 }
 
@@ -59,10 +59,10 @@ impl Places {
     }
 }
 
-/// What is done in a thread of its own.
+/// The work in a thread of its own.
 #[derive(Clone, Copy)]
 pub enum Part {
-    /// Makes these steps so often, about this feature or that of the session's number.
+    /// Makes these steps a number of times, about this feature or that of the session's number.
     Call {
         steps: &'static [Step],
         feature: Option<u16>,
@@ -70,25 +70,25 @@ pub enum Part {
     },
     /// Reads by a watch until the calls have ended.
     Read,
-    /// Reads behind the mutex until then.
+    /// Reads under the mutex until then.
     Look,
     /// Has a watch that nobody reads.
     Idle,
 }
 
-/// A job. Whoever makes calls joins in its thread.
+/// A job. A session that makes calls joins in its thread.
 #[derive(Drop)]
 pub struct Job<L: Terms> {
     watch: Option<Watch<Front<L>>>,
     part: Part,
     places: Places,
-    /// How many sheets were read.
+    /// The number of sheets that were read.
     reads: u64,
     /// Whether no call was refused.
     is_done: bool,
 }
 
-/// The call of a step.
+/// Returns the call of a step.
 fn call_of(step: Step, feature: u16) -> Call {
     match step {
         Step::Decide => Call::Decide(feature, true),
@@ -97,7 +97,7 @@ fn call_of(step: Step, feature: u16) -> Call {
     }
 }
 
-/// A feature's steps in their order, each call noted.
+/// Makes a feature's steps in their order, each call noted.
 fn round<L: Terms, R: Wait>(
     rt: &R,
     alloc: Global,
@@ -132,7 +132,7 @@ fn round<L: Terms, R: Wait>(
     spend(rt, alloc, office, seat, held);
 }
 
-/// So many rounds, unless a call is refused, on this feature or that of the session's number.
+/// Makes this many rounds, unless a call is refused, on this feature or that of the session's number.
 fn rounds<L: Terms, R: Wait>(
     rt: &R,
     alloc: Global,
@@ -152,7 +152,7 @@ fn rounds<L: Terms, R: Wait>(
     }
 }
 
-/// Does a job. Whoever makes calls joins here, beside the others, and tells that the calls have ended.
+/// Does a job. A session that makes calls joins here, beside the others, and reports that the calls have ended.
 fn work<L: Terms, R: Wait>(
     rt: &R,
     alloc: Global,
@@ -185,7 +185,7 @@ fn work<L: Terms, R: Wait>(
 /// More than there are jobs.
 const MOST_JOBS: usize = 1024;
 
-/// Does each job in a thread of its own. Where no thread can be made, the last goes first.
+/// Does each job in a thread of its own. If no thread can be made, the last goes first.
 fn at_once<L: Terms + Send + Sync, R: Threads + Wait + Sync>(
     rt: &R,
     alloc: Global,
@@ -202,8 +202,8 @@ fn at_once<L: Terms + Send + Sync, R: Threads + Wait + Sync>(
     );
 }
 
-/// Adds a job, with a watch where it needs one. The sheet that the watch of whoever makes calls reads now is put behind
-/// the mutex. Whether all was had.
+/// Adds a job, with a watch if it needs one. The sheet that the watch of a caller reads now is put under the mutex.
+/// Returns whether there was memory for all.
 fn add_job<L: Terms, R: Wait>(
     rt: &R,
     office: &Office<L>,
@@ -246,14 +246,14 @@ const SHOWN_CHANGE: &[Step] = &[
     Step::Spend,
 ];
 
-/// Who is at work: so many who read or look on, and then so many who call.
+/// The sessions at work: this many that read or look on, and then this many that call.
 #[derive(Clone, Copy)]
 struct Plan {
     readers: u32,
     reader: Part,
     callers: u32,
     caller: Part,
-    /// Whether the sheets of the calls are put behind the mutex.
+    /// Whether the sheets of the calls are put under the mutex.
     shows: bool,
 }
 
@@ -328,8 +328,8 @@ fn add_jobs<L: Terms, R: Wait>(
     true
 }
 
-/// What came of jobs where no call was refused: how many reads there were, or whether the calls of each session stand
-/// in order, and the sum of all places is that of the first `calls` numbers from 1.
+/// Returns the result of jobs if no call was refused. It has the number of reads, or whether each session's calls stand
+/// in order and all places add up to the sum of the first `calls` numbers from 1.
 fn done_by<L: Terms>(jobs: &[Job<L>], task: Task, calls: usize) -> Option<Done> {
     let mut in_order = true;
     let mut sum = 0u64;
@@ -352,7 +352,7 @@ fn done_by<L: Terms>(jobs: &[Job<L>], task: Task, calls: usize) -> Option<Done> 
     })
 }
 
-/// Has sessions work at once, each in a thread of its own: what came of that, unless something is lacking or a call is
+/// Has sessions work at once, each in a thread of its own. Returns the result, unless something is missing or a call is
 /// refused.
 pub fn work_at_once<L: Terms + Send + Sync, R: Threads + Wait + Sync>(
     rt: &R,

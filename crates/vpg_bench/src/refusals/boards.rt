@@ -17,16 +17,16 @@ use vpg_verdict::Which;
 /// More memory than a sweep by two lifters takes, hints and all.
 const PLENTY: usize = 1 << 16;
 
-/// What is done with an order.
+/// The work on an order.
 #[derive(Clone, Copy)]
 enum Work {
     /// A board of it is opened and closed.
     Board,
-    /// It is swept by so many lifters.
+    /// It is swept by this many lifters.
     Sweep(u32),
 }
 
-/// The order after a board is opened and closed, and how that ended.
+/// Returns the order after a board is opened and closed, and how that ended.
 fn use_board(alloc: Global, order: Order) -> (Order, End) {
     match Board::open(alloc, order) {
         Ok((board, seat)) => match board.close(alloc, seat) {
@@ -37,7 +37,7 @@ fn use_board(alloc: Global, order: Order) -> (Order, End) {
     }
 }
 
-/// The order after work on it, and how that ended.
+/// Returns the order after work on it, and how that ended.
 fn worked<R: Threads + Wait + Sync>(
     rt: &R,
     alloc: Global,
@@ -54,7 +54,8 @@ fn worked<R: Threads + Wait + Sync>(
     }
 }
 
-/// The same with so much memory. A method of `Trial` can't: what is handed to threads is not proved below one yet.
+/// Does work with this much memory. A method of `Trial` can't: values that are handed to threads are not yet proved
+/// below one.
 fn worked_within<R: Threads + Wait + Sync>(
     rt: &R,
     heap: &mut Heap,
@@ -68,8 +69,8 @@ fn worked_within<R: Threads + Wait + Sync>(
     worked
 }
 
-/// What comes of work again and again with more and more memory, from none until it is done with so many bytes or more,
-/// and the order then.
+/// Does work again and again with more and more memory, from none until it is done with this many bytes or more.
+/// Returns the result, and the order then.
 fn worked_through<R: Threads + Wait + Sync>(
     rt: &R,
     heap: &mut Heap,
@@ -128,7 +129,7 @@ fn seats_tell(board: &Board, seat: &mut Seat) -> bool
     first && second && third && fourth && none
 }
 
-/// The order of a board after its seats are asked with no memory, and whether they tell what they should.
+/// Asks the seats of an order's board with no memory. Returns the board's order, and whether their answers are right.
 fn seats_asked(heap: &mut Heap, order: Order) -> (bool, Order) {
     let (board, seat) = match Board::open(heap.alloc(), order) {
         Ok(opened) => opened,

@@ -61,8 +61,8 @@ enum Call {
     Look,
 }
 
-/// The calls, those of a trail one after another. Those that ask take no memory: what they tell is compared where there
-/// is none.
+/// The calls, those of a trail one after another. Those that ask take no memory: their answers are compared without
+/// any.
 const CALLS: &[(&str, Call)] = &[
     ("Names::add", Call::AddName),
     ("Names::new", Call::NewNames),
@@ -101,7 +101,7 @@ const CALLS: &[(&str, Call)] = &[
     ("Trail::entries, tables, level", Call::Look),
 ];
 
-/// What the calls are made of, beside a game and a diagram.
+/// The parts that the calls are made of, beside a game and a diagram.
 #[derive(Drop)]
 struct Parts {
     /// Ten names, and then one more.
@@ -110,7 +110,7 @@ struct Parts {
     grouped: Diagram,
     /// The game of one product.
     plain: PlainGame,
-    /// What is written, behind what stands there before.
+    /// The written text, after an earlier one.
     out: Vec<u8>,
     known: Partial,
     shape: Shape,
@@ -122,11 +122,11 @@ struct Parts {
     /// A table of zeros.
     zeros: Table,
     trail: Trail,
-    /// Whether what was handed in to make an order last came back.
+    /// Whether the arguments of the order that was made last came back.
     is_back: bool,
 }
 
-/// The parts for a game and a diagram: first those that are let go by one call.
+/// Returns the parts for a game and a diagram: first those that are dropped by one call.
 fn parts_of(alloc: Global, diagram: &Diagram, game: &GuardedGame) -> Option<Parts> {
     let shape = Shape::of(alloc, game).ok()?;
     let dual_shape = Shape::of_dual(alloc, game).ok()?;
@@ -154,7 +154,7 @@ fn parts_of(alloc: Global, diagram: &Diagram, game: &GuardedGame) -> Option<Part
     })
 }
 
-/// A call, and what it is made of.
+/// A call, and the parts that it is made of.
 #[derive(Drop)]
 struct Calling<'t> {
     call: Call,

@@ -34,7 +34,7 @@ pub(crate) const DECISIONS: [Decision; 3] = [
     },
 ];
 
-/// The first table once it is settled.
+/// The hopeful table once it is settled.
 pub(crate) const SETTLED: [u64; 2] = [1, 0];
 
 /// Whether each decision is of one of this many features.
@@ -44,7 +44,7 @@ pub(crate) fn are_below(features: usize, decisions: &[Decision]) -> bool
     decisions.iter().all(|d| (d.feature as usize) < features)
 }
 
-/// What the decisions make known, where each is of a feature of the diagram.
+/// Returns the features that the decisions make known, if each is on a feature of the diagram.
 pub(crate) fn close_checked(
     alloc: Global,
     diagram: &Diagram,
@@ -122,7 +122,7 @@ pub(crate) fn make_strategy(alloc: Global, shape: &Shape, arena: &Arena, table: 
     }
 }
 
-/// The arena where a game has the features of what is known.
+/// Returns the hopeful arena of a game under these known features, if they are the game's.
 pub(crate) fn arena_of(alloc: Global, game: &GuardedGame, known: &Partial) -> Option<Arena> {
     if known.values().len() != game.features() {
         return None;

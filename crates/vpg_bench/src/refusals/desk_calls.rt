@@ -32,7 +32,7 @@ enum Call {
     Redo,
     /// Spends the token that is held.
     Keep,
-    /// The same; it is the one that is out, and has this serial.
+    /// Spends the token that is held, which is the only one out and has this serial.
     Forget(u64),
     Order,
     Page,
@@ -40,7 +40,7 @@ enum Call {
     Settle,
     /// Hands that in.
     Commit,
-    /// What the desk says of its page and of its tokens.
+    /// The desk's answers about its page and its tokens.
     Tell,
 }
 
@@ -171,7 +171,7 @@ fn settle(alloc: Global, desk: &Desk, held: &mut Held) -> End {
     }
 }
 
-/// Hands the harvest in that is held, which adds two entries; where it is refused it is held still.
+/// Hands the held harvest in, which adds two entries; if it is refused it is still held.
 fn commit(alloc: Global, desk: &mut Desk, held: &mut Held) -> End {
     let Some(harvest) = held.harvest.take() else {
         return End::Otherwise;
@@ -185,8 +185,8 @@ fn commit(alloc: Global, desk: &mut Desk, held: &mut Held) -> End {
     }
 }
 
-/// Whether a desk tells that its page's first vertex is neither hopeless nor sure, that it isn't settled, and that one
-/// token is out.
+/// Whether a desk's answers are that its page's first vertex is neither hopeless nor sure, that it isn't settled, and
+/// that one token is out.
 fn is_told(desk: &Desk) -> bool {
     if desk.game().vertices() != 2 {
         return false;
@@ -225,7 +225,7 @@ impl<R: Wait> Trial<R> for Calling<'_> {
     }
 }
 
-/// Makes a call with little memory where it has a name, and with all memory where it has none.
+/// Makes a call with little memory if it has a name, and with all memory if it has none.
 fn try_call<R: Wait>(
     rt: &R,
     heap: &mut Heap,

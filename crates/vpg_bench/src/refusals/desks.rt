@@ -1,4 +1,4 @@
-//! Desks that are opened, and all that a desk tells.
+//! Desks that are opened, and all answers of a desk.
 
 use crate::family::shared;
 use std::alloc::Global;
@@ -9,7 +9,7 @@ use vpg_game::GuardedGame;
 use vpg_scarce::is_same_page;
 use vpg_trail::Page;
 
-/// How an opening ended that was refused, with how many vertices and features came back.
+/// The fault of an opening that was refused, with how many vertices and features came back.
 pub(crate) type Unopened = (OpenFault, usize, usize);
 
 fn opened(alloc: Global, game: Arc<GuardedGame>, diagram: Arc<Diagram>) -> Result<Desk, Unopened> {
@@ -28,7 +28,7 @@ fn opened(alloc: Global, game: Arc<GuardedGame>, diagram: Arc<Diagram>) -> Resul
     }
 }
 
-/// A desk on a game and a diagram; or how its opening ended.
+/// Returns a desk on a game and a diagram; or how its opening ended.
 pub(crate) fn open_on(
     alloc: Global,
     game: &Arc<GuardedGame>,
@@ -40,7 +40,7 @@ pub(crate) fn open_on(
     }
 }
 
-/// All that a desk tells without a change.
+/// The answers of a desk to all questions that change nothing.
 #[derive(Drop)]
 pub(crate) struct Seen {
     page: Page,
@@ -48,7 +48,7 @@ pub(crate) struct Seen {
     is_settled: bool,
 }
 
-/// All that a desk tells now.
+/// Returns all answers of a desk.
 pub(crate) fn seen_of(alloc: Global, desk: &Desk) -> Option<Seen> {
     match desk.page(alloc) {
         Ok(page) => Some(Seen {
@@ -60,14 +60,14 @@ pub(crate) fn seen_of(alloc: Global, desk: &Desk) -> Option<Seen> {
     }
 }
 
-/// Whether two desks told the same.
+/// Whether two desks have the same answers.
 fn is_same(now: &Seen, before: &Seen) -> bool {
     is_same_page(&now.page, &before.page)
         && now.tokens == before.tokens
         && now.is_settled == before.is_settled
 }
 
-/// Whether a desk tells this.
+/// Whether a desk has these answers.
 pub(crate) fn tells(alloc: Global, desk: &Desk, before: &Option<Seen>) -> bool {
     match (&seen_of(alloc, desk), before) {
         (Some(now), Some(before)) => is_same(now, before),

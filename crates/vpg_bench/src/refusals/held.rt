@@ -7,20 +7,20 @@ use std::sync::Wait;
 use vpg_desk::{Desk, Redo, Undo};
 use vpg_measure::Harvest;
 
-/// What is held beside a desk.
+/// The values that are held beside a desk.
 pub(crate) struct Held {
     /// The token of a change.
     pub(crate) undo: Option<Undo>,
     /// The token of a change that was undone.
     pub(crate) redo: Option<Redo>,
     pub(crate) harvest: Option<Harvest>,
-    /// What the desk told before the call.
+    /// The desk's answers before the call.
     pub(crate) before: Option<Seen>,
-    /// Whether what was handed in to open a desk last came back.
+    /// Whether the arguments of the desk that was opened last came back.
     pub(crate) is_back: bool,
 }
 
-/// Nothing, held.
+/// Returns a holder of nothing.
 pub(crate) fn nothing() -> Held {
     Held {
         undo: None,
@@ -43,7 +43,7 @@ pub(crate) fn wait_for_token<R: Wait>(rt: &R, desk: &Desk)
     unreachable!()
 }
 
-/// Keeps a change, where there is a token.
+/// Keeps a change, if there is a token.
 pub(crate) fn keep<R: Wait>(rt: &R, desk: &mut Desk, token: Option<Undo>) {
     if let Some(token) = token {
         wait_for_token(rt, desk);
@@ -51,7 +51,7 @@ pub(crate) fn keep<R: Wait>(rt: &R, desk: &mut Desk, token: Option<Undo>) {
     }
 }
 
-/// Forgets an undone change, where there is a token.
+/// Forgets an undone change, if there is a token.
 pub(crate) fn forget<R: Wait>(rt: &R, desk: &mut Desk, token: Option<Redo>) {
     if let Some(token) = token {
         wait_for_token(rt, desk);
@@ -69,7 +69,7 @@ pub(crate) fn forgets<R: Wait>(rt: &R, desk: &mut Desk, held: &mut Held, serial:
     told && desk.tokens() == 0
 }
 
-/// Lets go what is held, and spends its tokens.
+/// Drops the values that are held, and spends its tokens.
 pub(crate) fn let_go<R: Wait>(rt: &R, desk: &mut Desk, held: Held) {
     let Held {
         undo,

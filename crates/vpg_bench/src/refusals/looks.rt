@@ -1,4 +1,4 @@
-//! A session's calls with what they gave, which is looked at once one was refused.
+//! A session's calls with their answers, which are checked once one was refused.
 
 ghost use Rattle.std.specs.Prelude.{◌<◌, length};
 
@@ -13,7 +13,7 @@ use vpg_trail::Page;
 use vpg_verdict::Which;
 use vpg_watch::Watch;
 
-/// A session's seat, and what its calls gave.
+/// A session's seat, and the answers to its calls.
 pub(crate) struct Caller<L: Terms> {
     pub(crate) seat: Seat<L>,
     /// The settled harvest of the order that was given last.
@@ -23,7 +23,7 @@ pub(crate) struct Caller<L: Terms> {
     pub(crate) page: Option<Page>,
 }
 
-// Not derived, so that letting one go is one call.
+// Not derived: a derived `drop` would be proved again at each exit that owns such a value.
 impl<L: Terms> Drop for Caller<L> {
     fn drop(self) {
         let Caller {
@@ -35,7 +35,7 @@ impl<L: Terms> Drop for Caller<L> {
     }
 }
 
-/// How a call ended of which nothing is kept.
+/// Returns the end of a call that leaves nothing to keep.
 fn ended<L: Terms, T: Drop, F: Drop>(answer: Result<T, Fault<L, F>>) -> End {
     match answer {
         Ok(_) => End::Done,
@@ -43,7 +43,7 @@ fn ended<L: Terms, T: Drop, F: Drop>(answer: Result<T, Fault<L, F>>) -> End {
     }
 }
 
-/// Keeps a harvest. Whoever lets one go himself takes the prover seconds.
+/// Keeps a harvest. A function that drops one itself takes the prover seconds.
 fn put_harvest(kept: &mut Option<Harvest>, harvest: Harvest) {
     *kept = Some(harvest);
 }
@@ -59,7 +59,7 @@ fn meet_page(kept: &mut Option<Page>, page: Page) -> End {
     }
 }
 
-/// Of how many calls the sheet is that the watch reads, if there is a watch.
+/// Returns the number of calls of the sheet that the watch reads, if there is a watch.
 pub(crate) fn shown<L: Terms>(caller: &mut Caller<L>) -> Option<usize> {
     let watch = caller.watch.as_mut()?;
     match read(watch) {
@@ -79,7 +79,7 @@ fn order_tells(order: &Order) -> bool {
         && order.arena(Which::Dual).vertices() == 2
 }
 
-/// Whether a harvest is settled, and its order tells what it has.
+/// Whether a harvest is settled, and its order has the right values.
 fn harvest_tells(harvest: &Harvest) -> bool {
     let order = harvest.order();
     order.game().vertices() > 0
@@ -88,7 +88,7 @@ fn harvest_tells(harvest: &Harvest) -> bool {
         && harvest.value(Which::Hopeful, 0) > 0
 }
 
-/// The harvest of an order whose first vertex is lifted and which is settled then.
+/// Returns the harvest of an order with the first vertex lifted, which is settled then.
 fn harvest_again(order: Order) -> Harvest {
     if order.game().vertices() == 0 {
         return Harvest::alone(order, 100);

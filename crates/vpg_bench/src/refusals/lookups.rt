@@ -1,4 +1,4 @@
-//! Calls that take no memory. Each is made where there is none, and has to tell what it tells otherwise.
+//! Calls that take no memory. Each is made without any, and has to have the same answer as otherwise.
 
 use crate::refusals::decided::is_table;
 use crate::refusals::{done_if, told_of};
@@ -70,7 +70,7 @@ pub(crate) fn arena_tells(arena: &Arena) -> End {
     done_if(arena.kept(0) == [1, 0].as_slice() && arena.kept(1) == [0, 1].as_slice())
 }
 
-/// The settled table is one that no lift raises.
+/// Checks that the settled table is one that no lift raises.
 pub(crate) fn measures_tell(shape: &Shape, arena: &Arena, table: &Table) -> End {
     if arena.vertices() != 2 || !is_table(shape, arena, table) {
         return End::Otherwise;
@@ -81,7 +81,7 @@ pub(crate) fn measures_tell(shape: &Shape, arena: &Arena, table: &Table) -> End 
     )
 }
 
-/// A table of zeros is settled, and made one of zeros again.
+/// Settles a table of zeros, and makes it one of zeros again.
 pub(crate) fn settles(shape: &Shape, arena: &Arena, table: &mut Table) -> End {
     if arena.vertices() != 2 || !is_table(shape, arena, table) {
         return End::Otherwise;
@@ -98,12 +98,12 @@ pub(crate) fn settles(shape: &Shape, arena: &Arena, table: &mut Table) -> End {
 /// A guard of each kind of part.
 const GUARD: &[u8] = b"!(f & g) | r & true";
 
-/// A set of features without the root and `g`, and what is known where only the root is: that it is out.
+/// A set of features without the root and `g`, and values of features: only the root is known, and it is out.
 const SET: [bool; 3] = [false, true, false];
 
 const KNOWN: [Tri; 3] = [Tri::No, Tri::Unknown, Tri::Unknown];
 
-/// Asks a guard, with no memory, whether it holds in a set, and what is known of it.
+/// Asks a guard, with no memory, whether it holds in a set, and for its value under known features.
 pub(crate) fn ask_guard(heap: &mut Heap, report: &mut Report, names: &Names) {
     if names.len() != SET.len() {
         return;

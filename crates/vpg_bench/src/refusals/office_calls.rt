@@ -12,7 +12,7 @@ const F: u16 = 1;
 
 const G: u16 = 2;
 
-/// Decisions on g and on f, of which the first token is spent.
+/// Decisions on g and on f; the first token is spent.
 const DECIDED: &[Call] = &[Call::Decide(G, true), Call::Keep, Call::Decide(F, false)];
 
 const UNDONE: &[Call] = &[
@@ -57,7 +57,7 @@ const BACK: &[Call] = &[
 
 const WATCHED: &[Call] = &[Call::Watch, Call::Decide(G, true)];
 
-/// The call's name, whether there is a watch from the beginning, what is done before the call, and the call.
+/// The call's name, whether there is a watch from the beginning, the calls before it, and the call.
 const LINES: &[Line] = &[
     ("Office::open", false, &[], Call::Open),
     ("Office::join", false, DECIDED, Call::Join),

@@ -1,4 +1,4 @@
-//! Offices of which one call is made with little memory, each try on an office of its own.
+//! Offices that make one call with little memory, each try on an office of its own.
 
 ghost use Rattle.std.specs.Prelude.{◌≡◌, ◌<◌, ◌≤◌, length, vec_len, vec_capacity};
 
@@ -13,7 +13,7 @@ use vpg_game::GuardedGame;
 use vpg_office::{Front, NotBegun, Office, Terms, TokensOut, Work, with_office};
 use vpg_scarce::{Anew, End, Heap, Outcome, Report, tried_anew};
 
-/// How many calls a log takes.
+/// The number of calls that a log takes.
 const ROOM: u32 = 100;
 
 /// At this length of a log each of its lists is full, and the next call makes them grow.
@@ -25,7 +25,7 @@ const AHEAD: usize = 28;
 /// More memory than a call and its sheet take.
 const PLENTY: usize = 1 << 14;
 
-/// A call that is tried, and what is done before it with ample memory.
+/// A call that is tried, and the calls before it with ample memory.
 #[derive(Clone, Copy)]
 struct Row {
     /// Whether there is a watch from the beginning, and the call publishes a sheet.
@@ -47,7 +47,7 @@ pub(crate) const OPENED: Outcome = Outcome {
     holds: true,
 };
 
-/// A try of a row's call with so much memory.
+/// A try of a row's call with this much memory.
 #[derive(Drop)]
 struct Try<'t> {
     heap: &'t mut Heap,
@@ -55,8 +55,8 @@ struct Try<'t> {
     bytes: usize,
 }
 
-/// Asks whether the page is settled until the log has one call less than its lists have room for. The row of calls
-/// asks ahead for its next part, and does without where that is refused: then the call that needs it asks again.
+/// Asks whether the page is settled until the log has one call less than its lists have room for. The row of calls asks
+/// ahead for its next part, and goes on without it if that is refused: then the call that needs it asks again.
 fn fill_up<L: Terms, R: Wait>(rt: &R, heap: &mut Heap, office: &Office<L>, caller: &mut Caller<L>)
     requires { 0 < length L.game.vertices }
 {
@@ -77,8 +77,8 @@ fn fill_up<L: Terms, R: Wait>(rt: &R, heap: &mut Heap, office: &Office<L>, calle
     }
 }
 
-/// Makes all that comes before the call, until the log's lists are full. The look at the page is the last of it. The
-/// token that is held then.
+/// Makes all that comes before the call, until the log's lists are full. The look at the page is the last of it.
+/// Returns the token that is held then.
 fn prepare<L: Terms, R: Wait>(
     rt: &R,
     heap: &mut Heap,
@@ -102,8 +102,8 @@ fn prepare<L: Terms, R: Wait>(
     held
 }
 
-/// What is seen of a caller without a call: the length of the front; of how many calls the sheet is that is shown;
-/// whether there is a harvest; the serial of the token that is held.
+/// The state of a caller, seen without a call: the front's length, the calls of the shown sheet, whether there is a
+/// harvest, and the serial of the held token.
 type Seen = (usize, Option<usize>, bool, Option<u64>);
 
 fn look_at<L: Terms>(caller: &mut Caller<L>, held: &Held<L>) -> Seen {
@@ -116,7 +116,7 @@ fn look_at<L: Terms>(caller: &mut Caller<L>, held: &Held<L>) -> Seen {
 }
 
 /// Whether all is as it has to be once the call is done. It is the last of the front, if it is logged. The sheet of a
-/// change may be left out, but not where memory is ample. A new watch reads the sheet that is shown.
+/// change may be left out, but not if memory is ample. A new watch reads the sheet that is shown.
 fn is_done(row: &Row, bytes: usize, before: Seen, now: Seen) -> bool {
     let logged = row.call.is_logged() as usize;
     let needs_sheet = row.is_watched && bytes >= PLENTY;
@@ -127,8 +127,9 @@ fn is_done(row: &Row, bytes: usize, before: Seen, now: Seen) -> bool {
     now.0 == before.0.saturating_add(logged) && (is_shown || (now.1 == before.1 && !needs_sheet))
 }
 
-/// Makes the call with so much memory: the token that is held then, and what came of it. A refused call leaves the
-/// front, what is shown, the harvest, the token and the page; that look at the page is the next call of the log.
+/// Makes the call with this much memory. Returns the token that is held then, and the outcome. A refused call leaves
+/// the front, the sheet that is shown, the harvest, the token and the page; the look at the page is the next call of
+/// the log.
 fn try_at<L: Terms, R: Wait>(
     rt: &R,
     heap: &mut Heap,
@@ -159,8 +160,8 @@ fn try_at<L: Terms, R: Wait>(
     (held, Outcome { end, holds })
 }
 
-/// Joins an office, and makes the call: the token that is left, and what came of it. A token that is not to be handed
-/// in is spent.
+/// Joins an office, and makes the call. Returns the token that is left, and the outcome. A token that is not to be
+/// handed in is spent.
 fn try_on<L: Terms, R: Wait>(
     rt: &R,
     heap: &mut Heap,
@@ -189,7 +190,7 @@ fn try_on<L: Terms, R: Wait>(
     (held, tried)
 }
 
-/// A list with room for one thing. Memory is ample, so it is had at the first try.
+/// Returns a list with room for one value. Memory is ample, so there is room at the first try.
 fn room<R: Wait, T>(rt: &R, alloc: Global) -> Vec<T>
     ensures { (vec_len result ≡ 0) × (1 ≤ vec_capacity result) }
 {
@@ -201,7 +202,7 @@ fn room<R: Wait, T>(rt: &R, alloc: Global) -> Vec<T>
     unreachable!()
 }
 
-/// Ends an office with no memory, and hands in what is held: how many tokens are missed.
+/// Ends an office with no memory, and hands in the token that is held. Returns how many tokens are missed.
 fn end<L: Terms, R: Wait>(rt: &R, heap: &mut Heap, office: Office<L>, held: Held<L>) -> u64 {
     let mut undos = room(rt, heap.alloc());
     let mut redos = room(rt, heap.alloc());
@@ -216,7 +217,7 @@ fn end<L: Terms, R: Wait>(rt: &R, heap: &mut Heap, office: Office<L>, held: Held
     further
 }
 
-/// Closes an office with no memory, where nothing is held: how many tokens were out. Then it is ended.
+/// Closes an office with no memory, if nothing is held. Returns how many tokens were out. Then it is ended.
 fn close<L: Terms, R: Wait>(rt: &R, heap: &mut Heap, office: Office<L>, held: Held<L>) -> u64 {
     let alloc = heap.alloc();
     match held {
@@ -271,7 +272,7 @@ impl<R: Wait> Work<R> for Try<'_> {
     }
 }
 
-/// What came of an opening that was refused. Then game and diagram come back.
+/// Returns the outcome of an opening that was refused. Then game and diagram come back.
 fn not_opened(refused: NotBegun<Try<'_>>) -> Outcome {
     let NotBegun {
         fault,
@@ -298,7 +299,7 @@ struct Rowed<'t> {
 }
 
 impl<R: Wait> Anew<R> for Rowed<'_> {
-    /// Makes the call with so much memory, on an office of its own.
+    /// Makes the call with this much memory, on an office of its own.
     fn try_within(&mut self, rt: &R, heap: &mut Heap, bytes: usize) -> Outcome {
         let row = self.row;
         let Some((game, diagram)) = shared(self.game, self.diagram) else {
@@ -318,7 +319,7 @@ impl<R: Wait> Anew<R> for Rowed<'_> {
     }
 }
 
-/// Makes each line's call with little memory, and notes what came of it.
+/// Makes each line's call with little memory, and notes the result.
 pub(crate) fn refuse_each<R: Wait>(
     rt: &R,
     heap: &mut Heap,

@@ -18,7 +18,7 @@ use vpg_partial::Decision;
 use vpg_scarce::{End, Heap, Report};
 use vpg_verdict::Which;
 
-/// Lets an order go. A function that does so itself takes the prover seconds.
+/// Drops an order. A function that does so itself takes the prover seconds.
 pub(crate) fn let_go(_order: Order) {}
 
 const DECISIONS: [Decision; 2] = [
@@ -49,7 +49,7 @@ pub(crate) fn fit(game: &GuardedGame, diagram: &Diagram, decisions: &[Decision])
     are_below(diagram.features(), decisions)
 }
 
-/// Whether all that was handed in came back for want of memory.
+/// Whether all arguments came back since memory ran out.
 fn came_back(refused: &Refused) -> bool {
     refused.fault == OrderFault::Memory
         && [refused.game.vertices(), refused.diagram.features()] == [2, 3]
@@ -58,7 +58,7 @@ fn came_back(refused: &Refused) -> bool {
         && refused.dual.values() == [0, 0].as_slice()
 }
 
-/// An order of these; or how it is refused, with a note where what was handed in came back.
+/// Returns an order of these; or the fault, with a note if the arguments came back.
 fn made_of(
     alloc: Global,
     game: Arc<GuardedGame>,
@@ -79,7 +79,7 @@ fn made_of(
     }
 }
 
-/// An order of a game and a diagram; or how it is refused, with a note where what was handed in came back.
+/// Returns an order of a game and a diagram; or the fault, with a note if the arguments came back.
 fn made(
     alloc: Global,
     game: &Arc<GuardedGame>,
@@ -96,7 +96,7 @@ fn made(
     }
 }
 
-/// The order of the opening page.
+/// Returns the order of the opening page.
 pub(crate) fn first_order(
     alloc: Global,
     game: &Arc<GuardedGame>,
@@ -106,7 +106,7 @@ pub(crate) fn first_order(
     made(alloc, game, diagram, &[], &mut is_back).ok()
 }
 
-/// The values of both tables of two vertices.
+/// Returns the values of both tables of two vertices.
 pub(crate) fn both_values(order: &Order) -> [u64; 4] {
     match (order.hopeful().values(), order.dual().values()) {
         ([a, b], [c, d]) => [*a, *b, *c, *d],
@@ -114,7 +114,7 @@ pub(crate) fn both_values(order: &Order) -> [u64; 4] {
     }
 }
 
-/// Makes an order, and lets it go.
+/// Makes an order, and drops it.
 pub(crate) fn make_order(
     alloc: Global,
     game: &Arc<GuardedGame>,
@@ -130,7 +130,7 @@ pub(crate) fn make_order(
     }
 }
 
-/// Whether an order tells what it was made of: with `f` in and `g` out, over tables of zeros.
+/// Whether an order has the values that it was made of: with `f` in and `g` out, over tables of zeros.
 fn order_tells(order: &Order) -> bool {
     let arena = order.arena(Which::Dual);
     [
@@ -155,7 +155,7 @@ fn harvest_tells(harvest: &Harvest, hopeful: u64, dual: u64, is_settled: bool) -
     values == [hopeful, dual] && harvest.check() == is_settled
 }
 
-/// Whether harvests of an order tell what they have, and the order of the last one's tables.
+/// Returns whether harvests of an order have the right values, and the order of the last one's tables.
 fn harvests_tell(order: Order) -> (bool, Order) {
     if order.game().vertices() != 2 {
         return (false, order);
@@ -167,14 +167,14 @@ fn harvests_tell(order: Order) -> (bool, Order) {
     (one && alone, harvest.again())
 }
 
-/// One of an order's tables, which may stand in a harvest of it.
+/// Returns one of an order's tables, which may stand in a harvest of it.
 fn own_table(order: &Order, which: Which) -> &Table
     ensures { IsRaised which order.now result.now }
 {
     order.table(which)
 }
 
-/// Copies of both tables of an order.
+/// Returns copies of both tables of an order.
 fn tables_of(alloc: Global, order: &Order) -> Result<(Vec<u64>, Vec<u64>), AllocError>
     ensures hopeful { IfOk result (λ both. IsRaised Which.Hopeful order.now both.0.items) }
     ensures dual { IfOk result (λ both. IsRaised Which.Dual order.now both.1.items) }
@@ -184,7 +184,7 @@ fn tables_of(alloc: Global, order: &Order) -> Result<(Vec<u64>, Vec<u64>), Alloc
     Ok((hopeful, dual))
 }
 
-/// Whether the harvest of settled tables that are handed in with no memory tells what it has, and the order of that.
+/// Hands in settled tables with no memory. Returns whether the harvest has the right values, and its order.
 fn handed_in(heap: &mut Heap, order: Order) -> (bool, Order) {
     match tables_of(heap.alloc(), &order) {
         Ok((hopeful, dual)) => {

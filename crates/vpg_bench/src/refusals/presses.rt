@@ -1,4 +1,4 @@
-//! Presses of which one call is made with little memory, each try on a press of its own.
+//! Presses that make one call with little memory, each try on a press of its own.
 ghost use Rattle.std.specs.Prelude.{◌≡◌};
 ghost use Rattle.std.specs.Arc.{arc_value};
 
@@ -31,7 +31,7 @@ fn refused(holds: bool) -> Outcome {
     }
 }
 
-/// Publishes a sheet with so much memory. Where that is refused, the sheet comes back, and the one before is read.
+/// Publishes a sheet with this much memory. If that is refused, the sheet comes back, and the one before is read.
 fn publish<R: Wait>(
     rt: &R,
     heap: &mut Heap,
@@ -54,7 +54,7 @@ fn publish<R: Wait>(
     }
 }
 
-/// Asks for a watch with so much memory, and reads what is shown.
+/// Asks for a watch with this much memory, and reads the sheet that is shown.
 fn watch(heap: &mut Heap, press: &mut Press<Steps>, bytes: usize) -> Outcome {
     heap.leave(bytes);
     let shown = match press.watch() {

@@ -17,7 +17,7 @@ const GAME: &[u8] =
 /// The names of the diagram's features but the root, in another order than its own.
 const TEN: [&str; 10] = ["a", "b", "c", "d", "e", "f", "g", "h", "i", "j"];
 
-/// Whether there are so many names, those ten each at its place.
+/// Whether there are this many names, those ten each at its place.
 pub(crate) fn has_ten(names: &Names, count: usize) -> bool {
     for k in 0..TEN.len() {
         if names.get(TEN[k].as_bytes()) != Some(k as u16) {
@@ -27,7 +27,7 @@ pub(crate) fn has_ten(names: &Names, count: usize) -> bool {
     names.len() == count
 }
 
-// Each of these lets go what was read in one place: more ends take the prover seconds each.
+// Each of these drops the value that was read in one place: more exits take the prover seconds each.
 
 pub(crate) fn make_names(alloc: Global) -> End {
     match Names::new(alloc) {
@@ -60,7 +60,7 @@ pub(crate) fn read_diagram(alloc: Global) -> End {
     }
 }
 
-/// The diagram of ten names.
+/// Returns the diagram of ten names.
 pub(crate) fn grouped_of(alloc: Global) -> Option<Diagram> {
     Diagram::read(alloc, DIAGRAM).ok()
 }
@@ -73,7 +73,7 @@ pub(crate) fn read_game(alloc: Global, names: &Names) -> End {
     }
 }
 
-/// The ten names.
+/// Returns the ten names.
 pub(crate) fn names_of(alloc: Global) -> Option<Names> {
     let mut names = Names::new(alloc).ok()?;
     if add_ten(alloc, &mut names) {

@@ -6,7 +6,7 @@ use std::alloc::{AllocError, Global};
 use std::sync::Arc;
 use vpg_watch::{Follows, Sheet, Verdicts, Watch};
 
-/// So many steps.
+/// A number of steps.
 #[derive(Clone, Copy)]
 pub(crate) struct Steps {
     pub(crate) count: u32,
@@ -39,7 +39,7 @@ impl Follows for Steps {
     ghost counted = { λ f at settled verdicts said. said };
 }
 
-/// The sheet of so many steps.
+/// Returns the sheet of this many steps.
 pub(crate) fn sheet_of(alloc: Global, count: u32) -> Result<Arc<Sheet<Steps>>, AllocError>
     ensures front { IfOk result (λ sheet. (arc_value sheet).front.count ≡ count) }
     ensures belongs { IfOk result (λ sheet. (arc_value sheet).at ≡ (arc_value sheet).front.count) }
@@ -49,7 +49,7 @@ pub(crate) fn sheet_of(alloc: Global, count: u32) -> Result<Arc<Sheet<Steps>>, A
     Ok(Arc::new(alloc, sheet)?)
 }
 
-/// What `at` is on the sheet that is read.
+/// Returns `at` of the sheet that is read.
 pub(crate) fn at(watch: &mut Watch<Steps>) -> Option<u32> {
     let sheet = watch.read().ok()?;
     Some(sheet.at)

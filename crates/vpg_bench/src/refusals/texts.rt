@@ -44,7 +44,7 @@ const TEXTS: &[(&str, Text)] = &[
 ];
 
 impl Text {
-    /// What is there once it is written of the page below.
+    /// Returns the text of the page below.
     fn written(self) -> &'static [u8] {
         match self {
             Text::Show => {
@@ -60,7 +60,7 @@ impl Text {
     }
 }
 
-/// How a text ended that has no other refusal.
+/// Returns the end of a text that has no other refusal.
 fn end_of(put: Result<(), AllocError>) -> End {
     match put {
         Ok(()) => End::Done,
@@ -68,7 +68,7 @@ fn end_of(put: Result<(), AllocError>) -> End {
     }
 }
 
-/// Puts a text behind what is there.
+/// Appends a text of a page.
 fn put(
     alloc: Global,
     text: Text,
@@ -101,7 +101,7 @@ fn put(
     }
 }
 
-/// Puts a text with more and more memory, until it is there.
+/// Appends a text with more and more memory, until it is there.
 fn put_growing(
     heap: &mut Heap,
     text: Text,
@@ -138,7 +138,7 @@ fn put_growing(
     Told::Never
 }
 
-/// Puts each text of a page.
+/// Appends each text of a page.
 fn put_each(
     heap: &mut Heap,
     report: &mut Report,
@@ -172,7 +172,7 @@ fn is_within(game: &GuardedGame, shape: &Shape, table: &Table) -> bool
     table.values().len() == game.vertices() && table.values().iter().all(|n| *n <= shape.top())
 }
 
-/// Whether an entry names what is there.
+/// Whether an entry names features and vertices that are there.
 fn names(features: usize, vertices: usize, entry: &Entry) -> bool
     ensures { IsTrue result → EntryIsWithin features vertices (entry_of entry.now) }
 {
@@ -188,14 +188,14 @@ fn names(features: usize, vertices: usize, entry: &Entry) -> bool
     }
 }
 
-/// Whether each entry names what is there.
+/// Whether each entry names features and vertices that are there.
 fn are_named(features: usize, vertices: usize, entries: &[Entry]) -> bool
     ensures { IsTrue result → All (λ e. EntryIsWithin features vertices (entry_of e)) entries.now }
 {
     entries.iter().all(|entry| names(features, vertices, entry))
 }
 
-/// The same of a page's entries.
+/// Whether each entry of a page names features and vertices that are there.
 fn name_all(page: &Page, game: &GuardedGame, diagram: &Diagram) -> bool
     ensures { IsTrue result →
         All (EntryIsWithin (feature_count diagram.now.lines) (length game.now.vertices)) page.now.entries }
@@ -203,7 +203,7 @@ fn name_all(page: &Page, game: &GuardedGame, diagram: &Diagram) -> bool
     are_named(diagram.features(), game.vertices(), page.entries.as_slice())
 }
 
-/// That a page's decisions have no conflict.
+/// Succeeds if a page's decisions have no conflict.
 fn are_consistent(alloc: Global, diagram: &Diagram, page: &Page) -> Result<(), PartialFault>
     requires { AreChoicesOf diagram.now.lines (map literal_of page.now.decisions) }
     ensures { OnOk result (¬ (HasConflictOf diagram.now.lines (map literal_of page.now.decisions))) }
@@ -212,7 +212,7 @@ fn are_consistent(alloc: Global, diagram: &Diagram, page: &Page) -> Result<(), P
     Ok(())
 }
 
-/// Puts each text of a page that is one of the game.
+/// Appends each text of a page that is one of the game.
 fn put_page(
     heap: &mut Heap,
     report: &mut Report,
@@ -236,7 +236,7 @@ fn put_page(
     Some(())
 }
 
-/// A decision, and a lift under another.
+/// Returns a decision, and a lift under another.
 fn entries_of(alloc: Global) -> Result<Entries, AllocError> {
     let literal = Literal {
         feature: 1,
@@ -254,7 +254,7 @@ fn entries_of(alloc: Global) -> Result<Entries, AllocError> {
     Ok(Entries::new(entries))
 }
 
-/// A page with all three features in, and its settled tables.
+/// Returns a page with all three features in, and its settled tables.
 fn page_of(alloc: Global) -> Result<Page, AllocError> {
     Ok(Page {
         decisions: Decisions::new(Vec::from_slice(alloc, &DECISIONS)?),

@@ -58,7 +58,7 @@ fn are_first(entries: &[Entry]) -> bool {
     true
 }
 
-/// Four times the next decision.
+/// Returns four times the next decision.
 fn suffix_of(alloc: Global) -> Result<Vec<Entry>, AllocError>
     ensures { IfOk result (λ s. map entry_of s.items ≡ Decided NEXT ∷ Decided NEXT ∷ Decided NEXT ∷ Decided NEXT ∷ []) }
 {
@@ -97,7 +97,7 @@ pub(crate) fn look(trail: &Trail) -> End {
     done_if(are_zeros(trail) && [trail.level(0), trail.level(3)] == [0, 3])
 }
 
-/// Whether a trail has so many entries, each the first decision.
+/// Whether a trail has this many entries, each the first decision.
 pub(crate) fn is_of_first(trail: &Trail, entries: usize) -> bool {
     trail.entries().len() == entries && are_first(trail.entries()) && are_zeros(trail)
 }

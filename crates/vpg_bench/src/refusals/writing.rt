@@ -8,20 +8,20 @@ use vpg_guards::{GuardFault, Names, parse_guard};
 use vpg_hope::{PlainGame, ProjectFault, project};
 use vpg_scarce::End;
 
-/// What stands in front of what is written.
+/// The text in front of the written one.
 const BEFORE: &[u8] = b"before: ";
 
-/// A text with that alone, which grows with the next byte; empty where there is no memory.
+/// Returns a text with that alone, which grows with the next byte; empty if there is no memory.
 pub(crate) fn text_before(alloc: Global) -> Vec<u8> {
     Vec::from_slice(alloc, BEFORE).unwrap_or(Vec::new(alloc))
 }
 
-/// Whether that stands there alone.
+/// Whether the text is that alone.
 pub(crate) fn is_before(text: &[u8]) -> bool {
     text == BEFORE
 }
 
-/// Reads a guard and writes it: the guard that is written is within the names where it was read over them.
+/// Reads a guard and writes it: the written guard is within the names if it was read over them.
 pub(crate) fn write_guard(alloc: Global, names: &Names, out: &mut Vec<u8>) -> End {
     let guard = match parse_guard(alloc, b"!(f|g) & true", names) {
         Ok(guard) => guard,
@@ -78,7 +78,7 @@ pub(crate) fn make_projection(alloc: Global, game: &GuardedGame, diagram: &Diagr
     }
 }
 
-/// The game of the product of `r` and `g`.
+/// Returns the game of the product of `r` and `g`.
 pub(crate) fn plain_of(alloc: Global, diagram: &Diagram, game: &GuardedGame) -> Option<PlainGame> {
     if diagram.features() != 3 || game.features() != 3 {
         return None;

@@ -12,7 +12,7 @@ use vpg_serving::Ending;
 /// A script that decides, settles and shows.
 const SCRIPT: &[u8] = b"exclude f\nsettle\nshow\ntrail\n";
 
-/// What it answers.
+/// Its answers.
 const ANSWERS: &[u8] =
     b"done 1\nsettled 2\ndecisions -f\nfull no\nsettled yes\n0 2 0 hopeless unsure\n1 0 1 possible unsure
 exclude f 1\nhopeful 0 0 2 -f\ndual 1 0 1 -f\nentries 3\n";
@@ -20,7 +20,7 @@ exclude f 1\nhopeful 0 0 2 -f\ndual 1 0 1 -f\nentries 3\n";
 /// After how many bytes of the script how many bytes of the answers are written.
 const WRITTEN: [(usize, usize); 5] = [(0, 0), (10, 7), (17, 17), (22, 94), (28, 147)];
 
-/// How many bytes are answered to so many bytes of the script.
+/// Returns how many bytes are answered to this many bytes of the script.
 fn written_after(bytes: usize) -> usize {
     let mut written = 0;
     for (after, answered) in WRITTEN {
@@ -31,7 +31,7 @@ fn written_after(bytes: usize) -> usize {
     written
 }
 
-/// Whether a run whose reader fails behind so many bytes ends so, behind the answers of the whole lines read.
+/// Whether a run with a reader that fails after this many bytes ends so, after the answers to the whole lines read.
 fn reads_so_far<R: Threads + Wait + Sync>(
     rt: &R,
     alloc: Global,
@@ -56,8 +56,8 @@ fn reads_so_far<R: Threads + Wait + Sync>(
         && ANSWERS.starts_with(&got)
 }
 
-/// Whether a run whose reader gives and whose writer takes so many bytes a call, and whose writer fails at this call,
-/// ends so, behind as many bytes of the answers as were taken.
+/// Whether a run ends so if its writer fails at this call, after as many bytes of the answers as were taken. Its reader
+/// gives and its writer takes these numbers of bytes a call.
 fn writes_so_far<R: Threads + Wait + Sync>(
     rt: &R,
     alloc: Global,
@@ -95,7 +95,8 @@ pub(crate) fn reads<R: Threads + Wait + Sync>(rt: &R, alloc: Global, family: &Fa
     true
 }
 
-/// Whether a writer that takes so many bytes a call may fail at each of its calls, behind a reader that gives so many.
+/// Whether a writer that takes this many bytes a call may fail at each of its calls, with a reader that gives this
+/// many.
 pub(crate) fn writes<R: Threads + Wait + Sync>(
     rt: &R,
     alloc: Global,
@@ -111,14 +112,14 @@ pub(crate) fn writes<R: Threads + Wait + Sync>(
     true
 }
 
-/// A run whose reader fails behind so many bytes, or whose writer fails at this call.
+/// A run with a reader that fails after a number of bytes, or a writer that fails at this call.
 #[derive(Clone, Copy)]
 enum Broken {
     Reader(usize),
     Writer(usize),
 }
 
-/// How a run with so much memory over such a device ends.
+/// Returns the result of a run with this much memory over such a device.
 fn broken_within<R: Threads + Wait + Sync>(
     rt: &R,
     heap: &mut Heap,
@@ -149,7 +150,7 @@ fn broken_within<R: Threads + Wait + Sync>(
     ended
 }
 
-/// Whether runs with more and more memory over such a device end in `Memory`, and then as the device fails, each behind
+/// Whether runs with more and more memory over such a device end in `Memory`, and then as the device fails, each after
 /// a prefix of the answers. With more memory than that they come no further.
 fn breaks_so_far<R: Threads + Wait + Sync>(
     rt: &R,
@@ -176,7 +177,7 @@ fn breaks_so_far<R: Threads + Wait + Sync>(
     false
 }
 
-/// Whether each growth may be refused beside a reader that may fail behind each line.
+/// Whether each growth may be refused beside a reader that may fail after each line.
 pub(crate) fn reads_with_little<R: Threads + Wait + Sync>(
     rt: &R,
     heap: &mut Heap,

@@ -15,7 +15,7 @@ const SCRIPT: &[u8] = b"\
     known f\nplan\ncount\nassert 0 possible\nassert full\nretract g\nexclude f\nwhy 0\nwhy r\nwhy +f\n\
     example 0\ncounterexample 1\noffer 0\nneeds 0\nretract f\nexclude f\nsettle\nwhy 0\nrepair 0\n";
 
-/// What it answers.
+/// Its answers.
 const ANSWERS: &[u8] = b"\
     done 1\nharvest 1\ndone 2\nadded 2\nadded 0\nundone 2\nredone 2\nundone 2\nforgotten 2\ndone 3\n\
     undone 3\nredone 3\nkept 3\nkept 1\ndone 4\ndone 5\nsettled 3\ndecisions +f +g\nfull yes\n\
@@ -29,7 +29,7 @@ const ANSWERS: &[u8] = b"\
 /// More than the answers have bytes.
 pub(crate) const MOST_BYTES: usize = 8192;
 
-/// Runs the script with so much memory: how that ends.
+/// Runs the script with this much memory, and returns the result.
 fn run_within<R: Threads + Wait + Sync>(
     rt: &R,
     heap: &mut Heap,
@@ -56,8 +56,8 @@ fn run_within<R: Threads + Wait + Sync>(
     ended
 }
 
-/// What comes of running the script with more and more memory: each time what was written is a prefix of the answers,
-/// and at last all of them.
+/// Returns the result of running the script with more and more memory: each time the written text is a prefix of the
+/// answers, and at last all of them.
 fn run_often<R: Threads + Wait + Sync>(
     rt: &R,
     heap: &mut Heap,

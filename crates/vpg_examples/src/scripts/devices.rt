@@ -13,7 +13,7 @@ use vpg_report::RunFault;
 use vpg_script::LineFault;
 use vpg_serving::Ending;
 
-/// Gives `#` and a line feed in turn, one byte a call, so often or for ever.
+/// Gives `#` and a line feed in turn, one byte a call, a number of times or for ever.
 #[derive(Drop)]
 struct Comments {
     feed: bool,
@@ -48,7 +48,7 @@ fn is_answered<T: Threads + Wait + Sync, R: Read + Drop>(
     ends_so(rt, alloc, family, 1, None, reader, ended, answers)
 }
 
-/// Whether a run over so many `#` without a line's end ends so, without an answer.
+/// Whether a run over this many `#` without a line's end ends so, without an answer.
 fn is_comment<T: Threads + Wait + Sync>(
     rt: &T,
     alloc: Global,
@@ -62,7 +62,7 @@ fn is_comment<T: Threads + Wait + Sync>(
     }
 }
 
-/// Whether a run ends at a faulty line, behind the answers to those before it.
+/// Whether a run ends at a faulty line, after the answers to those before it.
 pub(super) fn ends_at_a_faulty_line<T: Threads + Wait + Sync>(
     rt: &T,
     alloc: Global,
@@ -91,7 +91,7 @@ pub(super) fn has_a_longest_line<T: Threads + Wait + Sync>(
         && is_comment(rt, alloc, family, 4096, Ok(Ending::Whole))
 }
 
-/// Whether a reader may be called 16,777,216 times, the last of which finds the end, and no more often.
+/// Whether a reader may be called 16,777,216 times, with the end found by the last call, and no more often.
 pub(super) fn counts_reads<T: Threads + Wait + Sync>(
     rt: &T,
     alloc: Global,
@@ -109,7 +109,7 @@ pub(super) fn counts_reads<T: Threads + Wait + Sync>(
         && is_answered(rt, alloc, family, endless, Err(RunFault::Read), b"")
 }
 
-/// Appends a line so often, or answers that there was no memory.
+/// Appends a line a number of times, or answers that there was no memory.
 fn put_times(line: &[u8], times: u32, out: &mut Vec<u8>) -> bool {
     let mut done = true;
     for _ in 0..times {
@@ -142,7 +142,7 @@ pub(super) fn fills_its_log<T: Threads + Wait + Sync>(
     done && is_answered(rt, alloc, family, reader, Ok(Ending::Whole), &answers)
 }
 
-/// Whether no office is opened on a family whose diagram contradicts itself.
+/// Whether no office is opened on a family with a diagram that contradicts itself.
 pub(super) fn is_not_opened<T: Threads + Wait + Sync>(rt: &T, alloc: Global) -> bool {
     let diagram = b"root r\nmandatory r a\nexcludes r a\n";
     let ended = Err(RunFault::Open {

@@ -1,5 +1,4 @@
-//! Scripts carried out on families: what is told of their end, with which text. The family of most rows is the one that
-//! is built in.
+//! Scripts carried out on families, with the texts that report their ends. Most rows have the built-in family.
 
 use super::manners::{PLAIN, STRICT};
 use crate::devices::{Gives, Takes, all, then_fails, whole};
@@ -11,7 +10,7 @@ use vpg_report::{DIAGRAM, End, GAME, end_of, refused_line, run_script};
 use vpg_script::Device;
 use vpg_serving::{Ending, Manner};
 
-/// A family, a script, and what is written to standard output, or else to standard error.
+/// A family, a script, and the text on standard output, or else on standard error.
 struct Row {
     diagram: &'static str,
     game: &'static str,
@@ -26,7 +25,7 @@ static ROWS: [Row; 4] = [
         script: "select r\nproducts",
         written: "done 1\nin r\nout\nopen f g\n",
     },
-    // The diagram contradicts itself. The fault of the line is told only of an office that is opened.
+    // The diagram contradicts itself. The fault of the line is reported only if an office is opened.
     Row {
         diagram: "root r\nmandatory r a\nexcludes r a\n",
         game: "0 0 0 0;",
@@ -47,7 +46,7 @@ static ROWS: [Row; 4] = [
     },
 ];
 
-/// The texts of a family.
+/// Returns the texts of a family.
 fn texts_of(alloc: Global, diagram: &str, game: &str) -> Result<Texts, AllocError> {
     Ok(Texts {
         diagram: Vec::from_slice(alloc, diagram.as_bytes())?,
@@ -60,7 +59,7 @@ fn texts_of(alloc: Global, diagram: &str, game: &str) -> Result<Texts, AllocErro
     })
 }
 
-/// How a script ends on a family of these texts.
+/// Returns a script's end on a family of these texts.
 pub(super) fn ending<T: Threads + Wait + Sync>(
     rt: &T,
     alloc: Global,
@@ -94,7 +93,7 @@ pub(super) fn ending<T: Threads + Wait + Sync>(
     }
 }
 
-/// What a row writes.
+/// Returns the text that a row writes.
 fn written<T: Threads + Wait + Sync>(
     rt: &T,
     alloc: Global,
@@ -117,7 +116,7 @@ fn is_text(text: Result<Vec<u8>, AllocError>, wanted: &str) -> bool {
     }
 }
 
-/// The place of the first row that doesn't hold.
+/// Returns the place of the first row that doesn't hold.
 pub(super) fn first_other<T: Threads + Wait + Sync>(rt: &T, alloc: Global) -> Option<usize> {
     for k in 0..ROWS.len() {
         if !is_text(written(rt, alloc, &ROWS[k]), ROWS[k].written) {
@@ -127,7 +126,7 @@ pub(super) fn first_other<T: Threads + Wait + Sync>(rt: &T, alloc: Global) -> Op
     None
 }
 
-/// How a script ends whose answers go to a broken device.
+/// Returns the end of a script with answers that go to a broken device.
 fn unwritten<T: Threads + Wait + Sync>(
     rt: &T,
     alloc: Global,
@@ -143,14 +142,14 @@ fn unwritten<T: Threads + Wait + Sync>(
     ending(rt, alloc, (DIAGRAM, GAME), PLAIN, script, broken)
 }
 
-/// How a script ends that comes from a broken device.
+/// Returns the end of a script that comes from a broken device.
 fn unread<T: Threads + Wait + Sync>(rt: &T, alloc: Global) -> Result<Ending, Fault> {
     let mut got = Vec::new(alloc);
     let broken = then_fails(b"");
     ending(rt, alloc, (DIAGRAM, GAME), PLAIN, broken, all(&mut got))
 }
 
-/// Whether broken devices end a script. Where nothing is written a broken device is no failure.
+/// Whether broken devices end a script. If nothing is written a broken device is no failure.
 pub(super) fn breaks<T: Threads + Wait + Sync>(rt: &T, alloc: Global) -> bool {
     matches!(unread(rt, alloc), Err(Fault::Read))
         && matches!(
@@ -160,7 +159,7 @@ pub(super) fn breaks<T: Threads + Wait + Sync>(rt: &T, alloc: Global) -> bool {
         && unwritten(rt, alloc, "# none\n").is_ok()
 }
 
-/// What a script ends with in a manner, on the family that is built in. Nothing where it fails.
+/// Returns the end of a script in a manner, on the built-in family. Nothing if it fails.
 fn end<T: Threads + Wait + Sync>(
     rt: &T,
     alloc: Global,
@@ -172,7 +171,7 @@ fn end<T: Threads + Wait + Sync>(
     end_of(ending(rt, alloc, (DIAGRAM, GAME), manner, script, all(&mut got))).ok()
 }
 
-/// Whether scripts end in each manner as they should, and what is told of a refusal.
+/// Whether scripts end in each manner as they should, with the right message about a refusal.
 pub(super) fn is_told<T: Threads + Wait + Sync>(rt: &T, alloc: Global) -> bool {
     let refused = end(rt, alloc, "show\nundo\nfrob", STRICT);
     matches!(end(rt, alloc, "show", STRICT), Some(End::Done))

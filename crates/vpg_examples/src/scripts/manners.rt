@@ -1,4 +1,4 @@
-//! Scripts in each manner, with what they answer and how they end.
+//! Scripts in each manner, with their answers and ends.
 
 use super::runs::{ends_so, put_lines};
 use crate::devices::{then_fails, whole};
@@ -10,8 +10,8 @@ use vpg_report::RunFault;
 use vpg_script::LineFault;
 use vpg_serving::{Ending, Manner};
 
-/// A manner, a script, what it answers, and how it ends. Lines are separated by ` / `, and the last line of the script
-/// has no end. The line `LONG` stands for 4,097 bytes, `LONGEST` for 4,096, and `HUGE` for 30,000.
+/// A manner, a script, its answers, and its end. Lines are separated by ` / `, and the last line of the script has no
+/// end. The line `LONG` stands for 4,097 bytes, `LONGEST` for 4,096, and `HUGE` for 30,000.
 struct Row {
     manner: Manner,
     script: &'static str,
@@ -184,7 +184,7 @@ static ROWS: [Row; 22] = [
     },
 ];
 
-/// Appends the script of a row, whose last line has no end; or answers that there was no memory.
+/// Appends the script of a row, without an end of its last line; or answers that there was no memory.
 fn put_script(alloc: Global, row: &Row, out: &mut Vec<u8>) -> bool {
     let done = put_lines(alloc, row.script, out);
     out.pop();
@@ -217,7 +217,7 @@ fn is_answered<T: Threads + Wait + Sync>(
     )
 }
 
-/// The place of the first row that is answered otherwise.
+/// Returns the place of the first row that is answered otherwise.
 pub(super) fn first_other<T: Threads + Wait + Sync>(
     rt: &T,
     alloc: Global,
@@ -231,7 +231,7 @@ pub(super) fn first_other<T: Threads + Wait + Sync>(
     None
 }
 
-/// Whether a run that goes on ends where its reader fails within a line that is too long.
+/// Whether a run that goes on ends if its reader fails within a line that is too long.
 pub(super) fn ends_in_a_long_line<T: Threads + Wait + Sync>(
     rt: &T,
     alloc: Global,

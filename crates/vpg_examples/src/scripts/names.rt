@@ -1,4 +1,4 @@
-//! Scripts that call vertices by their names, each with its whole output. Lines are separated by ` / `.
+//! Scripts that name vertices, each with its whole output. Lines are separated by ` / `.
 
 use super::ends::ending;
 use super::manners::PLAIN;
@@ -9,7 +9,7 @@ use std::sync::Wait;
 use std::thread::Threads;
 use vpg_report::DIAGRAM;
 
-/// A game over the diagram that is built in, a script, and what it answers.
+/// A game over the built-in diagram, a script, and its answers.
 struct Row {
     game: &'static str,
     script: &'static str,
@@ -61,7 +61,7 @@ static ROWS: [Row; 6] = [
     },
 ];
 
-/// Whether a row is answered so; or ends in a fault, where it has no answers.
+/// Whether a row is answered so; or ends in a fault, if it has no answers.
 fn is_answered<T: Threads + Wait + Sync>(rt: &T, alloc: Global, row: &Row) -> bool {
     let (mut script, mut wanted) = (Vec::new(alloc), Vec::new(alloc));
     let mut got = Vec::new(alloc);
@@ -74,7 +74,7 @@ fn is_answered<T: Threads + Wait + Sync>(rt: &T, alloc: Global, row: &Row) -> bo
     }
 }
 
-/// The place of the first row that is answered otherwise.
+/// Returns the place of the first row that is answered otherwise.
 pub(super) fn first_other<T: Threads + Wait + Sync>(rt: &T, alloc: Global) -> Option<usize> {
     for k in 0..ROWS.len() {
         if !is_answered(rt, alloc, &ROWS[k]) {

@@ -11,17 +11,17 @@ use vpg_serving::Ending;
 
 const SCRIPT: &[u8] = b"exclude f\n# none\nsettle\n\nshow\n";
 
-/// How many bytes are to be written before each line of the script is read, and before its end is found.
+/// The number of bytes to be written before each line of the script is read, and before its end is found.
 const WANTED: [u64; 6] = [0, 7, 7, 17, 17, 94];
 
-/// What was written so far, and how often it was not what is wanted.
+/// The number of bytes written so far, and how often it was not the wanted one.
 #[derive(Drop)]
 struct Seen {
     written: AtomicU64,
     missed: AtomicU64,
 }
 
-/// Gives one byte of the script a call, and looks at what was written by then.
+/// Gives one byte of the script a call, and looks at the bytes written by then.
 #[derive(Drop)]
 struct Looks<'t> {
     script: &'static [u8],

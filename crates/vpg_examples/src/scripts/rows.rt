@@ -13,7 +13,7 @@ use vpg_serving::Ending;
 /// A game of one vertex that Even wins.
 const DOT: &str = "0 0 0 0;";
 
-/// A script on a family, and what it answers.
+/// A script on a family, and its answers.
 struct Row {
     diagram: &'static str,
     game: &'static str,
@@ -21,7 +21,7 @@ struct Row {
     answers: &'static str,
 }
 
-/// What the rows of a table are about.
+/// The subject of a table's rows.
 #[derive(Clone, Copy)]
 pub(super) enum Worked {
     Settling,
@@ -42,7 +42,7 @@ pub(super) enum Worked {
     Moves,
 }
 
-/// Whether a script ends without a fault by so many lifters, and answers just this.
+/// Whether a script ends without a fault by this many lifters, and answers just this.
 fn is_answered_by<T: Threads + Wait + Sync>(
     rt: &T,
     alloc: Global,
@@ -64,7 +64,7 @@ fn is_answered_by<T: Threads + Wait + Sync>(
     )
 }
 
-/// The same by 1, 4 and 64 lifters.
+/// Whether a script ends without a fault by 1, 4 and 64 lifters, and answers just this.
 fn is_answered_on<T: Threads + Wait + Sync>(
     rt: &T,
     alloc: Global,
@@ -79,7 +79,7 @@ fn is_answered_on<T: Threads + Wait + Sync>(
         && is_answered_by(rt, alloc, family, 64, &text, &wanted)
 }
 
-/// The same on the family of these texts.
+/// Whether a script on the family of these texts ends without a fault, and answers just this.
 fn is_answered<T: Threads + Wait + Sync>(
     rt: &T,
     alloc: Global,
@@ -94,7 +94,7 @@ fn is_answered<T: Threads + Wait + Sync>(
     }
 }
 
-/// The place of the first row of a table that is answered otherwise.
+/// Returns the place of the first row of a table that is answered otherwise.
 pub(super) fn first_other<T: Threads + Wait + Sync>(
     rt: &T,
     alloc: Global,
@@ -110,7 +110,7 @@ pub(super) fn first_other<T: Threads + Wait + Sync>(
     None
 }
 
-/// The rows of a table.
+/// Returns the rows of a table.
 fn rows_of(table: Worked) -> &'static [Row] {
     match table {
         Worked::Settling => &SETTLING,
@@ -441,7 +441,7 @@ static COUNTS: [Row; 2] = [
 ];
 
 static OTHER_VERDICTS: [Row; 2] = [
-    // Undo and redo change no verdict that was told: the next of these tells what they did.
+    // Undo and redo change no verdict that was reported: the next `changed` reports theirs.
     Row {
         diagram: DIAGRAM,
         game: GAME,
@@ -485,7 +485,7 @@ static PICTURES: [Row; 2] = [
             -> 0 [label=\"!g | f & !!r\", style=dotted, color=gray70, fontcolor=gray50]; /   0 -> 7 \
             [label=\"!(f | g)\", style=dotted, color=gray70, fontcolor=gray50]; /   0 -> 0 [style=solid]; / }",
     },
-    // What can be reached: over any edge that may be there, by Odd's moves, by Even's, and where an edge is gone.
+    // Parts that can be reached: over any edge that may be there, by Odd's moves, by Even's, and if an edge is gone.
     Row {
         diagram: "root r\noptional r a\noptional r b\noptional r c\n",
         game: "0 1 1 1,2[c]; 1 1 0 0,3[a]; 2 0 1 2; 3 1 1 3; 4 0 0 4[b],5; 5 0 0 4,5[c];",
@@ -762,7 +762,8 @@ fn put_climbers(vertices: u32, text: &mut String) -> bool {
     done
 }
 
-/// With 62 odd priorities the top is 2^62, and the vertex of the greatest priority rises to it in two lifts.
+/// Whether a vertex rises to the limit: with 62 odd priorities the top is 2^62, and the vertex of the greatest priority
+/// rises to it in two lifts.
 pub(super) fn rises_to_the_limit<T: Threads + Wait + Sync>(rt: &T, alloc: Global) -> bool {
     let script =
         "lift hopeful 61 / lift hopeful 61 / lift hopeful 61 / lift hopeful 0 / lift dual 61 / trail";

@@ -9,7 +9,7 @@ use std::thread::Threads;
 use vpg_report::RunFault;
 use vpg_serving::{Ending, Manner};
 
-/// Appends a line, or so many `#`; or answers that there was no memory.
+/// Appends a line, or a number of `#`; or answers that there was no memory.
 fn put_line(alloc: Global, line: &str, out: &mut Vec<u8>) -> bool {
     let bytes = match line {
         "LONG" => 4097,
@@ -23,8 +23,8 @@ fn put_line(alloc: Global, line: &str, out: &mut Vec<u8>) -> bool {
     }
 }
 
-/// Appends the lines of a text, which are separated by ` / `, each with a line feed behind it; or answers that there
-/// was no memory.
+/// Appends the lines of a text, which are separated by ` / `, each with a line feed after it; or answers that there was
+/// no memory.
 pub(super) fn put_lines(alloc: Global, text: &str, out: &mut Vec<u8>) -> bool {
     let mut done = true;
     for line in text.split(" / ") {

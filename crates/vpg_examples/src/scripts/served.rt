@@ -7,7 +7,7 @@ use std::thread::Threads;
 use vpg_script::{Command, Device, LineFault, Request};
 use vpg_serving::{RunFault, ServeFault, Server, answer_script};
 
-// Refuses what asks for a token or a harvest; it has no desk for the rest.
+// Refuses commands that need a token or a harvest; it has no desk for the rest.
 #[derive(Drop)]
 struct Refuser;
 
@@ -46,7 +46,7 @@ impl Server for Refuser {
     }
 }
 
-/// How a script over these devices ends, with this server.
+/// Returns the end of a script over these devices, with this server.
 fn served<T: Threads + Wait + Sync>(
     rt: &T,
     alloc: Global,
@@ -58,7 +58,7 @@ fn served<T: Threads + Wait + Sync>(
     answer_script(rt, alloc, 1, &mut Refuser, &mut reader, &mut writer)
 }
 
-/// Whether a script ends so, behind these answers, where so many calls of the writer are taken, of two bytes each.
+/// Whether a script ends so, after these answers, if the writer takes this many calls, of two bytes each.
 fn is_served<T: Threads + Wait + Sync>(
     rt: &T,
     alloc: Global,
@@ -77,14 +77,14 @@ fn is_served<T: Threads + Wait + Sync>(
     result == ended && got.as_slice() == answers
 }
 
-/// Whether lines are answered, but for those that are blank or a comment.
+/// Whether lines are answered, except those that are blank or a comment.
 pub(super) fn answers_lines<T: Threads + Wait + Sync>(rt: &T, alloc: Global) -> bool {
     let script = whole(b"# none\r\n\n 2: keep 1 \r\nundo 007\ncommit 1");
     let answers = b"refused NoToken\nrefused NoToken\nrefused NoHarvest\n";
     is_served(rt, alloc, script, 100, Ok(()), answers)
 }
 
-/// Lines whose words are not those that their command takes.
+/// Lines with words that their command doesn't take.
 static ARGS: [&str; 37] = [
     "settle 1000000001",
     "lift hopeful 4294967296",
@@ -125,10 +125,10 @@ static ARGS: [&str; 37] = [
     "select 9",
 ];
 
-/// Lines whose first word is no command, or whose label is none.
+/// Lines with a first word that is no command, or a label that is none.
 static WORDS: [&str; 4] = ["65: undo", "0: undo", "2:undo", "2:"];
 
-/// Whether the last line of a script, the one of this number, is refused so, behind these answers.
+/// Whether the last line of a script, the one of this number, is refused so, after these answers.
 fn is_refused<T: Threads + Wait + Sync>(
     rt: &T,
     alloc: Global,
@@ -141,7 +141,7 @@ fn is_refused<T: Threads + Wait + Sync>(
     is_served(rt, alloc, whole(text), 100, ended, answers)
 }
 
-/// The place of the first of these lines that is not refused so as a script of its own.
+/// Returns the place of the first of these lines that is not refused so as a script of its own.
 fn first_of<T: Threads + Wait + Sync>(
     rt: &T,
     alloc: Global,
@@ -156,7 +156,7 @@ fn first_of<T: Threads + Wait + Sync>(
     None
 }
 
-/// The place of the first line that is not refused as such a fault: for its words, or for its first word.
+/// Returns the place of the first line that is not refused as such a fault: for its words, or for its first word.
 pub(super) fn first_other<T: Threads + Wait + Sync>(
     rt: &T,
     alloc: Global,
@@ -168,7 +168,7 @@ pub(super) fn first_other<T: Threads + Wait + Sync>(
     }
 }
 
-/// Whether the faulty line of a script is named, behind the answers to those before it.
+/// Whether the faulty line of a script is named, after the answers to those before it.
 pub(super) fn names_the_line<T: Threads + Wait + Sync>(rt: &T, alloc: Global) -> bool {
     let (script, answers) = (b"redo\nfrob", b"refused NoToken\n");
     is_refused(rt, alloc, script, 2, LineFault::Word, answers)

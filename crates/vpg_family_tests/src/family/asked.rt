@@ -1,4 +1,4 @@
-//! What is asked of families in texts.
+//! Questions of rows about families in texts.
 ghost use Rattle.std.specs.Arc.{arc_value};
 ghost use Rattle.std.specs.Prelude.{◌≡◌};
 ghost use Rattle.vpg_diagram.specs.FeatureDiagram.{feature_count};
@@ -15,7 +15,7 @@ use vpg_names::VertexNames;
 use vpg_script::{Device, Sink};
 use vpg_terminal::named_text;
 
-/// What is made, where there is memory for it.
+/// Returns the text that was made, if there is memory for it.
 fn kept(made: Result<Vec<u8>, AllocError>) -> Result<Vec<u8>, Fault> {
     match made {
         Ok(text) => Ok(text),
@@ -23,7 +23,7 @@ fn kept(made: Result<Vec<u8>, AllocError>) -> Result<Vec<u8>, Fault> {
     }
 }
 
-/// The plain game of the product of these features.
+/// Returns the plain game of the product of these features.
 fn projected(alloc: Global, family: &Family, features: &str) -> Result<Vec<u8>, Fault>
     requires { (arc_value family.now.game).features ≡ feature_count (arc_value family.now.diagram).lines }
 {
@@ -31,7 +31,7 @@ fn projected(alloc: Global, family: &Family, features: &str) -> Result<Vec<u8>, 
     family.again()?.projected(alloc, &words)
 }
 
-/// The texts of the family.
+/// Returns the texts of the family.
 fn texts(alloc: Global, row: &Row<'_>) -> Result<Texts, AllocError> {
     let diagram = Vec::from_slice(alloc, row.diagram.as_bytes())?;
     let game = Vec::from_slice(alloc, row.game.as_bytes())?;
@@ -47,7 +47,7 @@ fn texts(alloc: Global, row: &Row<'_>) -> Result<Texts, AllocError> {
     })
 }
 
-/// The picture of the page that a script left.
+/// Returns the picture of the page that a script left.
 fn page(alloc: Global, family: &Family, row: &Row<'_>, subject: Subject) -> Result<Vec<u8>, Fault>
     requires { (arc_value family.now.game).features ≡ feature_count (arc_value family.now.diagram).lines }
 {
@@ -64,7 +64,7 @@ fn page(alloc: Global, family: &Family, row: &Row<'_>, subject: Subject) -> Resu
     }
 }
 
-/// The picture of the system on the page that a script left.
+/// Returns the picture of the system on the page that a script left.
 fn system_page(alloc: Global, family: &Family, row: &Row<'_>) -> Result<Vec<u8>, Fault>
     requires { (arc_value family.now.game).features ≡ feature_count (arc_value family.now.diagram).lines }
 {
@@ -80,7 +80,7 @@ fn system_page(alloc: Global, family: &Family, row: &Row<'_>) -> Result<Vec<u8>,
     }
 }
 
-/// What is passed on of an answer.
+/// Returns the text that is passed on for an answer.
 fn passed_on(
     alloc: Global,
     family: &Family,
@@ -97,7 +97,7 @@ fn passed_on(
     }
 }
 
-/// An answer with the names of vertices.
+/// Returns an answer with the names of vertices.
 fn named(
     alloc: Global,
     family: &Family,
@@ -112,7 +112,7 @@ fn named(
     }
 }
 
-/// What is written of a family and the names of its vertices.
+/// Returns the text about a family and the names of its vertices.
 fn with_names(alloc: Global, family: &Family, row: &Row<'_>) -> Result<Vec<u8>, Fault>
     requires { (arc_value family.now.game).features ≡ feature_count (arc_value family.now.diagram).lines }
 {
@@ -122,7 +122,7 @@ fn with_names(alloc: Global, family: &Family, row: &Row<'_>) -> Result<Vec<u8>, 
     }
 }
 
-/// What is written of a family.
+/// Returns the text about a family.
 fn of_family(alloc: Global, family: &Family, row: &Row<'_>) -> Result<Vec<u8>, Fault>
     requires { (arc_value family.now.game).features ≡ feature_count (arc_value family.now.diagram).lines }
 {
@@ -136,7 +136,7 @@ fn of_family(alloc: Global, family: &Family, row: &Row<'_>) -> Result<Vec<u8>, F
     }
 }
 
-/// What is written of the family of two texts.
+/// Returns the text about the family of two texts.
 fn of_texts(alloc: Global, row: &Row<'_>) -> Result<Vec<u8>, Fault> {
     match Family::read(alloc, row.diagram.as_bytes(), row.game.as_bytes()) {
         Ok(family) => of_family(alloc, &family, row),
@@ -144,7 +144,7 @@ fn of_texts(alloc: Global, row: &Row<'_>) -> Result<Vec<u8>, Fault> {
     }
 }
 
-/// What looks wrong in the family of two texts.
+/// Returns the warnings of the family of two texts.
 fn warned(alloc: Global, row: &Row<'_>) -> Result<Vec<u8>, Fault> {
     match texts(alloc, row) {
         Ok(texts) => linted(alloc, PATHS, &texts),
@@ -152,7 +152,7 @@ fn warned(alloc: Global, row: &Row<'_>) -> Result<Vec<u8>, Fault> {
     }
 }
 
-/// What is written for a row.
+/// Returns the text for a row.
 fn answer(alloc: Global, row: &Row<'_>) -> Result<Vec<u8>, Fault> {
     let diagram = row.diagram.as_bytes();
     let game = row.game.as_bytes();
@@ -172,7 +172,7 @@ fn holds(alloc: Global, writing: &str) -> bool {
     said.text() == row.written
 }
 
-/// The first row of a table that doesn't hold.
+/// Returns the first row of a table that doesn't hold.
 fn first_of_table(alloc: Global, table: &'static str) -> Option<&'static str> {
     for writing in table.split('§') {
         if !writing.is_empty() && !holds(alloc, writing) {
@@ -182,7 +182,7 @@ fn first_of_table(alloc: Global, table: &'static str) -> Option<&'static str> {
     None
 }
 
-/// The first row that doesn't hold.
+/// Returns the first row that doesn't hold.
 fn first_wrong(alloc: Global) -> Option<&'static str> {
     for table in TABLES {
         if let Some(wrong) = first_of_table(alloc, table) {

@@ -1,4 +1,4 @@
-//! What is said of files that are refused.
+//! Messages about files that are refused.
 use super::{DIAGRAM, GAME, PATHS};
 use crate::said::Said;
 use std::alloc::Global;
@@ -11,7 +11,7 @@ const GAME_FILE: &str = "explained_game";
 
 const SCRIPT: &str = "explained_script";
 
-/// The texts of a diagram, a game and a script, and what is said of the first that is refused.
+/// The texts of a diagram, a game and a script, and the message about the first that is refused.
 struct Row {
     diagram: &'static str,
     game: &'static str,
@@ -64,12 +64,12 @@ explained_script:2:8: found `-1`; expected the number of a change
     },
 ];
 
-/// Writes what is said of a fault.
+/// Writes the message about a fault.
 fn put_explained(rt: &HostRuntime, fault: &Fault, said: &mut Said) {
     said.put_made(explained(rt, said.alloc, PATHS, Some(SCRIPT), fault));
 }
 
-/// Writes what is said of the fault of a family's files, and else of the second line of a script.
+/// Writes the message about the fault of a family's files, and else about the second line of a script.
 fn put_files(rt: &HostRuntime, said: &mut Said) {
     let fault = match read_family(rt, said.alloc, PATHS) {
         Ok(_) => Fault::Line {
@@ -101,7 +101,7 @@ fn holds(rt: &HostRuntime, alloc: Global, row: &Row) -> bool {
     said.text() == row.said
 }
 
-/// What is to be said of the first row that doesn't hold.
+/// Returns the wanted message of the first row that doesn't hold.
 fn first_wrong(rt: &HostRuntime, alloc: Global) -> Option<&'static str> {
     for row in &ROWS {
         if !holds(rt, alloc, row) {
@@ -111,7 +111,7 @@ fn first_wrong(rt: &HostRuntime, alloc: Global) -> Option<&'static str> {
     None
 }
 
-/// Writes what is said of a fault with a name.
+/// Writes the message about a fault with a name.
 fn put_named(rt: &HostRuntime, name: &str, is_conflict: bool, said: &mut Said) {
     match String::from_str(said.alloc, name) {
         Ok(name) => {
@@ -126,7 +126,7 @@ fn put_named(rt: &HostRuntime, name: &str, is_conflict: bool, said: &mut Said) {
     }
 }
 
-/// What is said of faults that another file, or a word, has. Behind each stands an empty line.
+/// The messages about faults of another file, or of a word. An empty line follows each.
 const BESIDE: &str = "\
 found `gg`; expected the name of a feature of the diagram
   hint: is `g` meant?
@@ -137,7 +137,7 @@ explained_game: there is no such file, or it cannot be read
 
 ";
 
-/// Writes what is said of faults that another file, or a word, has.
+/// Writes the messages about faults of another file, or of a word.
 fn put_beside(rt: &HostRuntime, said: &mut Said) {
     put_named(rt, "gg", false, said);
     said.put("\n");

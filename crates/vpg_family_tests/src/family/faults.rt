@@ -1,13 +1,13 @@
-//! What faults are told as that no family in texts meets.
+//! Messages about faults that no family in texts meets.
 use crate::said::Said;
 use std::test::*;
 use vpg_family::Fault;
 use vpg_script::LineFault;
 
-/// How many they are.
+/// The number of these faults.
 const FAULTS: u32 = 12;
 
-/// The fault at a place.
+/// Returns the fault at a place.
 fn fault_at(place: u32) -> Fault {
     match place {
         0 => Fault::DiagramUnreadable,

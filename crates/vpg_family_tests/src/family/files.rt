@@ -1,4 +1,4 @@
-//! Which fault of which file is told first.
+//! Which fault of which file is reported first.
 use super::{DIAGRAM, GAME};
 use crate::said::Said;
 use std::alloc::Global;
@@ -6,8 +6,8 @@ use std::fs;
 use std::test::*;
 use vpg_family::{Family, Fault, GamePaths, Paths, open_script, read_family};
 
-/// The files of a game and a diagram, and what is told of them. `none` is missing, `.` is a folder, and `empty` has no
-/// bytes.
+/// The files of a game and a diagram, and the message about them. `none` is missing, `.` is a folder, and `empty` has
+/// no bytes.
 const ROWS: [[&str; 3]; 8] = [
     ["none", "none", "vpgdesk: diagram unreadable\n"],
     ["game", ".", "vpgdesk: diagram unreadable\n"],
@@ -19,7 +19,7 @@ const ROWS: [[&str; 3]; 8] = [
     ["game", "diagram", "vertices 2 edges 4 features 3 top 2 2\n"],
 ];
 
-/// Writes the counts of a family, or the line that tells of its fault.
+/// Writes the counts of a family, or the line that reports its fault.
 fn put_counts(family: Result<Family, Fault>, said: &mut Said) {
     match family {
         Ok(family) => said.put_made(family.counted(said.alloc)),
@@ -38,7 +38,7 @@ fn holds(rt: &HostRuntime, alloc: Global, row: [&str; 3]) -> bool {
     said.text() == told
 }
 
-/// What is to be told of the first row that doesn't hold.
+/// Returns the wanted message of the first row that doesn't hold.
 fn first_wrong(rt: &HostRuntime, alloc: Global) -> Option<&'static str> {
     for row in ROWS {
         if !holds(rt, alloc, row) {

@@ -1,4 +1,4 @@
-//! What is told of a system and requirements that stand in place of a game.
+//! Messages about a system and requirements in place of a game.
 use super::DIAGRAM;
 use crate::said::Said;
 use std::alloc::Global;
@@ -17,7 +17,7 @@ const PATHS: Paths<'static> = Paths {
     diagram: "modelled_diagram",
 };
 
-/// The texts of a diagram, a system and requirements, and what is told of the first that is refused.
+/// The texts of a diagram, a system and requirements, and the message about the first that is refused.
 struct Row {
     diagram: &'static str,
     system: &'static str,
@@ -37,7 +37,7 @@ a0 = <a>can b && can a; a1 = a0 && a0; a2 = a1 && a1; a3 = a2 && a2; a4 = a3 && 
 a6 = a5 && a5; a7 = a6 && a6; a8 = a7 && a7; a9 = a8 && a8; a10 = a9 && a9; a11 = a10 && a10;\n\
 a12 = a11 && a11; a13 = a12 && a12;\n";
 
-/// Requirements of which the last is beyond it.
+/// Requirements with a last one that is beyond the limit.
 const LONG: &str = "\
 a0 = <a>can b && can a; a1 = a0 && a0; a2 = a1 && a1; a3 = a2 && a2; a4 = a3 && a3; a5 = a4 && a4;\n\
 a6 = a5 && a5; a7 = a6 && a6; a8 = a7 && a7; a9 = a8 && a8; a10 = a9 && a9; a11 = a10 && a10;\n\
@@ -248,7 +248,7 @@ modelled_requirements: the game of the system and these requirements has more th
     },
 ];
 
-/// Systems and requirements that look wrong, and what is warned of.
+/// Systems and requirements with warnings, and these.
 static WARNED: [Row; 3] = [
     Row {
         diagram: DIAGRAM,
@@ -293,13 +293,13 @@ warnings 3
     },
 ];
 
-/// Writes the line that tells of a fault, and what is said of it.
+/// Writes the line that reports a fault, and the message about it.
 fn put_fault(rt: &HostRuntime, fault: &Fault, said: &mut Said) {
     said.put_made(line_of(said.alloc, fault));
     said.put_made(explained(rt, said.alloc, PATHS, None, fault));
 }
 
-/// Writes what is counted of the family, or what is told of its files.
+/// Writes the counts of the family, or the message about its files.
 fn put_files(rt: &HostRuntime, said: &mut Said) {
     match read_texts(rt, said.alloc, PATHS) {
         Ok(texts) => said.put_answer(checked(said.alloc, &texts)),
@@ -307,7 +307,7 @@ fn put_files(rt: &HostRuntime, said: &mut Said) {
     }
 }
 
-/// Writes what is warned of the family, or what is told of its files.
+/// Writes the warnings of the family, or the message about its files.
 fn put_warned(rt: &HostRuntime, said: &mut Said) {
     match read_texts(rt, said.alloc, PATHS) {
         Ok(texts) => said.put_answer(linted(said.alloc, PATHS, &texts)),
@@ -329,7 +329,7 @@ fn holds(rt: &HostRuntime, alloc: Global, row: &Row) -> bool {
     said.text() == row.told
 }
 
-/// What is to be told of the first row that doesn't hold.
+/// Returns the wanted message of the first row that doesn't hold.
 fn first_wrong(rt: &HostRuntime, alloc: Global) -> Option<&'static str> {
     for row in &ROWS {
         if !holds(rt, alloc, row) {
@@ -339,7 +339,7 @@ fn first_wrong(rt: &HostRuntime, alloc: Global) -> Option<&'static str> {
     None
 }
 
-/// Whether what is warned of is that of the row.
+/// Whether the warnings are those of the row.
 fn is_warned_of(rt: &HostRuntime, alloc: Global, row: &Row) -> bool {
     let mut said = Said::new(alloc);
     if are_written(rt, row) {
@@ -348,7 +348,7 @@ fn is_warned_of(rt: &HostRuntime, alloc: Global, row: &Row) -> bool {
     said.text() == row.told
 }
 
-/// What is to be warned of in the first row that doesn't hold.
+/// Returns the wanted warnings of the first row that doesn't hold.
 fn first_unwarned(rt: &HostRuntime, alloc: Global) -> Option<&'static str> {
     for row in &WARNED {
         if !is_warned_of(rt, alloc, row) {
@@ -358,7 +358,7 @@ fn first_unwarned(rt: &HostRuntime, alloc: Global) -> Option<&'static str> {
     None
 }
 
-/// What is told of files that are not there, one after the other.
+/// The messages about files that are not there, one after the other.
 const GONE: &str = "\
 vpgdesk: requirements unreadable
 modelled_requirements: there is no such file, or it cannot be read
@@ -368,7 +368,7 @@ vpgdesk: diagram unreadable
 modelled_diagram: there is no such file, or it cannot be read
 ";
 
-/// Writes what is told while one file after the other is removed. Whether each was there.
+/// Writes the messages while one file after the other is removed. Returns whether each was there.
 fn put_gone(rt: &HostRuntime, said: &mut Said) -> bool {
     let mut were_there = true;
     for path in [

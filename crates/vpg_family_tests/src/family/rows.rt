@@ -1,4 +1,4 @@
-//! Families, what is asked of them, and what is written then.
+//! Families, questions about them, and the answers.
 use super::{DIAGRAM, GAME};
 
 /// A diagram that contradicts itself, and a game that Even wins.
@@ -33,13 +33,13 @@ const WIDEST: &str = "\
     47 95 0 47; 48 97 0 48; 49 99 0 49; 50 101 0 50; 51 103 0 51; 52 105 0 52; 53 107 0 53; 54 109 0 54; \
     55 111 0 55; 56 113 0 56; 57 115 0 57; 58 117 0 58; 59 119 0 59; 60 121 0 60; 61 123 0 61;";
 
-/// A family, what is asked of it, and what is written to standard output, or else to standard error.
+/// A family, a question about it, and the text on standard output, or else on standard error.
 #[derive(Drop)]
 pub(super) struct Row<'t> {
-    /// A word. `project` is asked of the words of a text with one blank between them, `redraw` of what a script wrote,
-    /// `pass-on` and `name` of an answer; `draw` and `redraw` are so of the game, with `-features` of the diagram, and
-    /// with `-system` of a system: `draw-system` of the one that stands in place of the game, `redraw-system` of the
-    /// one above.
+    /// A word. `project` takes the words of a text with one blank between them, `redraw` the text that a script wrote,
+    /// `pass-on` and `name` an answer; `draw` and `redraw` are about the game, with `-features` about the diagram, and
+    /// with `-system` about a system: `draw-system` about the one that stands in place of the game, `redraw-system`
+    /// about the one above.
     pub(super) asked: &'t str,
     pub(super) text: &'t str,
     pub(super) diagram: &'t str,
@@ -47,7 +47,7 @@ pub(super) struct Row<'t> {
     pub(super) written: &'t str,
 }
 
-/// What a part of a row stands for: a text by its name, or itself.
+/// Returns the text that a part of a row stands for: a text by its name, or itself.
 fn meant(part: &str) -> &str {
     match part {
         "DIAGRAM" => DIAGRAM,
@@ -62,12 +62,12 @@ fn meant(part: &str) -> &str {
     }
 }
 
-/// What stands before the next `¦`, and behind it.
+/// Returns the text before the next `¦`, and the text after it.
 fn cut(text: &str) -> (&str, &str) {
     text.split_once('¦').unwrap_or((text, ""))
 }
 
-/// The row that is written so.
+/// Returns the row that is written so.
 pub(super) fn row_of(writing: &str) -> Row<'_> {
     let (_, rest) = cut(writing);
     let (asked, rest) = cut(rest);
@@ -83,8 +83,8 @@ pub(super) fn row_of(writing: &str) -> Row<'_> {
     }
 }
 
-/// The rows, each with a `§` behind it. The parts of a row stand beside `¦`: a remark, what is asked, the texts of the
-/// diagram and of the game or their names, the text that is asked about, and what is written.
+/// The rows, each with a `§` after it. The parts of a row stand beside `¦`: a remark, the question, the texts of the
+/// diagram and of the game or their names, its text, and the answer.
 pub(super) static TABLES: [&str; 8] = [
     REFUSED, DONE, PICTURES, SYSTEMS, PAGES, PASSED, NAMED, WARNED,
 ];
@@ -110,7 +110,7 @@ const REFUSED: &str = "\
 ¦project¦DIAGRAM¦GAME¦g¦vpgdesk: NotAProduct\n§\
 ";
 
-/// What is counted, and what a product leaves.
+/// The counts of families, and the games of products.
 const DONE: &str = "\
 ¦check¦DIAGRAM¦GAME¦¦vertices 2 edges 4 features 3 top 2 2\n§\
 ¦check¦NONE¦DOT¦¦vertices 1 edges 1 features 2 top 1 2\n§\
@@ -199,7 +199,7 @@ digraph game {
 ¦draw-system¦NONE¦des (0, 0, 1)\n¦¦vpgdesk: Conflict r\n§\
 ";
 
-/// Pictures of pages that scripts left, from what the scripts wrote.
+/// Pictures of pages that scripts left, from the texts that the scripts wrote.
 const PAGES: &str = "\
 The last picture counts.¦redraw¦DIAGRAM¦HERE¦done 1
 digraph game {
@@ -476,7 +476,7 @@ refused NotNewest 12
 §\
 ";
 
-/// What looks wrong in families.
+/// Warnings of families.
 const WARNED: &str = "\
 ¦lint¦DIAGRAM¦GAME¦¦warnings 0\n§\
 ¦lint¦DIAGRAM¦0 1 0 0[f];¦¦explained_diagram:3:12: warning: `g` is named by no guard\nwarnings 1\n§\

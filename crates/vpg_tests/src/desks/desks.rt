@@ -1,4 +1,4 @@
-//! Worked calls on desks, as tables: each row is a call and what it gives.
+//! Worked calls on desks, as tables: each row is a call and its answer.
 
 use crate::calls::Answer::{
     Added, AnyToken, Done, Forgotten, Has, Is, Kept, NotCommitted, NotDecided, NotRedone,
@@ -57,13 +57,13 @@ fn is_nothing(rt: &impl Abort, held: Held) {
     }
 }
 
-/// What is held of a token's change, and its serial.
+/// Returns the token of a change to hold, and its serial.
 fn undo_of(token: Undo) -> (Held, Answer) {
     let serial = token.serial();
     (Held::Undo(token), Answer::Token(serial))
 }
 
-/// Makes a call that gives a token: what is held then, and what it gave.
+/// Makes a call that gives a token. Returns the token that is held then, and the answer.
 fn made<R: Abort + AllocGlobal>(rt: &R, desk: &mut Desk, by: By, call: Call) -> (Held, Answer) {
     let session = by as u32 + 1;
     match call {
@@ -81,7 +81,7 @@ fn made<R: Abort + AllocGlobal>(rt: &R, desk: &mut Desk, by: By, call: Call) -> 
     }
 }
 
-/// Makes a call that spends a token: what is held then, and what it gave.
+/// Makes a call that spends a token. Returns the token that is held then, and the answer.
 fn spent<R: Abort + AllocGlobal>(
     rt: &R,
     desk: &mut Desk,
@@ -115,7 +115,7 @@ fn spent<R: Abort + AllocGlobal>(
     }
 }
 
-/// A desk on a family; or why there is none, and both come back.
+/// Returns a desk on a family; or why there is none, and both come back.
 fn opened<R: Abort + AllocGlobal>(
     rt: &R,
     game: Arc<GuardedGame>,
@@ -137,7 +137,7 @@ fn desk_on<R: Abort + AllocGlobal>(rt: &R, game: &[u8], diagram: &[u8]) -> Desk 
     given(rt, opened(rt, game, diagram))
 }
 
-/// A desk on another family than that of most examples.
+/// Returns a desk on another family than that of most examples.
 fn other_desk<R: Abort + AllocGlobal>(rt: &R, other: Other) -> Desk {
     match other {
         Other::Game => desk_on(rt, b"parity 0; 0 0 0 0[f];", DIAGRAM),
@@ -145,7 +145,7 @@ fn other_desk<R: Abort + AllocGlobal>(rt: &R, other: Other) -> Desk {
     }
 }
 
-/// How many tokens are out of a desk, which isn't closed then and comes back.
+/// Returns the number of tokens that are out of a desk, which isn't closed then and comes back.
 fn tokens_out<R: Abort + AllocGlobal>(rt: &R, desk: &mut Desk) -> u64 {
     match mem::replace(desk, desk_on(rt, GAME, DIAGRAM)).close() {
         Ok(()) => 0,
@@ -156,7 +156,7 @@ fn tokens_out<R: Abort + AllocGlobal>(rt: &R, desk: &mut Desk) -> u64 {
     }
 }
 
-/// Hands in the harvest that is held, which is held still where it is refused.
+/// Hands in the harvest that is held, which is still held if it is refused.
 fn committed<R: Abort + AllocGlobal>(
     rt: &R,
     desk: &mut Desk,
@@ -303,7 +303,7 @@ fn carry_out_all<R: Wait + Abort + AllocGlobal>(
     close(rt, table);
 }
 
-/// What has no desk, and why.
+/// Families without a desk, and why.
 const REFUSED: &[(Lone, &[u8], OpenFault)] = &[
     (
         Lone::Zero,
@@ -359,7 +359,7 @@ const FORGET_FIRST: &[Part] = &[
     ),
 ];
 
-/// The first of two alternatives is decided, and what doesn't go with it is refused.
+/// The first of two alternatives is decided, and decisions that don't go with it are refused.
 const REFUSE: &[Part] = &[(
     1,
     &[
@@ -418,7 +418,7 @@ const TURN: &[Part] = &[(
     ],
 )];
 
-/// Retracting the first of two decisions drops what was assumed.
+/// Retracting the first of two decisions drops the lifts that assumed it.
 const RETRACT: &[Part] = &[(
     1,
     &[

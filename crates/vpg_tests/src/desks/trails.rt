@@ -32,7 +32,7 @@ const IN: Decision = Decision {
     value: true,
 };
 
-/// The same decisions as literals.
+/// The first decision as a literal.
 const FIRST: Literal = Literal {
     feature: 1,
     value: false,
@@ -58,16 +58,16 @@ fn assumed(rt: &impl Abort, alloc: Global, literals: &[Literal]) -> Arc<Assumed>
 
 // ---- trails that are made step by step
 
-/// What is done with a trail.
+/// A change of a trail.
 enum Deed {
     Decide(Decision),
     /// One vertex is raised by a lift from its present value, under these decisions.
     Raise(Which, u32, u64, &'static [Literal]),
-    /// The same by a lift that shares what the last entry assumed, which is a lift too.
+    /// One vertex is raised by a lift that shares the assumptions of the last entry, which is a lift too.
     RaiseAlso(Which, u32, u64),
-    /// The decision on a feature is retracted, and that taken back where this says so.
+    /// The decision on the feature is retracted, and that undone if this says so.
     Retract(u16, bool),
-    /// All entries are taken, and put behind an empty trail at once.
+    /// All entries are taken, and appended to an empty trail at once.
     PutAgain,
 }
 
@@ -94,7 +94,7 @@ fn raise(trail: &mut Trail, table: Which, vertex: u32, new: u64, under: Arc<Assu
     }
 }
 
-/// Raises one vertex by a lift that shares what the last entry assumed, which is a lift too.
+/// Raises one vertex by a lift that shares the assumptions of the last entry, which is a lift too.
 fn raise_also(trail: &mut Trail, table: Which, vertex: u32, new: u64) -> bool {
     let Some(Entry::Lift { under, .. }) = trail.entries().last() else {
         return false;
@@ -105,7 +105,7 @@ fn raise_also(trail: &mut Trail, table: Which, vertex: u32, new: u64) -> bool {
     }
 }
 
-/// Retracts a feature, and takes that back where this is asked for.
+/// Retracts a feature, and undoes that if this is asked for.
 fn retract(
     alloc: Global,
     trail: &mut Trail,
@@ -123,13 +123,13 @@ fn retract(
     Ok(())
 }
 
-/// Takes all entries, and puts them behind an empty trail at once.
+/// Takes all entries, and appends them to an empty trail at once.
 fn put_again(rt: &impl Abort, alloc: Global, trail: &mut Trail) -> bool {
     let all = trail.splice(0, Vec::new(alloc)).expect(rt, "no memory");
     trail.extend(all).is_ok()
 }
 
-/// Does this with a trail: whether it could be done.
+/// Makes this change to a trail. Returns whether it could be made.
 fn does(rt: &impl Abort, alloc: Global, trail: &mut Trail, deed: &Deed) -> bool {
     match *deed {
         Deed::Decide(decision) => trail.append(Entry::Decide(decision)).is_ok(),
@@ -142,7 +142,7 @@ fn does(rt: &impl Abort, alloc: Global, trail: &mut Trail, deed: &Deed) -> bool 
     }
 }
 
-/// A trail without entries over the game of two vertices.
+/// Returns a trail without entries over the game of two vertices.
 fn opened<R: Abort + AllocGlobal>(rt: &R) -> Trail
     ensures { result ≡ record { vertices = 2; entries = [] } }
 {
@@ -152,7 +152,7 @@ fn opened<R: Abort + AllocGlobal>(rt: &R) -> Trail
     Trail::open(rt.alloc(), &hopeful, &dual, 2).expect(rt, "no memory")
 }
 
-/// A trail over two vertices of which this was made.
+/// Returns a trail over two vertices after these changes.
 fn made<R: Abort + AllocGlobal>(rt: &R, deeds: &[Deed]) -> Trail {
     let mut trail = opened(rt);
     for deed in deeds {
@@ -186,7 +186,7 @@ const ONE_DECISION: &[Deed] = &[
 const TWO_TEXT: &str =
     "exclude f 1 by 1 / select g 2 by 1 / hopeful 0 0 1 -f +g / hopeful 0 1 2 -f / dual 1 0 1 -f / ";
 
-/// A trail, what is done with it, and its entries and tables then.
+/// A trail, a change of it, and its entries and tables then.
 type Row = (
     &'static [Deed],
     Deed,
@@ -234,7 +234,7 @@ fn all_hold<R: Abort + AllocGlobal>(rt: &R) {
 
 // ---- a splice
 
-/// A lift of the first table at vertex 0, from zero and without assumed decisions.
+/// Returns a lift of the hopeful table at vertex 0, from zero and without assumed decisions.
 fn first_lift(rt: &impl Abort, alloc: Global, new: u64) -> Entry
     ensures { entry_of result ≡ Lifted (record { table = Hopeful; vertex = 0; old = 0; new = new; under = [] }) }
 {
@@ -247,7 +247,8 @@ fn first_lift(rt: &impl Abort, alloc: Global, new: u64) -> Entry
     }
 }
 
-/// What is cut of a decision and a lift to 2, where a lift to 1 is put in place of that one.
+/// Cuts a trail of a decision and a lift to 2, and puts a lift to 1 in place of that one. Returns the entries that were
+/// cut.
 fn exchange(rt: &impl Abort, alloc: Global, trail: &mut Trail) -> Vec<Entry>
     requires { trail.old ≡ record { vertices = 2; entries = Decided OUT ∷ [] } }
 {
@@ -256,7 +257,7 @@ fn exchange(rt: &impl Abort, alloc: Global, trail: &mut Trail) -> Vec<Entry>
     trail.splice(1, suffix).expect(rt, "no memory")
 }
 
-/// Whether a splice puts in what it is given, and gives back what it cuts.
+/// Whether a splice puts in the entries that it gets, and returns those that it cuts.
 fn is_exchanged<R: Abort + AllocGlobal>(rt: &R) -> bool {
     let alloc = rt.alloc();
     let mut trail = opened(rt);
@@ -306,7 +307,7 @@ fn are_held(rt: &impl Abort, alloc: Global) -> bool {
     held && listed && back.as_slice() == [SECOND].as_slice()
 }
 
-/// The lifts of the second table from zero to three values.
+/// Returns the lifts of the dual table from zero to three values.
 fn lifts_to(rt: &impl Abort, alloc: Global, values: &Table) -> Vec<Entry>
     requires { length values.now ≡ 3 }
 {

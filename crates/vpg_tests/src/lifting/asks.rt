@@ -1,4 +1,4 @@
-//! What is asked of an order: rounds and lifts of its tables, strategies, certified bounds and guesses.
+//! Questions to an order: rounds and lifts of its tables, strategies, certified bounds and guesses.
 
 ghost use Rattle.std.specs.Prelude.{◌≡◌};
 ghost use Rattle.vpg_measure.specs.Lifts.{IsTableOf};
@@ -19,25 +19,25 @@ use vpg_measure::{
 use vpg_verdict::Which;
 use vpg_verdict::Which::{Dual, Hopeful};
 
-/// What is asked of a copy of one of an order's tables, and the answer.
+/// A question to a copy of one of an order's tables, and the answer.
 #[derive(Clone, Copy)]
 pub(crate) enum Ask {
-    /// How the rounds ended that made it.
+    /// The end of the rounds that made it.
     Ends(Outcome),
     /// Lifts of both vertices, which raise it to these values, and make a progress table of one that is none.
     Lifts([u64; 2]),
-    /// The strategy of an order's table; nothing where it is no progress table.
+    /// The strategy of an order's table; nothing if it is no progress table.
     Plan(Option<&'static [Option<u32>]>),
-    /// Bounds with ranks: whether they raise it, and nothing where they are no tables.
+    /// Bounds with ranks: whether they raise it, and nothing if they are no tables.
     Bounds([u64; 2], [u64; 2], Option<bool>),
     /// Certified guesses within a budget: whether it is a progress table then.
     Guess(u64, bool),
 }
 
-/// A table after so many rounds, what is asked of it, and its values then, where they are asked for.
+/// A table after this many rounds, a question to it, and its values then, if they are compared.
 pub(crate) type Row = (Which, u64, Ask, Option<&'static [u64]>);
 
-/// A copy of one of an order's tables after so many rounds, and how they ended.
+/// Returns a copy of one of an order's tables after this many rounds, and how they ended.
 pub(crate) fn settled<R: Abort + AllocGlobal>(
     rt: &R,
     order: &Order,
@@ -88,7 +88,7 @@ fn table_of<R: Abort + AllocGlobal>(rt: &R, values: [u64; 2]) -> Table {
     Table::of(given(rt, Vec::from_slice(rt.alloc(), &values)))
 }
 
-/// Whether bounds with ranks raise a table; nothing where they are no tables.
+/// Whether bounds with ranks raise a table; nothing if they are no tables.
 fn raised_by<R: Abort + AllocGlobal>(
     rt: &R,
     shape: &Shape,
@@ -165,9 +165,9 @@ fn ask_all<R: Abort + AllocGlobal>(rt: &R, order: Order, rows: &[Row]) {
     let_go(order);
 }
 
-/// Without `f` vertex 0 keeps its loop alone, climbs one a round, and has no choice at the top. It is Odd's, where that
-/// loop of priority 1 is all that is kept. The rank of vertex 1 is the top of the dual's shape, so that nothing is
-/// shown of it. The last bounds are no table: they exceed the top.
+/// Without `f` vertex 0 keeps its loop alone, climbs one a round, and has no choice at the top. It is Odd's: only that
+/// loop of priority 1 is kept. The rank of vertex 1 is the top of the dual's shape, so that nothing is shown of it. The
+/// last bounds are no table: they exceed the top.
 const WITHOUT_F: &[Row] = &[
     (Hopeful, 0, Ends(RanOut), Some(&[0, 0])),
     (Hopeful, 1, Ends(RanOut), Some(&[1, 0])),
@@ -203,7 +203,7 @@ const WITHOUT_F: &[Row] = &[
     (Hopeful, 0, Bounds([3, 0], [0, 0], None), Some(&[0, 0])),
 ];
 
-/// Vertex 0 is never Odd's where it may go on to vertex 1.
+/// Vertex 0 is never Odd's if it may go on to vertex 1.
 const UNDECIDED: &[Row] = &[
     (Hopeful, 0, Lifts([1, 0]), Some(&[1, 0])),
     (Dual, 0, Lifts([0, 1]), Some(&[0, 1])),
@@ -231,9 +231,9 @@ const AT_EXIT: &[Row] = &[
     (Dual, 0, Guess(BUDGET, true), Some(&[0, 2, 2, 2])),
 ];
 
-/// A loop of priority 1, and behind it 60 vertices of odd priorities of their own: the top is 2^61, and no rounds of
-/// lifts would come there. A budget that is spent leaves what was raised until then; the table of the dual is settled
-/// from the start.
+/// A loop of priority 1, and after it 60 vertices of odd priorities of their own. The top is 2^61, and no rounds of
+/// lifts would come there. A budget that is used up leaves the values raised until then; the table of the dual is
+/// settled from the start.
 const CLIMB: &[Row] = &[
     (
         Hopeful,

@@ -13,7 +13,7 @@ use vpg_board::{Board, Seat};
 use vpg_measure::{Harvest, Order};
 use vpg_verdict::Which;
 
-/// What the opening seat of a board does.
+/// The work of a board's opening seat.
 #[derive(Clone, Copy)]
 pub(crate) enum Sitting {
     /// It claims and lifts each vertex of two, and each lift answers so.
@@ -22,7 +22,7 @@ pub(crate) enum Sitting {
     Splits,
 }
 
-/// The board of an order, and its opening seat.
+/// Returns the board of an order, and its opening seat.
 fn board_of<R: Abort + AllocGlobal>(rt: &R, order: Order) -> (Board, Seat)
     ensures { result.1.board ≡ result.0 }
 {
@@ -50,7 +50,7 @@ fn claims_and_lifts(board: &Board, seat: &mut Seat, which: Which, v: u32) -> Opt
     }
 }
 
-/// Whether the four lifts of a board of two vertices answer so, in the order of claims, and two claims behind them find
+/// Whether the four lifts of a board of two vertices answer so, in the order of claims, and two claims after them find
 /// nothing.
 fn lifts_answer(board: &Board, seat: &mut Seat, answers: [bool; 4]) -> bool
     requires { seat.old.board ≡ board.now }
@@ -68,7 +68,7 @@ fn lifts_answer(board: &Board, seat: &mut Seat, answers: [bool; 4]) -> bool
         && sixth.is_none()
 }
 
-/// How often a seat splits, out of this many tries. What is split off is let go.
+/// Returns how often a seat splits, out of this many tries. The seats that are split off are dropped.
 fn splits_of(board: &Board, seat: &mut Seat, tries: usize) -> usize
     requires { seat.old.board ≡ board.now }
     ensures { seat.new.board ≡ board.now }
@@ -82,7 +82,7 @@ fn splits_of(board: &Board, seat: &mut Seat, tries: usize) -> usize
     splits
 }
 
-/// Whether a seat splits 63 times and no more, and what it split off splits never.
+/// Whether a seat splits 63 times and no more, and the seats that it split off never split.
 fn splits_stop(board: &Board, seat: &mut Seat) -> bool
     requires { seat.old.board ≡ board.now }
     ensures { seat.new.board ≡ board.now }
@@ -97,7 +97,7 @@ fn splits_stop(board: &Board, seat: &mut Seat) -> bool
     refused && rest == 62
 }
 
-/// What a seat claimed: the vertices of each table as bits, and how many claims there were.
+/// The claims of a seat: the vertices of each table as bits, and how many claims there were.
 #[derive(Clone, Copy)]
 struct Noted {
     hopeful: u64,
@@ -111,7 +111,7 @@ const NOTHING: Noted = Noted {
     claims: 0,
 };
 
-/// What two seats claimed.
+/// Returns the claims of two seats.
 fn both(one: Noted, other: Noted) -> Noted {
     Noted {
         hopeful: one.hopeful | other.hopeful,
@@ -147,7 +147,7 @@ fn claims_of(board: &Board, seat: &mut Seat) -> Noted
     noted
 }
 
-/// The same of a seat that comes back.
+/// Returns a seat, and its claims.
 fn claims_by(board: &Board, seat: Seat) -> (Seat, Noted)
     requires { seat.board ≡ board.now }
     ensures { result.0.board ≡ board.now }
@@ -157,7 +157,7 @@ fn claims_by(board: &Board, seat: Seat) -> (Seat, Noted)
     (seat, noted)
 }
 
-/// What two seats claim, each in a thread of its own, and the first with the second taken in.
+/// Returns the claims of two seats, each in a thread of its own, and the first with the second merged into it.
 fn claims_of_two<R: Threads + Wait + Sync>(
     rt: &R,
     board: &Board,
@@ -185,7 +185,7 @@ fn claims_of_two<R: Threads + Wait + Sync>(
     (one, both(first, second))
 }
 
-/// What a board's opening seat and three that it splits off claim, each in a thread of its own.
+/// Returns the claims of a board's opening seat and three that it splits off, each in a thread of its own.
 fn claims_of_four<R: Threads + Wait + Sync>(rt: &R, board: &Board, seat: Seat) -> (Seat, Noted)
     requires { seat.board ≡ board.now }
     ensures { result.0.board ≡ board.now }
@@ -214,7 +214,7 @@ fn claims_of_four<R: Threads + Wait + Sync>(rt: &R, board: &Board, seat: Seat) -
     (seat, both(first, last))
 }
 
-/// The harvest of a board whose seat does so.
+/// Returns the harvest of a board with a seat that does this work.
 pub(crate) fn seated<R: Abort + AllocGlobal>(rt: &R, order: Order, sitting: Sitting) -> Harvest {
     let (board, mut seat) = board_of(rt, order);
     let sits = match sitting {

@@ -56,21 +56,21 @@ fn fit(game: &GuardedGame, diagram: &Diagram, decisions: &[Decision]) -> bool
     are_below(diagram.features(), decisions)
 }
 
-/// A table of zero measures.
+/// Returns a table of zero measures.
 fn zeros<R: Abort + AllocGlobal>(rt: &R, shape: &Shape, vertices: u32) -> Table
     ensures { result ≡ replicate vertices 0 }
 {
     Table::zero(rt.alloc(), shape, vertices).expect(rt, "no memory")
 }
 
-/// A copy of a table.
+/// Returns a copy of a table.
 pub(crate) fn copy_of<R: Abort + AllocGlobal>(rt: &R, table: &Table) -> Table
     ensures { result ≡ table.now }
 {
     table.copy(rt.alloc()).expect(rt, "no memory")
 }
 
-/// The order of decisions with two tables of zeros, or why there is none, where game, diagram and decisions fit
+/// Returns the order of decisions with two tables of zeros, or why there is none, if game, diagram and decisions fit
 /// together.
 pub(crate) fn order_of<R: Abort + AllocGlobal>(
     rt: &R,
@@ -91,7 +91,7 @@ pub(crate) fn order_of<R: Abort + AllocGlobal>(
 /// Lets an order go. A function that does so itself takes the prover seconds; so all call this one.
 pub(crate) fn let_go(_order: Order) {}
 
-/// The order of two texts, a diagram's and a game's, with these decisions.
+/// Returns the order of two texts, a diagram's and a game's, with these decisions.
 pub(crate) fn order_from<R: Abort + AllocGlobal>(
     rt: &R,
     options: &[u8],
@@ -103,13 +103,13 @@ pub(crate) fn order_from<R: Abort + AllocGlobal>(
     given(rt, order_of(rt, game, diagram, decisions_of(rt, choices)))
 }
 
-/// The order of the game of two vertices with these decisions: feature 1 is `f`, feature 2 is `g`.
+/// Returns the order of the game of two vertices with these decisions: feature 1 is `f`, feature 2 is `g`.
 pub(crate) fn small<R: Abort + AllocGlobal>(rt: &R, choices: &[(u16, bool)]) -> Order {
     order_from(rt, DIAGRAM, GAME, choices)
 }
 
-/// The order without decisions of a game of so many vertices of Even, of the priorities 1, 3, 5 and so on. Each has one
-/// edge, to itself or, where all lead back, to the first.
+/// Returns the order without decisions of a game of this many vertices of Even, of the priorities 1, 3, 5 and so on.
+/// Each has one edge, to itself or, if all lead back, to the first.
 pub(crate) fn row_of<R: Abort + AllocGlobal>(
     rt: &R,
     options: &[u8],

@@ -1,4 +1,4 @@
-//! What is made of an order in turn: harvests, each of the order that the one before left.
+//! Harvests made of an order in turn, each of the order that the one before left.
 
 ghost use Rattle.std.specs.Prelude.{◌≤◌};
 
@@ -19,14 +19,14 @@ use vpg_settle::swept;
 use vpg_verdict::Which;
 use vpg_verdict::Which::{Dual, Hopeful};
 
-/// How an order is raised.
+/// The way to raise an order.
 #[derive(Clone, Copy)]
 pub(crate) enum How {
     /// One lift of this vertex.
     One(Which, u32),
-    /// So many rounds of both tables.
+    /// This many rounds of both tables.
     Alone(u64),
-    /// Copies of its tables after so many rounds, handed in.
+    /// Copies of its tables after this many rounds, handed in.
     Given(u64),
     /// Certified guesses.
     Bounds,
@@ -34,23 +34,23 @@ pub(crate) enum How {
     AtOnce,
     /// A board.
     Seated(Sitting),
-    /// A sweep by so many lifters.
+    /// A sweep by this many lifters.
     Sweep(u32),
-    /// As a line asks for that settles by one sweep of so many lifters.
+    /// The sweep of a line that settles by one sweep of this many lifters.
     Swept(u32),
 }
 
-/// How an order is raised, the tables then, and whether they are progress tables.
+/// The way to raise an order, the tables then, and whether they are progress tables.
 pub(crate) type Turn = (How, [[u64; 2]; 2], bool);
 
-/// The harvest of copies of an order's tables after so many rounds.
+/// Returns the harvest of copies of an order's tables after this many rounds.
 fn handed_in<R: Abort + AllocGlobal>(rt: &R, order: Order, rounds: u64) -> Harvest {
     let (hopeful, _) = settled(rt, &order, Hopeful, rounds);
     let (dual, _) = settled(rt, &order, Dual, rounds);
     Harvest::of(order, hopeful.into_values(), dual.into_values())
 }
 
-/// As many lifters as a sweep may have.
+/// Returns a number of lifters that a sweep may have.
 fn few(rt: &impl Abort, lifters: u32) -> u32
     ensures { (1 ≤ result) × (result ≤ 64) }
 {
@@ -58,7 +58,7 @@ fn few(rt: &impl Abort, lifters: u32) -> u32
     lifters
 }
 
-/// The harvest of an order raised so.
+/// Returns the harvest of an order raised so.
 fn harvest<G: Gate + Sync, R: Threads + Wait + Abort + AllocGlobal + Sync>(
     rt: &R,
     gate: &G,

@@ -40,7 +40,7 @@ struct Refusal {
     fault: OrderFault,
 }
 
-/// What comes back with a fault.
+/// Returns the values that come back with a fault.
 fn refused<R: Abort + AllocGlobal>(rt: &R, refusal: &Refusal) -> Refused {
     let diagram = diagram_of(rt, refusal.diagram);
     let game = lone_game(rt, &diagram, refusal.game);
@@ -76,8 +76,8 @@ fn are_refused<R: Abort + AllocGlobal>(rt: &R) {
     }
 }
 
-/// A priority at the limit is told before a conflict. The root names a conflict of the diagram alone; else the first
-/// decision up to which there is one.
+/// A priority at the limit is reported before a conflict. The root names a conflict of the diagram alone; else the
+/// first decision up to which there is one.
 const REFUSED: &[Refusal] = &[
     Refusal {
         game: Lone::AtLimit,

@@ -13,18 +13,18 @@ use vpg_board::{Gate, OpenGate};
 
 const MOST_TURNS: u64 = 1_000_000;
 
-/// What a lifter waits for in its first claim.
+/// The event that a lifter waits for in its first claim.
 #[derive(Clone, Copy)]
 enum Until {
     /// Nothing.
     Now,
-    /// That so many lifters have come.
+    /// This many lifters have come.
     All(u32),
     /// Lifter 1 waits until lifter 2 has lifted, and lifter 2 until lifter 1 has come.
     Relay,
 }
 
-/// Where lifters meet: each waits in its first claim, and each first claim that went on in time is counted.
+/// The meeting of lifters: each waits in its first claim, and each first claim that went on in time is counted.
 #[derive(Drop)]
 struct Meeting {
     until: Until,
@@ -91,7 +91,7 @@ struct Row {
     turns: &'static [Turn],
     /// Which lifters come: one bit for each.
     come: u64,
-    /// How many first claims go on in time, where lifters wait for one another.
+    /// The number of first claims that go on in time, if lifters wait for one another.
     passed: Option<u64>,
 }
 
@@ -135,7 +135,7 @@ const ROWS: &[Row] = &[
     },
 ];
 
-/// Sweeps the small game, and stops where others come, or go on, than have to.
+/// Sweeps the small game, and stops if others come, or go on, than have to.
 fn meet<R: Threads + Wait + Abort + AllocGlobal + Sync>(rt: &R, row: &Row, k: usize) {
     let meeting = Meeting {
         until: row.until,

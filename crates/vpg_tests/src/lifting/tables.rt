@@ -7,7 +7,7 @@ use std::test::*;
 use vpg_game::top_within_limit;
 use vpg_measure::{Shape, Table, prog};
 
-/// The shape of a game without guards.
+/// Returns the shape of a game without guards.
 fn shape_of<R: Abort + AllocGlobal>(rt: &R, text: &[u8]) -> Shape {
     let diagram = diagram_of(rt, DIAGRAM);
     let game = game_of(rt, &diagram, text);
@@ -34,7 +34,7 @@ fn have_progs<R: Abort>(rt: &R, shape: &Shape) {
     }
 }
 
-/// Two vertices of priority 1 and one of priority 3: the radices are 3 and 2.
+/// Whether two vertices of priority 1 and one of priority 3 have the right shape: the radices are 3 and 2.
 fn is_shaped<R: Abort + AllocGlobal>(rt: &R) -> bool {
     let top = given(rt, top_within_limit(rt.alloc(), &[1, 1, 3]));
     let shape = shape_of(rt, b"0 1 0 0; 1 1 0 1; 2 3 0 2;");
@@ -57,7 +57,7 @@ fn takes(other: &mut Table, table: &Table, values: [u64; 2]) -> bool {
     other.values() == values.as_slice() && [table.get(0), table.get(1)] == values
 }
 
-/// Whether a copy has what was set before it, and another table takes all.
+/// Whether a copy has the values that were set before it, and another table takes all.
 fn are_tables<R: Abort + AllocGlobal>(rt: &R) -> bool {
     let shape = shape_of(rt, GAME);
     let mut table = given(rt, Table::zero(rt.alloc(), &shape, 2));

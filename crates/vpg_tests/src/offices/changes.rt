@@ -1,4 +1,4 @@
-//! Calls of one or two sessions in one thread: what they change, and what refuses them.
+//! Calls of one or two sessions in one thread: their changes, and their refusals.
 
 use crate::calls::Answer::{
     Added, Done, Forgotten, Has, Is, Kept, NotCommitted, NotDecided, NotRedone, NotRetracted,
@@ -31,7 +31,7 @@ const SETTLE: &[Step] = &[
 
 const ALREADY: DecideFault = DecideFault::AlreadyDecided { serial: 1 };
 
-/// Two sessions are refused what a desk refuses.
+/// Two sessions get the refusals of a desk.
 const REFUSE: &[Step] = &[
     (One, Decide(First, F, true), Token(1)),
     (Two, Decide(Second, F, true), NotDecided(ALREADY)),
@@ -110,7 +110,7 @@ const LIFTED: &str =
     "2 decided / select f 1 by 1 / select g 2 by 2 / hopeful 0 0 1 +f +g / dual 0 0 2 +f +g \
     / dual 1 0 2 +f +g / 1 0 / 2 2 / ";
 
-/// A retraction drops what was assumed, and its undo brings that back.
+/// A retraction drops the lifts that assumed the decision, and its undo brings them back.
 const RETRACT_AND_UNDO: &[Step] = &[
     (One, Decide(First, F, true), Token(1)),
     (Two, Decide(Second, G, true), Token(2)),

@@ -1,5 +1,5 @@
 //! Sessions at work, without the clauses of their calls: what follows a call is then proved with few facts beside it.
-//! What a test never expects, as memory that is lacking, stops it.
+//! An event that a test never expects, such as memory running out, stops it.
 
 use crate::calls::{Answer, At, By, Call, Calls, harvest_of, hold_harvest};
 use crate::given::given;
@@ -18,7 +18,7 @@ pub struct Seat<L: Terms> {
     pub front: Front<L>,
 }
 
-/// Sessions, and what their calls gave but for tokens.
+/// Sessions, and the answers to their calls, tokens left out.
 pub struct Sitting<L: Terms> {
     pub seats: Vec<Seat<L>>,
     /// The front with which the first session began.
@@ -27,7 +27,7 @@ pub struct Sitting<L: Terms> {
     pub watches: Vec<Watch<Front<L>>>,
 }
 
-// Not derived, so that letting one go is one call: a derived way would be proved anew at each exit that owns one.
+// Not derived: a derived `drop` would be proved again at each exit that owns such a value.
 impl<L: Terms> Drop for Seat<L> {
     fn drop(self) {
         let Seat {
@@ -78,13 +78,13 @@ pub struct Hand<L: Terms> {
     pub tokens: Tokens<L>,
 }
 
-/// A further session.
+/// Returns the seat of a further session.
 pub fn joined<L: Terms, R: Wait + Abort>(rt: &R, office: &Office<L>) -> Seat<L> {
     let (session, front) = given(rt, office.join(rt));
     Seat { session, front }
 }
 
-/// One session at work, which holds nothing.
+/// Returns one session at work, which holds nothing.
 pub fn hand_of<L: Terms, R: Abort + AllocGlobal>(rt: &R, seat: Seat<L>) -> Hand<L> {
     let early = seat.front.copy();
     let mut seats = Vec::new(rt.alloc());
@@ -124,7 +124,7 @@ fn is_nothing<L: Terms>(rt: &impl Abort, held: Held<L>) {
     }
 }
 
-/// Why the desk refused.
+/// Returns why the desk refused.
 fn refusal<L: Terms, F>(rt: &impl Abort, fault: Fault<L, F>) -> F {
     match fault {
         Fault::Refused { fault } => fault,
@@ -132,19 +132,20 @@ fn refusal<L: Terms, F>(rt: &impl Abort, fault: Fault<L, F>) -> F {
     }
 }
 
-/// What is held of a token's change, and its serial.
+/// Returns the token of a change to hold, and its serial.
 fn undo_of<L: Terms>(token: Undo<L>) -> (Held<L>, Answer) {
     let serial = token.serial();
     (Held::Undo(token), Answer::Token(serial))
 }
 
-/// What is held of an undone change's token, and its serial.
+/// Returns the token of an undone change to hold, and its serial.
 fn redo_of<L: Terms>(token: Redo<L>) -> (Held<L>, Answer) {
     let serial = token.serial();
     (Held::Redo(token), Answer::Token(serial))
 }
 
-/// Makes a call that gives a token, or spends the one that is held: what is held then, and what it gave.
+/// Makes a call that gives a token, or spends the one that is held. Returns the token that is held then, and the
+/// answer.
 fn changed<L: Terms, R: Wait + Abort + AllocGlobal>(
     rt: &R,
     office: &Office<L>,
@@ -174,7 +175,7 @@ fn changed<L: Terms, R: Wait + Abort + AllocGlobal>(
     }
 }
 
-/// Makes a call that spends the token that is held: what is held then, and what it gave.
+/// Makes a call that spends the token that is held. Returns the token that is held then, and the answer.
 fn spent<L: Terms, R: Wait + Abort + AllocGlobal>(
     rt: &R,
     office: &Office<L>,
@@ -212,7 +213,7 @@ fn spent<L: Terms, R: Wait + Abort + AllocGlobal>(
     }
 }
 
-/// What is said of whether both tables are settled.
+/// Returns the answer on whether both tables are settled.
 fn settled<L: Terms>(rt: &impl Abort, answer: Result<bool, Fault<L, Never>>) -> Answer {
     match answer {
         Ok(settled) => Answer::Is(settled),
@@ -222,7 +223,7 @@ fn settled<L: Terms>(rt: &impl Abort, answer: Result<bool, Fault<L, Never>>) -> 
     }
 }
 
-/// What a watch reads.
+/// Returns the sheet that a watch reads.
 fn read_by<L: Terms>(watch: &mut Watch<Front<L>>) -> Answer {
     match read(watch) {
         Ok(sheet) => Answer::Sheet(sheet.at, sheet.settled),

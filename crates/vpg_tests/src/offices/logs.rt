@@ -1,4 +1,4 @@
-//! What logs take: calls up to their room, one call of a session since the front that it lends, and 1,024 sessions.
+//! Calls that a log takes: up to its room, one call of a session since the front that it lends, and 1,024 sessions.
 
 use crate::calls::Answer::{Doubled, Full, Has, Is, Joined, Says, Token};
 use crate::calls::At::First;
@@ -33,7 +33,7 @@ const FILL: &[Step] = &[
     (One, Join, Joined(3, 4)),
 ];
 
-/// The front that was lent has all calls, though the office can't be closed.
+/// The session's front has all calls, though the office can't be closed.
 const FILLED: &[Step] = &[(One, EarlyCalls, Has(4)), (Two, Calls, Has(4))];
 
 const JOIN_ALL: &[Step] = &[(One, JoinAll, Is(true))];

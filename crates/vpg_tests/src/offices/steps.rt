@@ -1,4 +1,4 @@
-//! Days of two sessions of an office, as tables of calls, and what each has to give.
+//! Days of two sessions of an office, as tables of calls with the answers that they have to have.
 ghost use Rattle.std.specs.Prelude.{◌≡◌, length};
 
 use crate::calls::{Answer, By, Call, Calls, Step, carry_out};
@@ -12,24 +12,24 @@ use vpg_diagram::Diagram;
 use vpg_game::GuardedGame;
 use vpg_office::{Ended, Front, Office, Terms, TokensOut, Undo, Work, read};
 
-/// What two sessions do on an office.
+/// The work of two sessions on an office.
 #[derive(Clone, Copy)]
 pub struct Day {
     pub name: &'static str,
-    /// How many calls the log takes.
+    /// The number of calls that the log takes.
     pub room: u32,
-    /// How many it has at the end, so that no call that no session made stands there.
+    /// The number of calls that it has at the end, so that no call that no session made stands there.
     pub calls: usize,
-    /// What is done while one token is out, before the office can't be closed.
+    /// The steps while one token is out, before the office can't be closed.
     pub before: &'static [Step],
-    /// What is done then, or from the beginning.
+    /// The steps after that, or from the beginning.
     pub steps: &'static [Step],
-    /// Whether no token is out at the end, and the office is closed. Else it is ended with the first token, where that
-    /// is held.
+    /// Whether no token is out at the end, and the office is closed. Else it is ended with the first token, if that is
+    /// held.
     pub closes: bool,
 }
 
-/// The office, which isn't closed since one token is out.
+/// Returns the office, which isn't closed since one token is out.
 fn kept_open<L: Terms>(rt: &impl Abort, closed: Result<Ended<L>, TokensOut<L>>) -> Office<L> {
     match closed {
         Ok(_ended) => rt.panic("closed"),
@@ -40,7 +40,7 @@ fn kept_open<L: Terms>(rt: &impl Abort, closed: Result<Ended<L>, TokensOut<L>>) 
     }
 }
 
-/// The office, which can't be closed. A front of no calls and one of the first session become its log.
+/// Returns the office, which can't be closed. A front of no calls and one of the first session become its log.
 fn refused<L: Terms, R: Wait + Abort>(rt: &R, office: Office<L>, hand: &mut Hand<L>) -> Office<L> {
     let office = kept_open(rt, office.close(rt)).unshare();
     hand.sitting.early = office.log();
@@ -49,7 +49,7 @@ fn refused<L: Terms, R: Wait + Abort>(rt: &R, office: Office<L>, hand: &mut Hand
     kept_open(rt, office.share().close(rt))
 }
 
-/// The token of a change, where one is held.
+/// Returns the token of a change, if one is held.
 fn undos_of<L: Terms, R: Abort + AllocGlobal>(rt: &R, held: Held<L>) -> Vec<Undo<L>> {
     let mut undos = Vec::new(rt.alloc());
     match held {
@@ -60,7 +60,7 @@ fn undos_of<L: Terms, R: Abort + AllocGlobal>(rt: &R, held: Held<L>) -> Vec<Undo
     undos
 }
 
-/// A watch from a front reads the sheet of that front or of a later one, where there is a place for it.
+/// Checks that a watch from a front reads the sheet of that front or of a later one, if there is a place for it.
 fn watches<L: Terms, R: Wait + Abort + AllocGlobal>(rt: &R, office: &Office<L>, front: &Front<L>) {
     if let Ok(mut watch) = office.watch_from(rt, rt.alloc(), front) {
         let sheet = given(rt, read(&mut watch));
@@ -72,7 +72,7 @@ fn watches<L: Terms, R: Wait + Abort + AllocGlobal>(rt: &R, office: &Office<L>, 
     }
 }
 
-/// Ends an office: closes it with no token out, or ends it with the first token, where that is held, and no other out.
+/// Ends an office: closes it with no token out, or ends it with the first token, if that is held, and no other out.
 pub fn end<L: Terms, R: Wait + Abort + AllocGlobal>(
     rt: &R,
     office: Office<L>,
@@ -95,7 +95,7 @@ pub fn end<L: Terms, R: Wait + Abort + AllocGlobal>(
     require(rt, ended.further() == 0, "no token is out");
 }
 
-/// Whether the front that was lent as a day ended has all calls, and a watch reads nothing.
+/// Whether the session's front at the end of a day has all calls, and a watch reads nothing.
 fn is_over<S: Calls>(rt: &impl Abort, hand: &mut S, day: Day) -> bool {
     let by = if day.closes { By::One } else { By::Two };
     let seen = hand.looks(rt, by, Call::Sees);
@@ -109,7 +109,7 @@ const BEGIN: &[Step] = &[
     (By::Two, Call::Number, Answer::Joined(2, 0)),
 ];
 
-/// Two sessions make a day's calls on an office, which is ended then: the front has all calls, and a watch reads
+/// Makes a day's calls of two sessions on an office, which is ended then: the front has all calls, and a watch reads
 /// nothing.
 fn spend<L: Terms, R: Wait + Abort + AllocGlobal>(rt: &R, office: Office<L>, day: Day)
     requires { length L.game.vertices ≡ 2 }

@@ -1,7 +1,7 @@
 //! Sessions in threads of their own.
 //!
-//! These offices are opened by `Office::open` itself: what is handed to threads is not yet proved below a method of a
-//! trait, as that of `Work` is.
+//! These offices are opened by `Office::open` itself: values that are handed to threads are not yet proved below a
+//! method of a trait, as that of `Work` is.
 ghost use Rattle.std.specs.Arc.{arc_value};
 ghost use Rattle.std.specs.Prelude.{◌≡◌, ◌≤◌};
 ghost use Rattle.vpg_diagram.specs.FeatureDiagram.{feature_count};
@@ -29,12 +29,12 @@ use vpg_watch::Watch;
 const WIDE: &[u8] = b"root r\noptional r f\noptional r g\noptional r a\noptional r b
 optional r c\noptional r d\noptional r e\noptional r h\n";
 
-/// What a session does in a thread of its own.
+/// The work of a session in a thread of its own.
 #[derive(Clone, Copy)]
 enum Task {
-    /// Decides this feature and retracts it so often: four calls each time.
+    /// Decides this feature and retracts it a number of times: four calls each time.
     Rounds(u16, u32),
-    /// Decides the feature f so. Where another commits late, that is between its order and its commit.
+    /// Decides the feature f so. If another commits late, that is between its order and its commit.
     Decide(bool),
     /// Takes an order, which is swept while another session decides, and commits the harvest.
     CommitLate,
@@ -42,29 +42,29 @@ enum Task {
     Read,
 }
 
-/// What sessions do at once on an office, each in a thread of its own.
+/// The work of sessions at once on an office, each in a thread of its own.
 struct Rush {
     name: &'static str,
     diagram: &'static [u8],
-    /// How many calls the log takes.
+    /// The number of calls that the log takes.
     room: u32,
-    /// How often this is done, each time on an office of its own.
+    /// The number of times that this is done, each on an office of its own.
     times: u32,
     tasks: &'static [Task],
-    /// What comes of them, or in the other order.
+    /// Their answers, or these in the other order.
     gives: &'static [Answer],
     or: &'static [Answer],
     /// The sum of the places of all calls in rounds, from 1.
     sum: u64,
-    /// How many calls the log has at the end.
+    /// The number of calls that the log has at the end.
     calls: usize,
-    /// The page at the end, where it is looked at.
+    /// The page at the end, if it is looked at.
     page: Option<&'static str>,
     /// Whether a session commits late.
     is_late: bool,
 }
 
-/// Where the calls of a session stand in the log.
+/// The places of a session's calls in the log.
 #[derive(Clone, Copy)]
 struct Places {
     last: usize,
@@ -72,7 +72,7 @@ struct Places {
 }
 
 impl Places {
-    /// Notes the call that a front of this length ends with. It stands behind the one noted before.
+    /// Notes the call that a front of this length ends with. It stands after the one noted before.
     fn note(&mut self, rt: &impl Abort, length: usize) {
         require(rt, self.last < length, "a place behind the last");
         self.last = length;
@@ -80,7 +80,7 @@ impl Places {
     }
 }
 
-/// The call of a session in rounds that comes behind so many: a feature is decided and retracted, in four calls.
+/// Returns the call of a session in rounds after this many: a feature is decided and retracted, in four calls.
 fn call_of(feature: u16, before: u32) -> Call {
     match before % 4 {
         0 => Call::Decide(At::First, feature, true),
@@ -89,7 +89,7 @@ fn call_of(feature: u16, before: u32) -> Call {
     }
 }
 
-/// How many calls the front has.
+/// Returns the number of the front's calls.
 fn calls<S: Calls>(rt: &impl Abort, hand: &mut S) -> usize {
     match hand.looks(rt, By::One, Call::Calls) {
         Answer::Has(calls) => calls,
@@ -97,7 +97,7 @@ fn calls<S: Calls>(rt: &impl Abort, hand: &mut S) -> usize {
     }
 }
 
-/// So many rounds, and the sum of the places of their calls, from 1.
+/// Makes this many rounds, and returns the sum of the places of their calls, from 1.
 fn rounds<S: Calls, R: Wait + Abort + AllocGlobal>(
     rt: &R,
     office: &S::Office,
@@ -116,14 +116,14 @@ fn rounds<S: Calls, R: Wait + Abort + AllocGlobal>(
     places.sum
 }
 
-/// What sessions in threads of their own share.
+/// The values that sessions in threads of their own share.
 #[derive(Drop)]
 struct Shared {
     /// Whether the rounds have ended.
     ended: AtomicU64,
     /// The sum of the places of their calls.
     places: AtomicU64,
-    /// Whether an order was taken that is committed late, and whether that was done. From the beginning where none is.
+    /// Whether an order was taken that is committed late, and whether that was done. From the beginning if none is.
     ordered: AtomicU64,
     committed: AtomicU64,
     /// Whether a session was answered that decided.
@@ -132,7 +132,7 @@ struct Shared {
     passed: AtomicU64,
 }
 
-/// Waits until this is set, but not for ever: whether it was.
+/// Waits until this is set, but not for ever. Returns whether it was.
 fn is_set(flag: &AtomicU64) -> bool {
     for _ in 0..1_000_000u32 {
         if flag.load(Ordering::SeqCst) != 0 {
@@ -154,8 +154,8 @@ impl Gate for Shared {
     fn after_lift(&self, _lifter: u32) {}
 }
 
-/// Decides, unless another was first: the serial of the change, or why there is none. Where another commits late, that
-/// is between its order and its commit.
+/// Decides, unless another was first. Returns the serial of the change, or why there is none. If another commits late,
+/// that is between its order and its commit.
 fn decide<S: Calls, R: Wait + Abort + AllocGlobal>(
     rt: &R,
     office: &S::Office,
@@ -174,7 +174,7 @@ fn decide<S: Calls, R: Wait + Abort + AllocGlobal>(
     answer
 }
 
-/// The order of a harvest of which nothing was lifted, once it is swept.
+/// Sweeps the order of a harvest in which nothing was lifted.
 fn swept<R: Threads + Wait + Abort + AllocGlobal + Sync>(
     rt: &R,
     held: &mut Option<Harvest>,
@@ -184,7 +184,8 @@ fn swept<R: Threads + Wait + Abort + AllocGlobal + Sync>(
     hold_harvest(held, sweep(rt, rt.alloc(), bare.again(), 1, shared));
 }
 
-/// Takes an order, which is swept while another session decides, and commits the harvest: how many entries that added.
+/// Takes an order, which is swept while another session decides, and commits the harvest. Returns how many entries that
+/// added.
 fn commit_late<S: Calls, R: Threads + Wait + Abort + AllocGlobal + Sync>(
     rt: &R,
     office: &S::Office,
@@ -202,8 +203,8 @@ fn commit_late<S: Calls, R: Threads + Wait + Abort + AllocGlobal + Sync>(
     answer
 }
 
-/// Reads until the rounds have ended, and then once more: what is read last. No sheet is of fewer calls than the one
-/// before.
+/// Reads until the rounds have ended, and then once more. Returns the last sheet. No sheet is of fewer calls than the
+/// one before.
 fn read_on<S: Calls, R: Wait + Abort>(rt: &R, hand: &mut S, shared: &Shared) -> Answer {
     let mut last = 0;
     for _ in rt.forever() {
@@ -222,7 +223,7 @@ fn read_on<S: Calls, R: Wait + Abort>(rt: &R, hand: &mut S, shared: &Shared) -> 
     unreachable!()
 }
 
-/// What comes of a session's task.
+/// Carries out a session's task, and returns its answer.
 fn work<S: Calls, R: Threads + Wait + Abort + AllocGlobal + Sync>(
     rt: &R,
     office: &S::Office,
@@ -243,7 +244,7 @@ fn work<S: Calls, R: Threads + Wait + Abort + AllocGlobal + Sync>(
     }
 }
 
-/// A session, with a watch where it reads.
+/// A session, with a watch if it reads.
 #[derive(Drop)]
 struct Job<L: Terms> {
     seat: Seat<L>,
@@ -251,7 +252,7 @@ struct Job<L: Terms> {
     task: Task,
 }
 
-/// What comes of a job.
+/// Carries out a job, and returns its answer.
 fn done<L: Terms, R: Threads + Wait + Abort + AllocGlobal + Sync>(
     rt: &R,
     office: &Office<L>,
@@ -268,7 +269,7 @@ fn done<L: Terms, R: Threads + Wait + Abort + AllocGlobal + Sync>(
     answer
 }
 
-/// A session for each task. Where no thread can be made, the last goes first.
+/// Returns a session for each task. If no thread can be made, the last goes first.
 fn jobs_of<L: Terms, R: Wait + Abort + AllocGlobal>(
     rt: &R,
     office: &Office<L>,
@@ -290,7 +291,7 @@ fn jobs_of<L: Terms, R: Wait + Abort + AllocGlobal>(
     jobs
 }
 
-/// What comes of each job, in a thread of its own.
+/// Carries out each job in a thread of its own, and returns the answers.
 fn at_once<L: Terms + Send + Sync, R: Threads + Wait + Abort + AllocGlobal + Sync>(
     rt: &R,
     office: &Office<L>,
@@ -303,7 +304,7 @@ fn at_once<L: Terms + Send + Sync, R: Threads + Wait + Abort + AllocGlobal + Syn
     )
 }
 
-/// What sessions share before they begin.
+/// Returns the values that sessions share before they begin.
 fn shared_for(is_late: bool) -> Shared {
     let passes = !is_late as u64;
     Shared {
@@ -316,14 +317,14 @@ fn shared_for(is_late: bool) -> Shared {
     }
 }
 
-/// Whether this came of a rush: each call in rounds stood at a place of its own, behind those that its session made
+/// Whether a rush has these answers: each call in rounds stood at a place of its own, after those that its session made
 /// before.
 fn are_given(rush: &Rush, answers: &[Answer], shared: &Shared) -> bool {
     (answers == rush.gives || answers == rush.or)
         && shared.places.load(Ordering::SeqCst) == rush.sum
 }
 
-/// Whether the log is as it has to be behind a rush. To look at the page is one further call.
+/// Whether the log is as it has to be after a rush. Looking at the page is one further call.
 fn is_left<S: Calls, R: Wait + Abort + AllocGlobal>(
     rt: &R,
     office: &S::Office,
@@ -425,7 +426,7 @@ const EIGHT: &Rush = &Rush {
 
 const SECOND: Answer = Answer::NotDecided(DecideFault::AlreadyDecided { serial: 1 });
 
-/// Two sessions decide one feature, each its own way: one is the first, and the other is told so.
+/// Two sessions decide one feature, each its own way: one is the first, and the answer to the other says so.
 const RACE: &Rush = &Rush {
     name: "two threads decide one feature",
     diagram: DIAGRAM,

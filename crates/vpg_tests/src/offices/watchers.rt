@@ -1,4 +1,4 @@
-//! Watchers: what they read, and when.
+//! Watchers: the sheets that they read, and when.
 
 use crate::calls::Answer::{
     Added, Done, Forgotten, Has, Is, Kept, NotCommitted, NotDecided, NotRedone, NotRetracted,
@@ -47,8 +47,8 @@ const WATCH_LATE: &[Step] = &[
     (One, Calls, Has(3)),
 ];
 
-/// Each change is seen. It isn't seen that a token is kept or forgotten, nor what asks or is refused: an undo, a redo
-/// and a harvest that are refused too.
+/// Each change is seen. Nobody sees that a token is kept or forgotten, nor calls that ask or are refused: an undo, a
+/// redo and a harvest that are refused too.
 const WATCH_EACH: &[Step] = &[
     (One, Watch, Done),
     (One, Decide(First, F, false), Token(1)),
@@ -122,7 +122,7 @@ const WATCH_OPENING: &[Step] = &[(One, Watch, Done), (One, Sees, Sheet(0, false)
 
 const WATCH_ALL: &[Step] = &[(One, WatchAll, Is(true))];
 
-/// Once an office is closed or has ended there is no sheet. There are 64 watches and no more, until they are let go.
+/// Once an office is closed or has ended there is no sheet. There are 64 watches and no more, until they are dropped.
 pub const DAYS: &[Day] = &[
     Day {
         name: "a watch is at the last change",

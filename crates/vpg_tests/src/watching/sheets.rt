@@ -1,4 +1,4 @@
-//! What is read, and when.
+//! Sheets that are read, and when.
 ghost use Rattle.std.specs.Prelude.{◌≡◌, ◌≤◌};
 ghost use Rattle.std.specs.Thread.{IsSync};
 
@@ -12,7 +12,7 @@ use std::thread;
 use std::thread::{Threads, join};
 use vpg_watch::{Press, Watch};
 
-/// A press that shows the sheet of no steps. It is tried twice, as `sheet_of` is.
+/// Returns a press that shows the sheet of no steps. It is tried twice, as `sheet_of` is.
 fn opened<R: Wait + Abort + AllocGlobal>(rt: &R) -> Press<Steps>
     ensures { result.front.count ≡ 0 }
 {
@@ -25,7 +25,7 @@ fn opened<R: Wait + Abort + AllocGlobal>(rt: &R) -> Press<Steps>
     }
 }
 
-/// Adds up to so many watches, until there is no place, and says how many there are then.
+/// Adds at most this many watches, until there is no place, and returns how many there are then.
 fn add_watches<R: Abort>(
     rt: &R,
     press: &mut Press<Steps>,
@@ -43,7 +43,7 @@ fn add_watches<R: Abort>(
     watches.len()
 }
 
-/// What the watch at a place reads.
+/// Returns the sheet that the watch at a place reads.
 fn read_at(watches: &mut Vec<Watch<Steps>>, place: usize) -> Option<Told> {
     match watches.get_mut(place) {
         Some(watch) => told(watch),
@@ -51,8 +51,8 @@ fn read_at(watches: &mut Vec<Watch<Steps>>, place: usize) -> Option<Told> {
     }
 }
 
-/// Publishes the sheet of so many steps. Where that is refused, the first watch reads what it read before, and it is
-/// tried once more.
+/// Publishes the sheet of this many steps. If that is refused, the first watch reads the sheet that it read before, and
+/// it is tried once more.
 fn publish<R: Wait + Abort + AllocGlobal>(
     rt: &R,
     press: &mut Press<Steps>,
@@ -72,17 +72,17 @@ fn publish<R: Wait + Abort + AllocGlobal>(
 /// A step of a test.
 #[derive(Clone, Copy)]
 enum Step {
-    /// Up to so many watches more, until there are so many in all.
+    /// At most this many further watches, until there are that many in all.
     Watches(u32, usize),
-    /// The sheet of so many steps is published.
+    /// The sheet of this many steps is published.
     Publish(u32),
-    /// The watch at this place reads a sheet that tells so.
+    /// The watch at this place reads such a sheet.
     Reads(usize, Told),
-    /// All watches are let go.
+    /// All watches are dropped.
     Clear,
 }
 
-/// Whether a step of a test that has published up to so many is answered as it should be.
+/// Whether a step of a test that has published up to `shown` steps is answered as it should be.
 fn is_so<R: Wait + Abort + AllocGlobal>(
     rt: &R,
     press: &mut Press<Steps>,
@@ -142,8 +142,8 @@ fn on_press<R: Wait + Abort + AllocGlobal>(rt: &R, steps: &[Step]) {
     );
 }
 
-/// What three watches read, of which the third is made after the first sheet that is published, and the second is not
-/// read until the end.
+/// The reads of three watches. The third is made after the first sheet that is published, and the second is not read
+/// until the end.
 const THREE: &[Step] = &[
     Watches(2, 2),
     Reads(0, (0, false, false)),
@@ -164,10 +164,10 @@ const TWO: &[Step] = &[Watches(1, 1), Publish(2), Reads(0, (2, false, true))];
 /// There are 64 places and no more, and one again once the watches are gone.
 const PLACES: &[Step] = &[Watches(100, 64), Clear, Watches(1, 1)];
 
-/// How many sheets are published while four watches read.
+/// The number of sheets that are published while four watches read.
 const SHEETS: u32 = 100;
 
-/// Publishes the sheets of 1 step and more, and says how many were accepted.
+/// Publishes the sheets of 1 step and more, and returns how many were accepted.
 fn publish_all<R: Wait + AllocGlobal>(rt: &R, press: &mut Press<Steps>) -> u32
     requires { press.old.front.count ≡ 0 }
 {
@@ -184,8 +184,8 @@ fn publish_all<R: Wait + AllocGlobal>(rt: &R, press: &mut Press<Steps>) -> u32
     accepted
 }
 
-/// Reads up to a million times, until it reads the last sheet. Says whether it read that one, and no read fell behind
-/// the one before.
+/// Reads at most a million times, until it reads the last sheet. Returns whether it read that one, and no read was
+/// older than the one before.
 fn reads_on(mut watch: Watch<Steps>) -> bool {
     let mut seen = 0;
     for _ in 0..1_000_000u32 {
@@ -214,7 +214,7 @@ fn all_read_on<R: Threads + Sync>(rt: &R, watches: Vec<Watch<Steps>>) -> bool
     }
 }
 
-/// One thread publishes, and the four watches read on until they read the last sheet. Says how many sheets were
+/// One thread publishes, and the four watches read on until they read the last sheet. Returns how many sheets were
 /// accepted, and whether each of the four read the last one and never went back.
 fn publish_and_read<R: Threads + Wait + AllocGlobal + Sync>(
     rt: &R,

@@ -1,4 +1,4 @@
-//! The verdicts of a page, and the text of those that are other than they were.
+//! The verdicts of a page, and the text of those that differ from earlier ones.
 ghost use Rattle.std.specs.Prelude.{◌≡◌, ◌++◌, length, IfOk, OnOk, OnErr};
 ghost use Rattle.vpg_game.specs.Game.{graph_of, vertex_ids};
 ghost use Rattle.vpg_measure.specs.Games.{games_levels};
@@ -12,8 +12,8 @@ use vpg_measure::{PageGames, Table};
 use vpg_trail::Page;
 use vpg_verdict::{Verdict, Which};
 
-/// What two tables say of each vertex, in file order. They have one number for each vertex, and the games are those of
-/// this game: no guard and no edge is looked at.
+/// Returns each vertex's verdict by two tables, in file order. The tables have one number for each vertex, and the
+/// games are those of this game: no guard and no edge is looked at.
 pub fn verdicts_by(
     alloc: Global,
     games: &PageGames,
@@ -29,7 +29,7 @@ pub fn verdicts_by(
     changed::verdicts(alloc, games, game, hopeful, dual)
 }
 
-/// What a page's tables say of each vertex, in file order.
+/// Returns each vertex's verdict by a page's tables, in file order.
 pub fn verdicts_over(
     alloc: Global,
     games: &PageGames,
@@ -45,9 +45,9 @@ pub fn verdicts_over(
     verdicts_by(alloc, games, game, &page.hopeful, &page.dual)
 }
 
-/// Appends a line for each vertex whose present verdicts are other than what was seen of it, in file order: its
-/// identifier, what was seen, and its present verdicts. Then their number. A vertex of which nothing was seen is taken
-/// to be possible and unsure, as on the opening page.
+/// Appends a line for each vertex with another verdict now than was seen of it, in file order: its identifier, the
+/// verdict seen, and its verdict now. Then their number. A vertex without a seen verdict counts as possible and unsure,
+/// as on the opening page.
 pub fn put_changed(
     alloc: Global,
     game: &GuardedGame,

@@ -1,4 +1,4 @@
-//! The text of how many vertices have which verdict.
+//! The text of the numbers of vertices with each verdict.
 ghost use Rattle.std.specs.Prelude.{◌≡◌, ◌≤◌, ◌++◌, ℕ, List, length, map, All, OnOk, OnErr};
 ghost use Rattle.vpg_diagram.specs.FeatureDiagram.{feature_count};
 ghost use Rattle.vpg_game.specs.Game.{IsAtLimit, graph_of};
@@ -19,7 +19,7 @@ use vpg_measure::PageGames;
 use vpg_trail::Page;
 use vpg_verdict::Which;
 
-/// Appends the counts of a page as `count` does, over what its decisions make of its game: no guard is looked at.
+/// Appends the counts of a page as `count` does, over the games that its decisions leave: no guard is looked at.
 pub fn count_over(
     alloc: Global,
     games: &PageGames,
@@ -46,9 +46,9 @@ pub fn count_over(
     out.extend_from_slice(&text)
 }
 
-/// Appends how many vertices of a page are hopeless and how many possible, how many are sure and how many unsure,
-/// whether both tables are progress tables, and whether each feature is known. The page's decisions have no conflict,
-/// and its tables have one number up to the top for each vertex.
+/// Appends counts of a page: how many vertices are hopeless and how many possible, how many are sure and how many
+/// unsure. Then whether both tables are progress tables, and whether each feature is known. The page's decisions have
+/// no conflict, and its tables have one number up to the top for each vertex.
 pub fn count(
     alloc: Global,
     page: &Page,

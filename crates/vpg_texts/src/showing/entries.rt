@@ -11,7 +11,7 @@ use vpg_diagram::Diagram;
 use vpg_game::GuardedGame;
 use vpg_trail::Page;
 
-/// Appends a line for each entry of a page, a decision with its serial or a lift with what it assumed, and their
+/// Appends a line for each entry of a page, a decision with its serial or a lift with its assumptions, and their
 /// number. The entries name features of the diagram and vertices of the game.
 pub fn trail(
     alloc: Global,

@@ -117,7 +117,7 @@ fn assertion_over(
     out.extend_from_slice(&text)
 }
 
-/// Appends the answer to a lookup, over what the page's decisions make of its game: no guard is looked at. The game has
+/// Appends the answer to a lookup, over the games that the page's decisions leave: no guard is looked at. The game has
 /// the vertices that the lookup names.
 pub fn look_over(
     alloc: Global,

@@ -41,7 +41,7 @@ pub(crate) fn is_settled(games: &PageGames, hopeful: &Table, dual: &Table) -> bo
     is_settled_table(games, Which::Dual, dual)
 }
 
-/// The text of decisions and tables, over what the decisions make of the game.
+/// Appends the text of decisions and tables, over the games that the decisions leave.
 fn shown(
     alloc: Global,
     games: &PageGames,
@@ -78,7 +78,7 @@ fn shown(
     Ok(text)
 }
 
-/// Appends the text of a page as `show` does, over what its decisions make of its game: no guard is looked at.
+/// Appends the text of a page as `show` does, over the games that its decisions leave: no guard is looked at.
 pub fn show_over(
     alloc: Global,
     games: &PageGames,
@@ -111,8 +111,8 @@ pub fn show_over(
     out.extend_from_slice(&text)
 }
 
-/// Appends the text of a page: its decisions in their order, whether each feature is known, whether both tables are
-/// progress tables, and each vertex with its two measures and its verdict. The page's decisions have no conflict, and
+/// Appends the text of a page: its decisions in their order, whether each feature is known, and whether both tables are
+/// progress tables. Then each vertex with its two measures and its verdict. The page's decisions have no conflict, and
 /// its tables have one number up to the top for each vertex.
 pub fn show(
     alloc: Global,

@@ -16,8 +16,8 @@ use vpg_measure::PageGames;
 use vpg_names::VertexNames;
 use vpg_trail::Page;
 
-/// Appends the picture of a page's game, over what its decisions make of it: its decisions, the verdicts by its tables,
-/// and each guard by what is known. A vertex has its identifier and no name.
+/// Appends the picture of a page's game, over the games that its decisions leave: its decisions, the verdicts by its
+/// tables, and each guard by what is known. A vertex has its identifier and no name.
 pub fn draw_over(
     alloc: Global,
     games: &PageGames,

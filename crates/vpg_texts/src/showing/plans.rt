@@ -1,4 +1,4 @@
-//! The text of a plan: what Even does at a full and settled page.
+//! The text of a plan: Even's moves at a full and settled page.
 ghost use Rattle.std.specs.Prelude.{◌≡◌, ◌≤◌, ◌↔◌, ◌++◌, ℕ, List, length, map, All, None, Ok, Err, IfOk, IfErr, IfSome, OnOk, OnErr};
 ghost use Rattle.vpg_guards.specs.Known.{AreAllKnown};
 ghost use Rattle.vpg_diagram.specs.FeatureDiagram.{feature_count};
@@ -46,7 +46,7 @@ impl From<AllocError> for PlanFault {
     }
 }
 
-/// The choices of the first table; none where a lift raises some table.
+/// Returns the choices of the hopeful table; none if a lift raises some table.
 fn choices(
     alloc: Global,
     games: &PageGames,
@@ -73,9 +73,9 @@ fn choices(
     }
 }
 
-/// Appends a plan as `plan` does, over what the page's decisions make of its game: no guard is looked at.
+/// Appends a plan as `plan` does, over the games that the page's decisions leave: no guard is looked at.
 ///
-/// Errors, in this order: `NotFull` where some feature isn't known, `NotSettled` where some table is no progress table,
+/// Errors, in this order: `NotFull` if some feature isn't known, `NotSettled` if some table is no progress table,
 /// `Memory`. Neither of the first two takes memory.
 pub fn plan_over(
     alloc: Global,
@@ -99,7 +99,7 @@ pub fn plan_over(
     ensures refused { IfErr result
         (IsPlanFault (scene_of game.now diagram.now) page.now.decisions page.now.hopeful page.now.dual) }
 
-    // Want of memory takes the place of neither.
+    // Out of memory takes the place of neither.
     ensures not_full { (result ≡ Err PlanFault.NotFull) ↔
         ¬ (AreAllKnown (length games.now.known) games.now.known) }
     ensures not_settled { (result ≡ Err PlanFault.NotSettled) ↔
@@ -123,11 +123,11 @@ pub fn plan_over(
 }
 
 /// Appends a plan: for each vertex of Even that isn't hopeless, in file order, the first kept successor of least
-/// `prog`, and how many there are. The page's decisions have no conflict, and its tables have one number up to the top
+/// `prog`; then how many there are. The page's decisions have no conflict, and its tables have one number up to the top
 /// for each vertex.
 ///
-/// Errors, in this order: `NotFull` where some feature isn't known, `NotSettled` where some table is no progress table,
-/// `Memory`. To close the decisions takes memory, so want of it may come in the place of the first two.
+/// Errors, in this order: `NotFull` if some feature isn't known, `NotSettled` if some table is no progress table,
+/// `Memory`. Closing the decisions takes memory, so `Memory` may come in place of the first two.
 pub fn plan(
     alloc: Global,
     page: &Page,

@@ -1,4 +1,5 @@
 use Rattle.std.proofs.Common.{sym, subst}
+use Rattle.vpg_measure.specs.Orders.{IsSettledHarvest}
 use Rattle.vpg_settle.specs.Sweeping.{IsSweptOrder, IsLeft}
 use Rattle.vpg_settle.proofs.Repeated.{settled_sweeps, stands, stands_left}
 use Rattle.vpg_settle.proofs.sweeping.as_it_stands.Goals as goal
@@ -14,3 +15,8 @@ returns-clause-swept c = λ sweeps.
 
 pub returns-clause-left : goal.returns-clause-left
 returns-clause-left c = subst (IsLeft c.args.order) (sym c.noted.ensures) (stands_left c.args.order c.of_order-harvest.result c.of_order-harvest.ensures.order c.of_order-harvest.ensures.tables)
+
+pub returns-clause-settled : goal.returns-clause-settled
+returns-clause-settled c =
+    subst IsSettledHarvest (sym c.noted.ensures)
+    (stands c.args.order c.of_order-harvest.result c.of_order-harvest.ensures.order c.of_order-harvest.ensures.tables c.requires)

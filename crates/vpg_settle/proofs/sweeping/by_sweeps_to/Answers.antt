@@ -1,6 +1,7 @@
-use Rattle.std.proofs.Common.{◌∙◌, ◌+◌, ℕ, subst, sym, arith, inl}
+use Rattle.std.proofs.Common.{◌∙◌, ◌+◌, ◌≤◌, ℕ, subst, sym, arith, ◌⊎◌, inl, inr}
 use Rattle.std.specs.Prelude.{Some}
-use Rattle.vpg_settle.specs.Sweeping.{IsSweptOrder, AreSweeps, Leave}
+use Rattle.vpg_measure.specs.Orders.{IsSettledHarvest}
+use Rattle.vpg_settle.specs.Sweeping.{IsSweptOrder, AreSweeps, Leave, EndsBy}
 use Rattle.vpg_settle.proofs.Often.{left_more, made_then, one_sweep, swept_on}
 use Rattle.vpg_settle.proofs.Repeated.{swept_less, swept_all}
 use Rattle.vpg_settle.proofs.sweeping.by_sweeps_to.Goals as goal
@@ -19,6 +20,13 @@ returns-then-is_enough-clause-made g c =
     let now = c.loop-done.order in
     let harvest = c.sweep-harvest.result in
     made_then c.args.lifters c.loop-done.done 1 c.args.order now harvest c.loop-done.invariant.left (one_sweep c.args.lifters now harvest c.sweep-harvest.ensures.by)
+
+pub returns-then-is_enough-clause-ended : goal.returns-then-is_enough-clause-ended
+returns-then-is_enough-clause-ended g c = go (c.is_enough.ensures.late c.if-is_enough.true)
+  where
+    go : IsSettledHarvest c.sweep-harvest.result ⊎ (16 ≤ c.loop-done.done) → EndsBy (Some c.args.goal) c.args.sweeps (c.loop-done.done + 1) c.sweep-harvest.result
+    go (inl settled) = inl settled
+    go (inr late) = inr (inr (tt, omega (arith, late)))
 
 pub loop-done-preserved : goal.loop-done-preserved
 loop-done-preserved g c = record {

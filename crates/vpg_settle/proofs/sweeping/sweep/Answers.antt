@@ -8,4 +8,5 @@ returns-clause-swept g c = let e = c.sweep_along.ensures in one_sweeps c.args.or
 pub returns-clause-by : goal.returns-clause-by
 returns-clause-by g c =
     let e = c.sweep_along.ensures in
-    swept_by c.args.lifters c.args.order c.sweep_along.result (one_sweeps c.args.order c.sweep_along.result e.order e.harvest e.above e.moved)
+    swept_by c.args.lifters c.args.order c.sweep_along.result
+    (record { swept = one_sweeps c.args.order c.sweep_along.result e.order e.harvest e.above e.moved; lifted = e.lifted })

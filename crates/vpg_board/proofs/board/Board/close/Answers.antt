@@ -6,7 +6,8 @@ use Rattle.vpg_measure.specs.Lifts.{IsBelowTable}
 use Rattle.vpg_measure.specs.Orders.{OrderView, IsSameOrder, harvest_table}
 use Rattle.vpg_board.specs.declared.lifter.Lifter.{Lifter}
 use Rattle.vpg_board.specs.Places.{table_in, places}
-use Rattle.vpg_board.proofs.Ending.{may_be_harvested, was_seen}
+use Rattle.vpg_board.specs.Joins.{IsEndOf}
+use Rattle.vpg_board.proofs.Ending.{may_be_harvested, was_seen, end_of}
 use Rattle.vpg_board.proofs.board.Board.close.Goals as goal
 
 pub of-requires-clause-hopeful : goal.of-requires-clause-hopeful
@@ -42,3 +43,13 @@ returns-in_default-clause-back c = ap (λ b. b.order) c.self.view_is
 
 pub returns-clause-order : goal.returns-clause-order
 returns-clause-order c = subst (IsSameOrder c.of.result.order) (ap (λ b. b.order) c.self.view_is) c.of.ensures.order
+
+pub returns-clause-words : goal.returns-clause-words
+returns-clause-words c =
+    let inner = c.seat.inside.inner in
+    let self = c.self.inside in
+    let ended : IsEndOf self.order inner.me.0 c.of.result =
+    end_of self.order self.table.shared.key c.self.invariant.order c.self.invariant.key inner.id inner.me.0 (slots_items c.close_with-closed.result.words) (slots_items c.close_with-closed.result.slots)
+    c.seat.invariant.1.stands c.close_with-closed.ensures.values.2 self.vertices c.of.result c.self.invariant.vertices (c.of.ensures.hopeful ∙ c.in-Ok.ensures.hopeful) (c.of.ensures.dual ∙ c.in-Ok.ensures.dual) in
+    subst (λ (x : OrderView). IsEndOf x c.args.seat.lifter c.of.result) (ap (λ b. b.order) c.self.view_is)
+    (subst (λ (x : Lifter). IsEndOf self.order x c.of.result) (ap (λ s. s.lifter) c.seat.view_is) ended)
