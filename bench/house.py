@@ -4,8 +4,9 @@
     python3 bench/house.py [COMMIT..]       at the top of the repository: of the files as they are and as they were
 
 A line of the table for each count, a column for each commit, the last for the files as they are. Documents are all .md
-files but docs/DEFINITIONS.md and docs/API.md, which scripts write, and bench/log, which is kept as it was written. A sentence ends at `.`, `:`, `;`, `?` or `!` before
-a capital letter; tables, code and headings are left out. Words of the dialect (none in code), and what to say instead:
+files but docs/DEFINITIONS.md and docs/API.md, which scripts write, and bench/log, which is kept as it was written. A
+sentence ends at `.`, `:`, `;`, `?` or `!` before a capital letter; tables, code and headings are left out. Words of the
+dialect (none in code), and what to say instead:
 
     told, tell, tells       report, say, return, know       first table, second table   the hopeful table, the dual one
     behind, of order        after, beside                   the same of                 name the thing again

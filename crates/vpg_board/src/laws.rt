@@ -1,4 +1,4 @@
-//! What every run of a board keeps, and that its atomic steps are the steps of runs: each law is the contract of a
+//! Invariants of every run of a board, and that its atomic steps are the steps of runs. Each law is the contract of a
 //! function that does nothing.
 
 ghost use Rattle.std.specs.Prelude.{◌≡◌, ◌≢◌, ◌<◌, ◌≤◌, ◌+◌, ◌-◌, ℕ, List, [], ◌∷◌, true};
@@ -15,29 +15,29 @@ ghost use Rattle.vpg_board.specs.Taken.{IsOnBoard};
 ghost use Rattle.vpg_board.specs.Joins.{IsOfRun};
 ghost use Rattle.vpg_board.specs.Steps.{IsBoard, Leads, after_load, after_raise, after_claim, after_split, after_join};
 
-/// Any steps of any lifters keep the measures: no word falls under what a seat has seen, and each stays below every
-/// progress table.
+/// Any steps of any lifters keep the measures: no word falls below a value that a seat has seen, and each stays below
+/// every progress table.
 pub fn every_run_keeps_the_measures()
     ensures { (order : OrderView) (run : List Move) → IsOrder order → IsRun order run →
         MeasuresKept order (ran order run) }
 {}
 
-/// Any steps of any lifters keep the counts: each place below the claim number is claimed by one seat, and no other
-/// number is a claim; the empty claims are those past the places; the seats stood for are one more than the splits.
+/// Any steps of any lifters keep the counts. Each place below the claim number is claimed by one seat, and no other
+/// number is a claim. The empty claims are those past the places. The seats stood for are one more than the splits.
 pub fn every_run_keeps_the_counts()
     ensures { (order : OrderView) (run : List Move) → IsRun order run → ClaimsCounted order (ran order run) }
 {}
 
-/// Where lifters claim until they found none left, and the opening one alone splits, 63 times, none has more empty
-/// claims than it stands for: so a seat has at most one for itself. This holds of such runs alone. In a run where
-/// lifters go on claiming after their first empty claim, one may have any number of them; seats never go on.
+/// If lifters claim until they find no place left, and the opening one alone splits, at most 63 times, none has more
+/// empty claims than seats that it stands for. So a seat has at most one for itself. This holds of such runs alone. If
+/// lifters went on claiming after their first empty claim, one could have any number of them. Seats never go on.
 pub fn every_board_run_keeps_the_claims()
     ensures run { (order : OrderView) (run : List Move) → IsBoardRun order run → IsRun order run }
     ensures claims { (order : OrderView) (run : List Move) → IsBoardRun order run → ClaimsKept order (ran order run) }
 {}
 
-/// What a seat knows comes from one run, and all its joins are steps of that run. So what both seats of a join knew is
-/// what lifters of that board knew before it. `Board::close` adds the words to this run.
+/// The knowledge of a seat comes from one run, and all its joins are steps of that run. So before a join, lifters of
+/// that board knew what both its seats knew. `Board::close` adds that the words come from this run too.
 pub fn joined_seats_are_of_one_run()
     ensures { (v : Lifter) → IsOnBoard v → (run : List Move) × IsOfRun v.order run v }
 {}
@@ -49,15 +49,15 @@ pub fn two_lifters_claim_apart()
         (n : ℕ) → times n v.claims + times n w.claims ≤ 1 }
 {}
 
-/// An atomic load of a measure is the step `load`: whatever board the words and seats show, they show the board after
-/// it then.
+/// An atomic load of a measure is the step `load`: the words and seats show a board, and then the board after that
+/// step.
 pub fn loads_are_steps()
     ensures { (order : OrderView) (s : State (Unit {0}) Lifter) (id word : ℕ) (v : Lifter) → IsBoard order s →
         get_elem? s.views id ≡ some v → 0 < v.stands
         → 0 < word → word - 1 < places order → Leads order (load id (word - 1)) s (after_load s id v word) }
 {}
 
-/// An atomic maximum of a measure and the lift of what the seat has seen is the step `raise`.
+/// An atomic maximum of a measure and the lift of the values that the seat has seen is the step `raise`.
 pub fn raises_are_steps()
     ensures { (order : OrderView) (s : State (Unit {0}) Lifter) (id word : ℕ) (v : Lifter) → IsBoard order s →
         get_elem? s.views id ≡ some v → 0 < v.stands
@@ -78,7 +78,7 @@ pub fn splits_are_steps()
         → v.opening ≡ true → v.splits < 63 → Leads order (split id) s (after_split s id v) }
 {}
 
-/// A seat that takes in another is the step `join`.
+/// A seat that merges another is the step `join`.
 pub fn joins_are_steps()
     ensures { (order : OrderView) (s : State (Unit {0}) Lifter) (id other : ℕ) (v w : Lifter) → IsBoard order s →
         get_elem? s.views id ≡ some v → 0 < v.stands
@@ -86,7 +86,7 @@ pub fn joins_are_steps()
         Leads order (join id other) s (after_join s id v other w) }
 {}
 
-/// What a step leads to shows a board that some run reached; so does an order's opening.
+/// The state after a step shows a board that some run reached, and so does an order's opening.
 pub fn steps_stay_on_boards()
     ensures opening { (order : OrderView) → IsBoard order (opening (0 ∷ values order) [] (opener order)) }
     ensures steps { (order : OrderView) (m : Move) (s t : State (Unit {0}) Lifter) → Leads order m s t →

@@ -1,4 +1,4 @@
-//! What a game was made of: what steps of the system are told by.
+//! The origin of a game, by which steps of the system are reported.
 ghost use Rattle.std.specs.Prelude.{◌≡◌, ◌<◌, [], length, take, slice_index_or, IfOk};
 ghost use Rattle.vpg_model.specs.Forms.{HasLabels};
 ghost use Rattle.vpg_model.specs.Pairs.{HaveGuards};
@@ -10,15 +10,15 @@ use vpg_model::Source;
 use vpg_part_texts::Text;
 use vpg_system::System;
 
-/// What a game was made of: the names of the system's actions, its transitions, the sets of actions and the parts of
-/// the requirements, and the state and the part of each vertex.
+/// The origin of a game: the names of the system's actions, its transitions, and the sets of actions and the parts of
+/// the requirements. It also has the state and the part of each vertex.
 pub struct Behaviour {
     actions: Vec<Text>,
     source: Source,
     pairs: IndexSet<(u32, u32)>,
 }
 
-// Not derived, so that letting one go is one call: a derived way would be proved anew at each exit that owns one.
+// Not derived, so that dropping one is one call: a derived drop would be proved again at each exit that owns one.
 impl Drop for Behaviour {
     fn drop(self) {
         let Behaviour {
@@ -58,7 +58,7 @@ impl Model for Behaviour {
     }) };
 }
 
-/// The names of a system's actions.
+/// Returns the names of a system's actions.
 pub(crate) fn action_names(alloc: Global, system: &System) -> Result<Vec<Text>, AllocError>
     ensures { IfOk result (λ names. names.items ≡ system.now.actions) }
 {
@@ -71,7 +71,7 @@ pub(crate) fn action_names(alloc: Global, system: &System) -> Result<Vec<Text>, 
 }
 
 impl Behaviour {
-    /// What a game was made of, by the names of the actions, what it was built from, and the pairs of its vertices.
+    /// Returns the origin of a game from the names of the actions, its source, and the pairs of its vertices.
     pub fn of(actions: Vec<Text>, source: Source, pairs: IndexSet<(u32, u32)>) -> Behaviour
         requires guards { HaveGuards source.features source.states.items }
         requires labels { HasLabels (length actions.items) source.states.items }
@@ -91,21 +91,21 @@ impl Behaviour {
         }
     }
 
-    /// Over how many features the guards are.
+    /// Returns the number of features that the guards are over.
     pub fn features(&self) -> usize
         ensures { result ≡ self.now.features }
     {
         self.source.features
     }
 
-    /// The names of the actions.
+    /// Returns the names of the actions.
     pub fn actions(&self) -> &[Text]
         ensures { result.now ≡ self.now.actions }
     {
         &self.actions
     }
 
-    /// The transitions from each state, and the sets of actions and the parts of the requirements.
+    /// Returns the transitions from each state, and the sets of actions and the parts of the requirements.
     pub fn source(&self) -> &Source
         ensures features { result.now.features ≡ self.now.features }
         ensures states { result.now.states.items ≡ self.now.states }
@@ -117,7 +117,7 @@ impl Behaviour {
         &self.source
     }
 
-    /// The state of each vertex, and the place of its part.
+    /// Returns the state of each vertex, and the place of its part.
     pub fn pairs(&self) -> &IndexSet<(u32, u32)>
         ensures { result.now.keys ≡ self.now.pairs }
     {

@@ -4,10 +4,11 @@
 //! family Even wins there exactly if the requirement holds at the first state of the product's system. So a desk over
 //! the game shows for each requirement in which products it holds. [`Model::write`] writes the game's text.
 //!
-//! A [`Behaviour`] is what stays of a model where the game was read from its text: what tells steps of the system.
+//! If the game is read from its text, a [`Behaviour`] keeps the rest of the model: all that reports of the system's
+//! steps need.
 //!
-//! The definitions stand in `specs/`: `Checking`, what the game is of the two texts; `Faults`, why there is none;
-//! `Texts`, what is written; `Behaviours`, what a game was made of.
+//! The definitions stand in `specs/`: `Checking`, the game of the two texts; `Faults`, why there is none; `Texts`, the
+//! texts that are written; `Behaviours`, the origin of a game.
 #![tactic(auto)]
 
 mod behaviour;

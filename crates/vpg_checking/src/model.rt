@@ -155,8 +155,8 @@ impl Model {
             model.roots.items (graph_of model.game)) }
         ensures sets { IfOk result (λ model. (s : NamedSystem) → IsTextOf diagram.now.names system.now s →
             model.sets.items ≡ map (set_text s.actions) model.source.sets.items) }
-        // It has the names of the system's actions, and the system's transitions by their sources. So what is told of a
-        // step of the source is so of the system.
+        // It has the names of the system's actions, and the system's transitions by their sources. So a report of a
+        // step of the source holds of the system.
         ensures actions { IfOk result (λ model. (s : NamedSystem) → IsTextOf diagram.now.names system.now s →
             model.actions.items ≡ s.actions) }
         ensures system { IfOk result (λ model. (s : NamedSystem) → IsTextOf diagram.now.names system.now s →

@@ -1,4 +1,4 @@
--- What the code keeps of places in a text: how many words are left, as the places of the specs.
+-- Places in a text: the code keeps the number of words that are left, the specs the place itself.
 use Rattle.std.specs.Prelude.{◌≡◌, ℕ, suc, ◌+◌, ◌-◌, ◌<◌, ◌≤◌, List, [], ◌++◌, length, codes, Bool, true, false, not, if◌then◌else◌, nat_lt, slice_index_or, Option, Some, None, is_some}
 use Rattle.vpg_formula.specs.Words.{words_of}
 use Rattle.vpg_formula.specs.Places.{place_of}
@@ -58,7 +58,7 @@ pub record IsStopped (earlier ws : List (List ℕ)) (Is : ℕ → Type 0) (k : �
   pub is : Is k
   pub known : AreKnownTo earlier ws k
 
--- Where words begin no formula, an entry's or one alone.
+-- Where words stop being a formula, an entry's or one alone.
 abbrev pub BodyAt : Bool → List (List ℕ) → List (List ℕ) → Halt → Type 0
 BodyAt in_entry earlier ws halts.Memory = Unit {0}
 BodyAt in_entry earlier ws (halts.Syntax left) = IsLeft ws left (IsStopped earlier ws (IsStuckAt in_entry ws))
@@ -106,7 +106,7 @@ pub data IsHeadless (earlier : List (List ℕ)) (n : ℕ) (name : List ℕ) (ws 
   signless : is_variable name ≡ true → is_among earlier name ≡ false → n < 64 → after_word (codes "=") ws ≡ None →
       left ≡ length ws → IsHeadless earlier n name ws left
 
--- Where words begin no entry behind so many of these names, for what stands in front of its formula.
+-- Where words stop being the name and the `=` of an entry, after this many entries of these names.
 abbrev pub HeadAt : List (List ℕ) → ℕ → List ℕ → List (List ℕ) → Halt → Type 0
 HeadAt earlier n name ws (halts.Twice left) = IsRepeated earlier name ws left
 HeadAt earlier n name ws (halts.TooMany left) = IsBeyond earlier n name ws left

@@ -49,18 +49,19 @@ pub data FormulaAt (ws : List (List ℕ)) : List Entry → ℕ → List (List �
       AreBehind ws entries k (name ∷ codes "=" ∷ rest) → is_variable name ≡ true →
       is_among (entry_names entries) name ≡ false → length entries < 64 → FormulaAt ws entries (k + 2) rest
 
--- whether it is an entry's
+-- whether the formula is an entry's
 abbrev pub is_in_entry : {ws : List (List ℕ)} {entries : List Entry} {k : ℕ} {rest : List (List ℕ)} →
     FormulaAt ws entries k rest → Bool
 is_in_entry (alone none) = false
 is_in_entry (in_entry name entries k rest is_behind variable new few) = true
 
--- each name in front of so many words of a formula is bound, or an earlier entry's
+-- each name among the first k words of a formula is bound there, or an earlier entry's
 abbrev pub AreKnownTo : List (List ℕ) → List (List ℕ) → ℕ → Type 0
 AreKnownTo earlier ws k = (u : ℕ) → first_unknown (mentions earlier ws) ≡ Some u → k ≤ u
 
--- Behind so many words stands one that cannot come there, or nothing: behind whole entries a word that is no name, or a
--- new name without `=`; or one with which the formula there does not go on. All names in front of it are known.
+-- After this many words comes one that cannot come there, or the words end too early. After whole entries it is no
+-- name, or it is not the `=` after a new name. In a formula, the formula does not go on with it. All names before it
+-- are known.
 pub data IsSyntaxAt (ws : List (List ℕ)) : ℕ → Type 0 where
   no_name : (w : List ℕ) (entries : List Entry) (k : ℕ) (rest : List (List ℕ)) → begins_entry ws ≡ true →
       AreBehind ws entries k (w ∷ rest) → is_variable w ≡ false → IsSyntaxAt ws k
@@ -71,7 +72,7 @@ pub data IsSyntaxAt (ws : List (List ℕ)) : ℕ → Type 0 where
       (begins : FormulaAt ws entries start rest) → IsStuckAt (is_in_entry begins) rest k →
       AreKnownTo (entry_names entries) rest k → IsSyntaxAt ws (start + k)
 
--- behind so many words stands one that would open the 65th part, and all names in front of it are known
+-- after this many words comes one that would open the 65th part, and all names before it are known
 pub record IsTooDeepAt (ws : List (List ℕ)) (k : ℕ) : Type 0 where
   pub entries : List Entry
   pub start : ℕ
@@ -82,7 +83,7 @@ pub record IsTooDeepAt (ws : List (List ℕ)) (k : ℕ) : Type 0 where
   pub known : AreKnownTo (entry_names entries) rest front
   pub place : k ≡ start + front
 
--- behind so many words stands the first name of a formula that is neither bound nor an earlier entry's
+-- after this many words comes the first name of a formula that is neither bound nor an earlier entry's
 pub record IsUnknownAt (ws : List (List ℕ)) (k : ℕ) : Type 0 where
   pub entries : List Entry
   pub start : ℕ
@@ -92,8 +93,8 @@ pub record IsUnknownAt (ws : List (List ℕ)) (k : ℕ) : Type 0 where
   pub first : first_unknown (mentions (entry_names entries) rest) ≡ Some front
   pub place : k ≡ start + front
 
--- Words are a formula and those behind it, and in it so many words stand in front of the first name under an odd number
--- of negations within its fixpoint.
+-- The words are a formula and the words after it. In the formula, this many words come before the first name that is
+-- under an odd number of negations within its fixpoint.
 pub record IsNegatedIn (earlier ws behind : List (List ℕ)) (k : ℕ) : Type 0 where
   pub front : List (List ℕ)
   pub parts : ws ≡ front ++ behind
@@ -125,9 +126,9 @@ pub record IsPlace (text : List ℕ) (at : ℕ) (Is : ℕ → Type 0) : Type 0 w
   pub place : at ≡ place_of text words
   pub is : Is words
 
--- Where a fault is: at the name of an entry that is not new, or one too many, at the first word that cannot come there,
--- at the first name of its formula that is not known, at the part that would be the 65th open one, or at the first name
--- of all that is negated.
+-- The place of a fault. `Twice` and `TooMany` are at the name of an entry that is not new, or one too many. `Syntax` is
+-- at the first word that cannot come there. `UnknownVariable` is at the first name of its formula that is not known.
+-- `TooDeep` is at the part that would be the 65th open one, and `NegatedVariable` at the first negated name of all.
 abbrev pub IsAt : List ℕ → RequirementFault → Type 0
 IsAt text (faults.Twice at) = IsPlace text at (IsTwiceAt (words_of text))
 IsAt text (faults.TooMany at) = IsPlace text at (IsTooManyAt (words_of text))

@@ -1,11 +1,11 @@
--- Where a formula stops, word by word, with a list of what is still to come: what private contracts of the search for a
--- fault name. That it stops at the word that no formula can go on with is proved. This project's own.
+-- The place where a formula stops, found word by word with a list of needs. Only private contracts of the search for a
+-- fault name these definitions. It is proved that no formula can go on with the word at that place. This project's own.
 use Rattle.std.specs.Prelude.{ℕ, zero, suc, List, [], ◌∷◌, ◌++◌, length, Bool, true, false, not, ◌&&◌, ◌||◌, if◌then◌else◌, codes, bytes_eq, Option, Some, None, is_some}
 use Rattle.vpg_formula.specs.Regular.{word_formula}
 use Rattle.vpg_formula.specs.Written.{Modality, closing, is_variable, Head, leaf, deadlock, of_action, parenthesis, in_front, modality, again, after_action, binder, other, head_of}
 use Rattle.vpg_formula.specs.Reading.{starts_operand}
 
--- what closes a part: `)`, `>` or `]`
+-- the word that closes a part: `)`, `>` or `]`
 pub data Closer : Type 0 where
   shut : Closer
   bracket : Modality → Closer
@@ -14,27 +14,27 @@ abbrev pub closer : Closer → List ℕ
 closer shut = codes ")"
 closer (bracket m) = closing m
 
--- What is still to come; a number says how many more parts may be open in it.
+-- A need: something that is still to come. Its number says how many more parts may be open in it.
 pub data Need : Type 0 where
-  -- an operand of a formula, and behind it, if at all, `&&`, `||` or `=>` and more
+  -- an operand of a formula; after it perhaps `&&`, `||` or `=>` and more
   part : ℕ → Need
   ands : ℕ → Need
   ors : ℕ → Need
   implied : ℕ → Need
-  -- the variable of a fixpoint; one of the words `free`, `and`, `again` and `.`; what closes a part
+  -- the variable of a fixpoint; one of the words `free`, `and`, `again` and `.`; the word that closes a part
   variable : Need
   exactly : List ℕ → Need
   closes : Closer → Need
   -- an operand of a regular formula, or one that is an action formula
   operand : ℕ → Need
   acting : ℕ → Need
-  -- behind it, if at all, `&&` or `||` and an action formula, `*` or `+`, `.` and more, `+` and more
+  -- after it perhaps `&&` or `||` and an action formula; `*` or `+`; `.` and more; `+` and more
   alls : ℕ → Need
   anys : ℕ → Need
   stars : Need
   dots : ℕ → Need
   pluses : ℕ → Need
-  -- nothing: what was read is no action formula
+  -- no word: the formula that was read is no action formula
   unacting : Need
 
 abbrev pub formula_needs : ℕ → List Need
@@ -43,22 +43,22 @@ formula_needs d = part d ∷ ands d ∷ ors d ∷ implied d ∷ []
 abbrev pub action_needs : ℕ → List Need
 action_needs d = acting d ∷ alls d ∷ anys d ∷ []
 
--- behind which `*` and `+` may come
+-- the needs of operands joined by `&&` and `||`, after which `*` and `+` may come
 abbrev pub starred_needs : ℕ → List Need
 starred_needs d = operand d ∷ alls d ∷ anys d ∷ stars ∷ []
 
 abbrev pub regular_needs : ℕ → List Need
 regular_needs d = operand d ∷ alls d ∷ anys d ∷ stars ∷ dots d ∷ pluses d ∷ []
 
--- What becomes of a need at a word: the word is taken, and these are to come in its place, or it needs no word, or none
--- like this, or the word opens one part too many. The flag says whether what was read last is an action formula.
+-- The turn of a need at a word. The word is taken, and these needs replace the need; or it needs no word; or it needs
+-- another word; or the word opens one part too many. The flag says whether an action formula was read last.
 pub data Turn : Type 0 where
   goes : Bool → List Need → Turn
   skips : Bool → Turn
   stuck : Turn
   deep : Turn
 
--- one part less, where one may be open
+-- one part less, if one may be open
 abbrev pub less : ℕ → Option ℕ
 less zero = None
 less (suc d) = Some d
@@ -67,7 +67,7 @@ abbrev pub opened : Option ℕ → (ℕ → List Need) → Turn
 opened None needs = deep
 opened (Some d) needs = goes true (needs d)
 
--- behind a word that opens a part
+-- the turn at a word that opens a part with these needs
 abbrev pub if_open : ℕ → (ℕ → List Need) → Turn
 if_open d needs = opened (less d) needs
 
@@ -99,7 +99,7 @@ path_needs d = operand d ∷ alls d ∷ anys d ∷ stars ∷ dots d ∷ pluses d
 abbrev pub group_needs : ℕ → List Need
 group_needs d = acting d ∷ alls d ∷ anys d ∷ closes shut ∷ []
 
--- an operand, by its first word
+-- the turn of a formula's operand, by the head of its first word
 abbrev pub part_turn : ℕ → Head → Turn
 part_turn d (leaf f) = goes true []
 part_turn d deadlock = goes true (exactly (codes "free") ∷ [])
@@ -115,22 +115,22 @@ part_turn d other = stuck
 abbrev pub word_turn : List ℕ → Turn
 word_turn w = if is_some (word_formula w) then goes true [] else stuck
 
--- an operand of a regular formula, of which these come between parentheses
+-- the turn of an operand of a regular formula, with these needs between parentheses
 abbrev pub operand_turn : ℕ → (ℕ → List Need) → List ℕ → Turn
 operand_turn d inside w =
     if bytes_eq w (codes "!") then if_open d act_needs
     else (if bytes_eq w (codes "(") then if_open d inside else word_turn w)
 
--- a sign that joins action formulas alone
+-- the turn at a sign that joins only action formulas
 abbrev pub if_acting : Bool → List Need → Turn
 if_acting true needs = goes true needs
 if_acting false needs = stuck
 
--- `*`, or a `+` behind which no operand starts
+-- whether a word is `*`, or a `+` after which no operand starts
 abbrev pub is_star : List ℕ → Bool → Bool
 is_star w starts = bytes_eq w (codes "*") || (bytes_eq w (codes "+") && not starts)
 
--- what becomes of a need at a word; the last flag says whether an operand starts behind the word
+-- the turn of a need at a word; the last flag says whether an operand starts after the word
 abbrev pub turn_of : Need → Bool → List ℕ → Bool → Turn
 turn_of (part d) f w starts = part_turn d (head_of w)
 turn_of (ands d) f w starts = if bytes_eq w (codes "&&") then goes true (part d ∷ ands d ∷ []) else skips f
@@ -151,7 +151,7 @@ turn_of (pluses d) f w starts =
     then goes f (operand d ∷ alls d ∷ anys d ∷ stars ∷ dots d ∷ unacting ∷ pluses d ∷ []) else skips f
 turn_of unacting f w starts = skips false
 
--- whether nothing need come
+-- whether a need can be met without a word
 abbrev pub may_end : Need → Bool
 may_end (part d) = false
 may_end (ands d) = true
@@ -169,8 +169,8 @@ may_end (dots d) = true
 may_end (pluses d) = true
 may_end unacting = true
 
--- What becomes of all needs at a word: these are to come behind it, or none had to come, or the word is none that
--- could, or it opens one part too many.
+-- The result of all needs at a word. Either it is taken, and these come after it, or all are met without it. Else the
+-- word cannot come there, or it opens one part too many.
 pub data Step : Type 0 where
   on : Bool → List Need → Step
   over : Step
@@ -187,8 +187,8 @@ abbrev pub step : Bool → List Need → List ℕ → Bool → Step
 step f [] w starts = over
 step f (n ∷ needs) w starts = step_by (turn_of n f w starts) needs (λ g. step g needs w starts)
 
--- Where reading comes to: it has all that is needed in front of so many words, or stops at the first of so many, which
--- cannot come there, or opens one part too many.
+-- The place that reading reaches, by the number of words that are left. All needs are met there, or the next word
+-- cannot come there or is missing, or it opens one part too many.
 pub data Way : Type 0 where
   done : ℕ → Way
   halted : ℕ → Way

@@ -1,4 +1,4 @@
--- What the search for a fault keeps, as the words of the specs.
+-- Values of the code that searches for a fault, as values of the specs.
 use Rattle.std.specs.Prelude.{ℕ, List, [], ◌∷◌, map, reverse, codes}
 use Rattle.vpg_formula.specs.Heads.{modality_of}
 use Rattle.vpg_formula.specs.Needs as spec
@@ -46,7 +46,7 @@ need_of (needs.Dots d) = spec.dots d
 need_of (needs.Pluses d) = spec.pluses d
 need_of needs.Unacting = spec.unacting
 
--- the code puts what comes first at the end
+-- the needs in their order: the code puts the first one at the end
 abbrev pub needs_of : List Need → List spec.Need
 needs_of ns = reverse (map need_of ns)
 

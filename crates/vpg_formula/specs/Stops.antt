@@ -3,7 +3,7 @@ use Rattle.std.specs.Prelude.{◌≡◌, ℕ, ◌+◌, List, [], ◌∷◌, ◌+
 use Rattle.vpg_formula.specs.Written.{Phrase}
 use Rattle.vpg_formula.specs.FormulaGrammar.{IsFormula}
 
--- these words, and some behind them, are a formula with so many open parts at most
+-- these words, and some after them, are a formula with at most this many open parts
 pub record CanGoOn (d : ℕ) (ws : List (List ℕ)) : Type 0 where
   pub more : List (List ℕ)
   pub phrase : Phrase
@@ -16,8 +16,8 @@ ends_formula true (w ∷ ws) = bytes_eq w (codes ";")
 ends_formula false [] = true
 ends_formula false (w ∷ ws) = false
 
--- Behind so many words, which can go on to a formula, stands one with which none goes on, however many parts may be
--- open, or nothing; and if a formula ends there, those words are none.
+-- After this many words, which can go on to a formula, comes one with which no formula goes on, however many parts may
+-- be open, or no word. If a formula would end there, these words are no formula.
 pub record IsStuckAt (in_entry : Bool) (ws : List (List ℕ)) (k : ℕ) : Type 0 where
   pub front : List (List ℕ)
   pub rest : List (List ℕ)
@@ -28,8 +28,8 @@ pub record IsStuckAt (in_entry : Bool) (ws : List (List ℕ)) (k : ℕ) : Type 0
       CanGoOn (64 + more) (front ++ w ∷ []) → ⊥
   pub unfinished : ends_formula in_entry rest ≡ true → (p : Phrase) → IsFormula 64 front p → ⊥
 
--- Behind so many words, which can go on to a formula with 64 open parts, stands one with which only formulas go on that
--- have more, and one with 65.
+-- After this many words, which can go on to a formula with at most 64 open parts, comes one with which they cannot.
+-- With it they can go on to a formula with at most 65.
 pub record IsTooDeepIn (ws : List (List ℕ)) (k : ℕ) : Type 0 where
   pub front : List (List ℕ)
   pub word : List ℕ

@@ -1,4 +1,4 @@
-//! Words of action and regular formulas, and where they stand.
+//! Words of action and regular formulas, and their places.
 ghost use Rattle.std.specs.Prelude.{◌≡◌, ◌++◌, [], IfOk, OnOk};
 ghost use Rattle.vpg_formula.specs.ActionWords.{action_words, is_of_actions, with_word, placed_words};
 ghost use Rattle.vpg_formula.specs.NamingCode.{region_of};
@@ -16,7 +16,7 @@ pub struct PlacedWord<'t> {
     pub bytes: &'t [u8],
 }
 
-/// Whether a word that belongs there is one of an action or regular formula.
+/// Whether a word of this region belongs to an action or regular formula.
 fn is_of_actions(region: Region) -> bool
     ensures { result ≡ is_of_actions (region_of region) }
 {
@@ -46,7 +46,7 @@ fn put_word<'t>(
 }
 
 /// Returns the words of a text of requirements that belong to action and regular formulas, signs and `true` among
-/// them, in order, each with its place. That the text is one of requirements is not asked.
+/// them, in order, each with its place. The text need not spell requirements.
 pub fn action_words<'t>(alloc: Global, text: &'t [u8]) -> Result<Vec<PlacedWord<'t>>, AllocError>
     ensures { IfOk result (λ found. placed_words found.items ≡ action_words text.now) }
 {

@@ -1,4 +1,4 @@
-//! Where a formula stops, word by word.
+//! The place where a formula stops, found word by word.
 ghost use Rattle.std.specs.Prelude.{◌≡◌, ◌∷◌, ◌++◌, if◌then◌else◌, bytes_eq, length, [], ◌<◌, IfOk, IfSome, IfNone, OnOk};
 ghost use Rattle.vpg_formula.specs.Heads.{opening_head, view_head};
 ghost use Rattle.vpg_formula.specs.Written.{head_of};
@@ -14,7 +14,7 @@ use crate::requirement::split_first;
 use crate::words::is_same;
 use std::alloc::{AllocError, Global};
 
-/// A word that comes behind another one.
+/// A word that comes after another one.
 #[derive(Clone, Copy)]
 pub(crate) enum Follower {
     Free,
@@ -23,23 +23,23 @@ pub(crate) enum Follower {
     Dot,
 }
 
-/// What closes a part.
+/// The word that closes a part.
 #[derive(Clone, Copy)]
 pub(crate) enum Closer {
     Parenthesis,
     Bracket(Bracket),
 }
 
-/// What is still to come; a number says how many more parts may be open in it.
+/// Something that is still to come. Its number says how many more parts may be open in it.
 #[derive(Clone, Copy)]
 pub(crate) enum Need {
     /// An operand of a formula.
     Part(usize),
-    /// Behind it, if at all, `&&` and another one.
+    /// After it perhaps `&&` and another one.
     Ands(usize),
-    /// The same with `||`.
+    /// After it perhaps `||` and another one.
     Ors(usize),
-    /// `=>` and a formula, if at all.
+    /// After these perhaps `=>` and a formula.
     Implied(usize),
     /// The variable of a fixpoint.
     Variable,
@@ -47,23 +47,23 @@ pub(crate) enum Need {
     Closes(Closer),
     /// An operand of a regular formula.
     Operand(usize),
-    /// One that is an action formula.
+    /// An operand that is an action formula.
     Acting(usize),
-    /// Behind it, if at all, `&&` and an action formula.
+    /// After it perhaps `&&` and an action formula.
     Alls(usize),
-    /// The same with `||`.
+    /// After it perhaps `||` and an action formula.
     Anys(usize),
-    /// `*` and `+`, if at all.
+    /// Perhaps `*` or `+`.
     Stars,
-    /// `.` and more, if at all.
+    /// Perhaps `.` and more.
     Dots(usize),
-    /// `+` and more, if at all.
+    /// Perhaps `+` and more.
     Pluses(usize),
-    /// Nothing: what was read is no action formula.
+    /// No word: the formula that was read is no action formula.
     Unacting,
 }
 
-/// What is open behind a word that opens a part.
+/// The needs after a word that opens a part.
 #[derive(Clone, Copy)]
 pub(crate) enum Inside {
     Act,
@@ -78,7 +78,7 @@ pub(crate) enum Inside {
     Formula,
 }
 
-/// What is to come in the place of a need whose word has come.
+/// The needs that replace a need whose word has come.
 #[derive(Clone, Copy)]
 pub(crate) enum More {
     Nothing,
@@ -93,7 +93,7 @@ pub(crate) enum More {
     Plus(usize),
 }
 
-/// What becomes of a need at a word. The flag says whether what was read last is an action formula.
+/// The turn of a need at a word. The flag says whether an action formula was read last.
 #[derive(Clone, Copy)]
 pub(crate) enum Turn {
     /// The word is taken.
@@ -106,11 +106,11 @@ pub(crate) enum Turn {
     Deep,
 }
 
-/// What becomes of all needs at a word.
+/// The result of all needs at a word.
 #[derive(Clone, Copy)]
 pub(crate) enum Step {
     On(bool),
-    /// Nothing had to come.
+    /// All needs are met without the word.
     Over,
     /// The word cannot come there.
     NoWord,
@@ -118,12 +118,12 @@ pub(crate) enum Step {
     NoRoom,
 }
 
-/// Where reading comes to. `left` counts the words from there on.
+/// The place that reading reaches. `left` counts the words from there on.
 #[derive(Clone, Copy)]
 pub(crate) enum Way {
-    /// All that is needed has come.
+    /// All needs are met.
     Done { left: usize },
-    /// The word cannot come there.
+    /// The word cannot come there, or it is missing.
     Halted { left: usize },
     /// The word opens one part too many.
     TooDeep { left: usize },
@@ -153,14 +153,14 @@ impl Closer {
     }
 }
 
-/// One part less, where one may be open.
+/// Returns one part less, if one may be open.
 fn less(depth: usize) -> Option<usize>
     ensures { result ≡ spec.less depth }
 {
     if depth == 0 { None } else { Some(depth - 1) }
 }
 
-/// Behind a word that opens a part.
+/// Returns the turn at a word that opens a part.
 fn open(depth: usize, inside: Inside) -> Turn
     ensures { turn_of_code result ≡ if_open depth (inside_of inside) }
 {
@@ -170,7 +170,7 @@ fn open(depth: usize, inside: Inside) -> Turn
     }
 }
 
-/// A part of a formula, by what opens it.
+/// Returns the turn of a formula's operand, by the word that opens it.
 fn opening_turn(depth: usize, opening: Opening) -> Turn
     ensures { turn_of_code result ≡ part_turn depth (opening_head opening) }
 {
@@ -185,7 +185,7 @@ fn opening_turn(depth: usize, opening: Opening) -> Turn
     }
 }
 
-/// An operand of a formula, by its head.
+/// Returns the turn of a formula's operand, by its head.
 fn head_turn(depth: usize, head: Head, _word: &[u8]) -> Turn
     ensures { turn_of_code result ≡ part_turn depth (view_head _word.now head) }
 {
@@ -199,14 +199,14 @@ fn head_turn(depth: usize, head: Head, _word: &[u8]) -> Turn
     }
 }
 
-/// An operand of a formula, by its first word.
+/// Returns the turn of a formula's operand, by its first word.
 fn part_turn(depth: usize, word: &[u8]) -> Turn
     ensures { turn_of_code result ≡ part_turn depth (head_of word.now) }
 {
     head_turn(depth, read_head(word), word)
 }
 
-/// An operand of a regular formula, with what comes in it between parentheses.
+/// Returns the turn of an operand of a regular formula, with these needs between parentheses.
 fn operand_turn(depth: usize, inside: Inside, word: &[u8]) -> Turn
     ensures { turn_of_code result ≡ operand_turn depth (inside_of inside) word.now }
 {
@@ -223,7 +223,7 @@ fn operand_turn(depth: usize, inside: Inside, word: &[u8]) -> Turn
     }
 }
 
-/// What becomes of a need that may take this sign.
+/// Returns the turn of a need that may take this sign.
 fn at_sign(word: &[u8], sign: &[u8], taken: Turn, flag: bool) -> Turn
     ensures { turn_of_code result ≡ (if bytes_eq word.now sign.now then turn_of_code taken else skips flag) }
 {
@@ -234,7 +234,7 @@ fn at_sign(word: &[u8], sign: &[u8], taken: Turn, flag: bool) -> Turn
     }
 }
 
-/// What becomes of a need of one word.
+/// Returns the turn of a need of one word.
 fn at_word(is_taken: bool, flag: bool) -> Turn
     ensures { turn_of_code result ≡ (if is_taken then spec.goes flag [] else spec.stuck) }
 {
@@ -245,7 +245,7 @@ fn at_word(is_taken: bool, flag: bool) -> Turn
     }
 }
 
-/// Behind a sign that joins action formulas alone.
+/// Returns the turn at a sign that joins only action formulas.
 fn if_acting(flag: bool, more: More) -> Turn
     ensures { turn_of_code result ≡ if_acting flag (more_of more) }
 {
@@ -256,14 +256,14 @@ fn if_acting(flag: bool, more: More) -> Turn
     }
 }
 
-/// Whether a word is `*`, or a `+` behind which no operand starts.
+/// Whether a word is `*`, or a `+` after which no operand starts.
 fn is_star(word: &[u8], starts: bool) -> bool
     ensures { result ≡ spec.is_star word.now starts }
 {
     is_same(word, b"*") || (is_same(word, b"+") && !starts)
 }
 
-/// Behind an action formula and what joins it.
+/// Returns the turn after joined operands, where `*` or `+` may come.
 fn star_turn(flag: bool, word: &[u8], starts: bool) -> Turn
     ensures { turn_of_code result ≡ turn_of spec.stars flag word.now starts }
 {
@@ -274,7 +274,7 @@ fn star_turn(flag: bool, word: &[u8], starts: bool) -> Turn
     }
 }
 
-/// Behind a sequence.
+/// Returns the turn after a sequence, where `+` and another one may come.
 fn plus_turn(depth: usize, flag: bool, word: &[u8], starts: bool) -> Turn
     ensures { turn_of_code result ≡ turn_of (spec.pluses depth) flag word.now starts }
 {
@@ -286,7 +286,7 @@ fn plus_turn(depth: usize, flag: bool, word: &[u8], starts: bool) -> Turn
 }
 
 impl Need {
-    /// What becomes of it at a word. `starts` says whether an operand starts behind the word.
+    /// Returns the turn of the need at a word. `starts` says whether an operand starts after the word.
     fn turn(self, flag: bool, word: &[u8], starts: bool) -> Turn
         ensures { turn_of_code result ≡ turn_of (need_of self) flag word.now starts }
     {
@@ -309,7 +309,7 @@ impl Need {
         }
     }
 
-    /// Whether nothing need come.
+    /// Whether the need can be met without a word.
     fn may_end(self) -> bool
         ensures { result ≡ spec.may_end (need_of self) }
     {
@@ -330,7 +330,7 @@ fn put(need: Need, out: &mut Vec<Need>) -> Result<(), AllocError>
     Ok(())
 }
 
-/// Puts what a formula needs.
+/// Puts the needs of a formula in front of the others.
 fn put_formula(depth: usize, out: &mut Vec<Need>) -> Result<(), AllocError>
     ensures { OnOk result (needs_of out.new.items ≡ spec.formula_needs depth ++ needs_of out.old.items) }
 {
@@ -340,7 +340,7 @@ fn put_formula(depth: usize, out: &mut Vec<Need>) -> Result<(), AllocError>
     put(Need::Part(depth), out)
 }
 
-/// Puts what an action formula between parentheses needs.
+/// Puts the needs of an action formula between parentheses.
 fn put_group(depth: usize, out: &mut Vec<Need>) -> Result<(), AllocError>
     ensures { OnOk result (needs_of out.new.items ≡ spec.action_needs depth ++ needs_of out.old.items) }
 {
@@ -349,7 +349,7 @@ fn put_group(depth: usize, out: &mut Vec<Need>) -> Result<(), AllocError>
     put(Need::Acting(depth), out)
 }
 
-/// Puts what a formula of actions needs behind which `*` and `+` may come.
+/// Puts the needs of operands joined by `&&` and `||`, after which `*` and `+` may come.
 fn put_starred(depth: usize, out: &mut Vec<Need>) -> Result<(), AllocError>
     ensures { OnOk result (needs_of out.new.items ≡ spec.starred_needs depth ++ needs_of out.old.items) }
 {
@@ -359,7 +359,7 @@ fn put_starred(depth: usize, out: &mut Vec<Need>) -> Result<(), AllocError>
     put(Need::Operand(depth), out)
 }
 
-/// Puts what a regular formula needs.
+/// Puts the needs of a regular formula.
 fn put_regular(depth: usize, out: &mut Vec<Need>) -> Result<(), AllocError>
     ensures { OnOk result (needs_of out.new.items ≡ spec.regular_needs depth ++ needs_of out.old.items) }
 {
@@ -368,7 +368,7 @@ fn put_regular(depth: usize, out: &mut Vec<Need>) -> Result<(), AllocError>
     put_starred(depth, out)
 }
 
-/// Puts what a regular formula between brackets needs, and an operand.
+/// Puts the needs of a regular formula between brackets, and of the operand after it.
 fn put_modal(bracket: Bracket, depth: usize, out: &mut Vec<Need>) -> Result<(), AllocError>
     ensures { OnOk result (needs_of out.new.items ≡ inside_of (Inside.Modal bracket) depth ++ needs_of out.old.items) }
 {
@@ -377,7 +377,7 @@ fn put_modal(bracket: Bracket, depth: usize, out: &mut Vec<Need>) -> Result<(), 
     put_regular(depth, out)
 }
 
-/// Puts what comes behind the first `again`.
+/// Puts the needs after the first `again`.
 fn put_again(depth: usize, out: &mut Vec<Need>) -> Result<(), AllocError>
     ensures { OnOk result (needs_of out.new.items ≡ inside_of Inside.Again depth ++ needs_of out.old.items) }
 {
@@ -386,7 +386,7 @@ fn put_again(depth: usize, out: &mut Vec<Need>) -> Result<(), AllocError>
     put(Need::Exactly(Follower::And), out)
 }
 
-/// Puts what comes behind `mu` or `nu`.
+/// Puts the needs after `mu` or `nu`.
 fn put_binder(depth: usize, out: &mut Vec<Need>) -> Result<(), AllocError>
     ensures { OnOk result (needs_of out.new.items ≡ inside_of Inside.Binder depth ++ needs_of out.old.items) }
 {
@@ -395,7 +395,7 @@ fn put_binder(depth: usize, out: &mut Vec<Need>) -> Result<(), AllocError>
     put(Need::Variable, out)
 }
 
-/// Puts what comes inside a part.
+/// Puts the needs inside a part.
 fn put_inside(inside: Inside, depth: usize, out: &mut Vec<Need>) -> Result<(), AllocError>
     ensures { OnOk result (needs_of out.new.items ≡ inside_of inside depth ++ needs_of out.old.items) }
 {
@@ -425,7 +425,7 @@ fn put_inside(inside: Inside, depth: usize, out: &mut Vec<Need>) -> Result<(), A
     }
 }
 
-/// Puts what comes behind `.` or the `+` between two formulas: nothing of it is an action formula.
+/// Puts the needs after `.` or the `+` between two formulas. Nothing there is an action formula.
 fn put_joined(is_dot: bool, depth: usize, out: &mut Vec<Need>) -> Result<(), AllocError>
     ensures { OnOk result (needs_of out.new.items ≡
         (if is_dot then more_of (More.Dot depth) else more_of (More.Plus depth)) ++ needs_of out.old.items) }
@@ -441,7 +441,7 @@ fn put_joined(is_dot: bool, depth: usize, out: &mut Vec<Need>) -> Result<(), All
     put_starred(depth, out)
 }
 
-/// Puts what comes in the place of a need.
+/// Puts the needs that replace another one.
 fn put_more(more: More, out: &mut Vec<Need>) -> Result<(), AllocError>
     ensures { OnOk result (needs_of out.new.items ≡ more_of more ++ needs_of out.old.items) }
 {
@@ -469,7 +469,7 @@ fn put_more(more: More, out: &mut Vec<Need>) -> Result<(), AllocError>
     }
 }
 
-/// Goes past a word.
+/// Goes past a word, and returns the result of all needs there.
 fn go_past(flag: bool, needs: &mut Vec<Need>, word: &[u8], starts: bool) -> Result<Step, AllocError>
     ensures { IfOk result (λ s. step_of s (needs_of needs.new.items) ≡
         spec.step flag (needs_of needs.old.items) word.now starts) }
@@ -489,7 +489,7 @@ fn go_past(flag: bool, needs: &mut Vec<Need>, word: &[u8], starts: bool) -> Resu
     Ok(Step::Over)
 }
 
-/// Takes away the first need, if there is one.
+/// Removes and returns the first need, if there is one.
 fn first_need(needs: &mut Vec<Need>) -> Option<Need>
     ensures none { IfNone result (needs_of needs.old.items ≡ [] × (needs_of needs.new.items ≡ [])) }
     ensures some { IfSome result (λ n. needs_of needs.old.items ≡ need_of n ∷ needs_of needs.new.items) }
@@ -498,7 +498,7 @@ fn first_need(needs: &mut Vec<Need>) -> Option<Need>
     needs.pop()
 }
 
-/// Whether nothing need come.
+/// Whether all needs can be met without a word.
 fn all_may_end(needs: &mut Vec<Need>) -> bool
     ensures { result ≡ spec.all_may_end (needs_of needs.old.items) }
 {
@@ -510,7 +510,7 @@ fn all_may_end(needs: &mut Vec<Need>) -> bool
     true
 }
 
-/// Where the formula at the front of these words stops.
+/// Returns the place where the formula at the front of these words stops.
 pub(crate) fn formula_way(alloc: Global, words: &[&[u8]]) -> Result<Way, AllocError>
     ensures { IfOk result (λ w. way_of w ≡ formula_way 64 (texts words.now)) }
 {

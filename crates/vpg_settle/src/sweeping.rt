@@ -1,4 +1,4 @@
-//! Sweeps: what the lines `settle` and `harvest` make of an order.
+//! Sweeps: the work of the lines `settle` and `harvest` on an order.
 ghost use Rattle.std.specs.Prelude.{◌≡◌, ◌⊎◌, ◌+◌, ◌<◌, ◌≤◌, ℕ, sum, IfOk, IfErr, IfSome, IsTrue, Some};
 ghost use Rattle.vpg_measure.specs.Lifts.{after_rounds};
 ghost use Rattle.vpg_measure.specs.Orders.{IsSameOrder, IsHarvest, IsSettledOrder, IsSettledHarvest, order_table, harvest_table, order_levels, order_arena};
@@ -13,24 +13,24 @@ use vpg_guess::{Groundwork, harvest_by_bounds, harvest_by_bounds_at_once};
 use vpg_measure::{Harvest, Order, Table};
 use vpg_verdict::Which;
 
-/// A line with so small a number asks for sweeps alone.
+/// The greatest number of a line that asks for sweeps alone.
 pub const FEW_SWEEPS: u64 = 4;
 
-/// The sweeps that come before a guess at tables of zeros: a simple game is settled by them. A guess at others begins
+/// The number of sweeps before a guess at tables of zeros: a simple game is settled by them. A guess at others begins
 /// with a round of lifts itself.
 pub const FIRST_SWEEPS: u64 = 1;
 
-/// How many edges and vertices a guess at both tables may look at, in all its parts together.
+/// The number of edges and vertices that a guess at both tables may look at, in all its parts together.
 pub const BUDGET: u64 = 1 << 27;
 
-/// From so many sweeps on, the sweeps behind a guess end where the tables exceed those that the line began with, in
-/// sum, by the line's number: nobody waits for a million sweeps.
+/// The least number of a line with which the sweeps after a guess may end early: nobody waits for a million sweeps.
+/// They end when the tables exceed, in sum, those that the line began with by the line's number.
 pub const MANY_SWEEPS: u64 = 1_000_000;
 
-/// How many sweeps there are behind a guess before that is asked.
+/// The number of sweeps after a guess before that sum is looked at.
 pub const LAST_SWEEPS: u64 = 16;
 
-/// A settled order as it stands.
+/// Returns a settled order as it stands, as a harvest.
 fn as_it_stands(order: Order) -> Harvest
     requires { IsSettledOrder order }
     ensures swept { (sweeps : ℕ) → IsSweptOrder order sweeps result }
@@ -42,7 +42,7 @@ fn as_it_stands(order: Order) -> Harvest
     harvest.noted()
 }
 
-/// The order after this many rounds of one lifter at most. It takes no memory.
+/// Returns the order after at most this many rounds of one lifter. It takes no memory.
 fn by_rounds(order: Order, rounds: u64) -> Harvest
     ensures swept { IsSweptOrder order rounds result }
     ensures tables { (which : Which) →
@@ -55,14 +55,14 @@ fn by_rounds(order: Order, rounds: u64) -> Harvest
     harvest
 }
 
-/// What sweeps made of an order, and how many there were.
+/// The harvest of sweeps, and their number.
 #[derive(Drop)]
 pub struct SweptHarvest {
     pub harvest: Harvest,
     pub sweeps: u64,
 }
 
-/// The order after one sweep. Here alone a sweep is known to be one, by so many lifters.
+/// Returns the order after one sweep. Only this contract says that it is one, by this many lifters.
 fn sweep<G: Gate + Sync, T: Threads + Wait + Sync>(
     rt: &T,
     alloc: Global,
@@ -79,8 +79,8 @@ fn sweep<G: Gate + Sync, T: Threads + Wait + Sync>(
     sweep_along(rt, alloc, order, lifters, gate, predecessors)
 }
 
-/// Sweeps an order until a sweep settles it, and so many times at most. The order that they left comes back where none
-/// settled it.
+/// Sweeps an order until a sweep settles it, at most this many times. If none settles it, returns the order that they
+/// left.
 pub fn sweep_often<G: Gate + Sync, T: Threads + Wait + Sync>(
     rt: &T,
     alloc: Global,
@@ -113,7 +113,7 @@ pub fn sweep_often<G: Gate + Sync, T: Threads + Wait + Sync>(
     Err(order)
 }
 
-/// The order after this many sweeps at most.
+/// Returns the order after at most this many sweeps.
 fn by_sweeps<G: Gate + Sync, T: Threads + Wait + Sync>(
     rt: &T,
     alloc: Global,
@@ -140,7 +140,7 @@ fn by_sweeps<G: Gate + Sync, T: Threads + Wait + Sync>(
     }
 }
 
-/// The sum of a table's values, where it can be counted.
+/// Returns the sum of a table's values, or `None` if it exceeds 128 bits.
 fn sum_of(table: &Table) -> Option<u128>
     ensures { IfSome result (λ total. total ≡ sum table.now) }
 {
@@ -151,8 +151,8 @@ fn sum_of(table: &Table) -> Option<u128>
     Some(total)
 }
 
-/// The sum that tables have to reach before a line's sweeps may end early. None where there are few of them: they are
-/// all made.
+/// Returns the sum that both tables have to reach before a line's sweeps may end early. `None` if there are fewer than
+/// `MANY_SWEEPS`, or if the sum exceeds 128 bits: then all are made.
 fn goal_of(order: &Order, sweeps: u64) -> Option<u128>
     ensures goal { IfSome result (λ goal. sum order.now.hopeful + sum order.now.dual + sweeps ≤ goal) }
     ensures many { IfSome result (λ _. 1000000 ≤ sweeps) }
@@ -165,7 +165,7 @@ fn goal_of(order: &Order, sweeps: u64) -> Option<u128>
     hopeful.checked_add(dual)?.checked_add(u128::from(sweeps))
 }
 
-/// Whether both tables of a harvest together have this sum, as far as that can be counted.
+/// Whether both tables of a harvest together have at least this sum. `false` if a table's sum exceeds 128 bits.
 fn is_reached(harvest: &Harvest, goal: u128) -> bool
     ensures { IsTrue result → goal ≤ sum harvest.now.hopeful + sum harvest.now.dual }
 {
@@ -178,7 +178,7 @@ fn is_reached(harvest: &Harvest, goal: u128) -> bool
     }
 }
 
-/// Whether a harvest is settled, or reached the goal behind enough sweeps.
+/// Whether a harvest is settled, or reached the goal after enough sweeps.
 fn is_enough(harvest: &Harvest, done: u64, goal: u128) -> bool
     ensures settled { IsSettledHarvest harvest.now → IsTrue result }
     ensures enough { IsTrue result → (¬ IsSettledHarvest harvest.now) →
@@ -191,8 +191,8 @@ fn is_enough(harvest: &Harvest, done: u64, goal: u128) -> bool
     LAST_SWEEPS <= done && is_reached(harvest, goal)
 }
 
-/// The order after this many sweeps at most: they end where one settles it, or where its tables reach the goal behind
-/// some sweeps.
+/// Returns the order after at most this many sweeps. They end when one settles it, or when its tables have reached the
+/// goal after more than `LAST_SWEEPS` sweeps.
 fn by_sweeps_to<G: Gate + Sync, T: Threads + Wait + Sync>(
     rt: &T,
     alloc: Global,
@@ -225,7 +225,8 @@ fn by_sweeps_to<G: Gate + Sync, T: Threads + Wait + Sync>(
     }
 }
 
-/// The same where there is a goal, and else all sweeps. Lifters hint at what to lift next.
+/// Returns the order after at most this many sweeps, which may end at the goal if there is one. Lifters hint at the
+/// vertices to lift next.
 fn by_hints<G: Gate + Sync, T: Threads + Wait + Sync>(
     rt: &T,
     alloc: Global,
@@ -248,7 +249,7 @@ fn by_hints<G: Gate + Sync, T: Threads + Wait + Sync>(
     }
 }
 
-/// The order raised by certified guesses: by two threads, one for each table, where there are several lifters.
+/// Returns the order raised by certified guesses, on two threads, one for each table, if there are several lifters.
 fn raise_tables<T: Threads + Wait + Sync>(
     rt: &T,
     alloc: Global,
@@ -267,7 +268,8 @@ fn raise_tables<T: Threads + Wait + Sync>(
     }
 }
 
-/// The same. Out of memory it comes back. Here alone a raise is known to be one of guesses.
+/// Returns the order raised by certified guesses, or the order itself if memory runs out. Only this contract says that
+/// guesses raised it.
 fn guess<T: Threads + Wait + Sync>(
     rt: &T,
     alloc: Global,
@@ -283,8 +285,8 @@ fn guess<T: Threads + Wait + Sync>(
     raise_tables(rt, alloc, order, lifters, kept)
 }
 
-/// The order raised by guesses, and swept from there where they don't settle it: this many times, or up to the goal.
-/// Out of memory it is swept alone.
+/// Returns the order raised by guesses, and swept from there if they don't settle it: at most this many times, or up to
+/// the goal. If a guess runs out of memory, the order is only swept.
 fn by_guesses<G: Gate + Sync, T: Threads + Wait + Sync>(
     rt: &T,
     alloc: Global,
@@ -313,21 +315,26 @@ fn by_guesses<G: Gate + Sync, T: Threads + Wait + Sync>(
     }
 }
 
-/// Whether a table has a value above zero: then its page was settled before, mostly, and a change is what is left.
+/// Whether a table has a value above zero. Usually its page was settled before, and only the last change is left to
+/// work out.
 fn has_risen(table: &Table) -> bool {
     table.values().iter().any(|value| *value != 0)
 }
 
-/// The order swept this many times at most, by this many lifters at once, unless it is settled as it stands. Its tables
-/// are raised by guesses before the sweeps; or behind a first one where they are of zeros, and it doesn't settle them.
-/// That one goes without hints: one lifter's then raises what a round raises. It never fails: where a board, a hint or
-/// a guess finds no memory, the sweeps go on without. The lifters call the gate.
+/// Returns the order after at most this many sweeps, by this many lifters at once. An order that is settled stays as it
+/// is.
 ///
-/// A guess has one budget for both tables; when it is spent, what is known until then is certified and raised. With two
-/// lifters or more each table has a thread and half of the budget. Sweeps follow, up to the number. From `MANY_SWEEPS`
-/// on they end, settled or not, where the tables exceed the order's in sum by the number.
+/// If there are more than `FEW_SWEEPS`, guesses raise the tables before the sweeps. Tables of zeros are swept once
+/// before a guess, and if this settles them there is no guess. That sweep has no hints: with one lifter it raises what
+/// a round raises. The call never fails: if a board, a hint or a guess lacks memory, the sweeps go on without it.
+/// The lifters call the gate.
 ///
-/// What guesses make of the game alone is kept for the next order of the same game. With nothing kept a guess makes it.
+/// A guess has one budget for both tables. When it is spent, all that is known by then is certified and raised. With
+/// two lifters or more each table has a thread and half of the budget. Sweeps follow, up to the number. From
+/// `MANY_SWEEPS` on they end, settled or not, when the tables exceed the order's in sum by the number.
+///
+/// `kept` holds the results of guesses that depend on the game alone, for the next order of the same game. If it is
+/// empty, a guess fills it.
 pub fn swept<G: Gate + Sync, T: Threads + Wait + Sync>(
     rt: &T,
     alloc: Global,
@@ -340,18 +347,19 @@ pub fn swept<G: Gate + Sync, T: Threads + Wait + Sync>(
     requires lifters { (1 ≤ lifters) × (lifters ≤ 64) }
     ensures swept { IsSweptOrder order sweeps result.harvest }
 
-    // At most so many sweeps, each by this many lifters, and certified guesses made the harvest.
+    // At most this many sweeps, each by this many lifters, and certified guesses made the harvest.
     ensures few { result.sweeps ≤ sweeps }
     ensures made { Settles lifters result.sweeps order result.harvest }
 
-    // A harvest that isn't settled had all its sweeps; of 1,000,000 or more at least 17.
+    // If the harvest isn't settled, all sweeps were made; of 1,000,000 or more at least 17.
     ensures ended { HasEnded sweeps result.sweeps result.harvest }
 
-    // Where so many rounds settle both tables the harvest is settled: up to 16, or up to any number below 1,000,000.
+    // If a number of rounds, at most that of the sweeps asked for, settles both tables, the harvest is settled. With
+    // 1,000,000 sweeps or more this holds for at most 16 rounds.
     ensures rounds { (rounds : ℕ) → rounds ≤ sweeps → (rounds ≤ 16) ⊎ (sweeps < 1000000) →
         RoundsSettleOrder rounds order → IsSettledHarvest result.harvest }
 
-    // No sweep raises nothing.
+    // If no sweep is asked for, the tables stay as they are.
     ensures none { sweeps ≡ 0 → (which : Which) → harvest_table which result.harvest ≡ order_table which order }
 
     // A settled order is not swept.

@@ -1,4 +1,4 @@
--- What is answered of a vertex: a trace of how the verdict comes about. This project's own.
+-- The answer for a vertex: a trace of how the verdict comes about. This project's own.
 use Rattle.std.specs.Prelude.{◌≡◌, ℕ, ◌⊎◌, Option, List, ◌++◌, codes, decimal, slice_index}
 use Rattle.vpg_guards.specs.declared.tri.Tri.{Tri}
 use Rattle.vpg_diagram.specs.FeatureDiagram.{Line}
@@ -18,7 +18,7 @@ use Rattle.vpg_why.specs.declared.question.Limits.{Limits}
 use Rattle.vpg_trace.specs.Texts.{Family, family_of, trace_text}
 use Rattle.vpg_trace.specs.Walks.{Walked, walk_from, is_left}
 
--- What a page says: its game, the identifiers of the vertices, the names of its features, the lines of its diagram, its
+-- A page: its game, the identifiers of the vertices, the names of its features, the lines of its diagram, its
 -- decisions, and both tables.
 pub record Page : Type 0 where
   pub game : GuardedGame Formula
@@ -41,7 +41,7 @@ page_of order = record {
   dual = order.dual;
 }
 
--- the words of a walk on the page, where so much is known
+-- the words of a walk on the page, under this knowledge of its features
 abbrev pub family_on : Page → List Tri → Behaviour → Family
 family_on page known behaviour = family_of page.features behaviour.actions known behaviour.states behaviour.sets
     behaviour.parts behaviour.pairs
@@ -107,7 +107,8 @@ abbrev pub TellsWon : Page → Behaviour → Limits → (mover : Which) → (ver
 TellsWon page behaviour limits mover vertex text =
     TellsWalk page behaviour mover vertex text ⊎ (IsTooShort page limits mover × (text ≡ unsettled_line))
 
--- If the page has the vertex hopeless, the walk is along Odd's moves; if it has it sure, along Even's.
+-- If the vertex is hopeless on the page, the walk is along Odd's moves; if it is sure, along Even's. Otherwise the text
+-- says that it is neither.
 abbrev pub TellsTrace : Page → Behaviour → Limits → (vertex : ℕ) → (text : List ℕ) → Type 0
 TellsTrace page behaviour limits vertex text =
     (HasVerdict page Hopeful vertex × TellsWon page behaviour limits Dual vertex text)
@@ -116,6 +117,6 @@ TellsTrace page behaviour limits vertex text =
     ⊎ (¬ (HasVerdict page Hopeful vertex) × ¬ (HasVerdict page Dual vertex)
     × (text ≡ neither_line (identifier_of page vertex)))
 
--- such a text is added after what was there
+-- such a text is appended
 abbrev pub Appends : (List ℕ → Type 0) → List ℕ → List ℕ → Type 0
 Appends Tells before after = (text : List ℕ) × Tells text × (after ≡ before ++ text)

@@ -36,7 +36,7 @@ abbrev pub arrow_text : (features actions : List (List ℕ)) → Departure → L
 arrow_text features actions t = codes " -" ++ slice_index_or actions t.action [] ++ guard_part features t.guard
     ++ codes "-> " ++ decimal t.target
 
--- a step that is not one of each product that is left
+-- the mark of a step that is not one of each product that is left, and the end of the line
 abbrev pub mark_text : Bool → List ℕ
 mark_text false = codes "\n"
 mark_text true = codes " depends\n"

@@ -177,13 +177,13 @@ fn won(
     }
 }
 
-/// Appends how the verdict of a page at a vertex comes about. If it is hopeless, that is a walk along moves of Odd that
-/// win in each product that is left; if it is sure, one along moves of Even. Or it is that the vertex is neither, or
-/// that the limits leave no room.
+/// Appends how the verdict of a page at a vertex comes about. If it is hopeless, this is a walk along moves of Odd that
+/// win in each product that is left; if it is sure, one along such moves of Even. Otherwise the text says that the
+/// vertex is neither, or that the limits leave no room.
 ///
 /// The behaviour is what the game was made of, over the features of the order's diagram. The first line is the verdict,
 /// `hopeless 0` or `sure 0`; the walk follows, as of `put_trace`, up to the line `steps 12`. Else there is one line:
-/// `possible 0 unsure`, or `unsettled`. The one error is want of memory.
+/// `possible 0 unsure`, or `unsettled`. The only error is a lack of memory.
 pub fn put_answer(
     alloc: Global,
     order: &Order,

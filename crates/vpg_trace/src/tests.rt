@@ -29,7 +29,7 @@ fn sets(alloc: Global) -> Result<Vec<Permitted>, Fail> {
     Ok(sets)
 }
 
-/// `nu X. <b>true && [true]X`.
+/// Returns the parts of `nu X. <b>true && [true]X`.
 fn parts(alloc: Global) -> Result<Vec<Part>, Fail> {
     let parts = vec![in alloc;
         Part::True,

@@ -26,7 +26,7 @@ pub(crate) fn put_number(n: u64, out: &mut Vec<u8>) -> Result<(), AllocError>
     out.extend_from_slice(buffer.format(n).as_bytes())
 }
 
-/// The name of an action. Past the last one it is empty.
+/// Returns the name of an action. Past the last one it is empty.
 fn name_of(actions: &[Text], action: usize) -> &[u8]
     ensures { result.now ≡ slice_index_or actions.now action [] }
 {
@@ -472,7 +472,7 @@ fn put(
     put_cut(trace.is_cut, out)
 }
 
-/// Writes a walk after what is there, over the features of these names. A refusal writes nothing.
+/// Appends a walk, over the features of these names. If memory runs out, it appends nothing.
 ///
 /// Each visit that is reached by a transition of the system has a line, as `0 -pay[paid]-> 1`. It has the state that
 /// the transition leaves, its action, its guard unless that is always true, and the state that it leads to. It ends in
