@@ -45,7 +45,7 @@ fn is_answerable(behaviour: &Option<Behaviour>, diagram: &Diagram, question: Ver
 }
 
 /// What is asked of a vertex, or what it needs that isn't there.
-#[tactic(auto, using(crate::proofs::Inquired::has_system, crate::proofs::Inquired::not_asked, crate::proofs::Inquired::none_asked, crate::proofs::Inquired::one_asked))]
+#[tactic(auto, using(crate::proofs::Inquired::asked_if, crate::proofs::Inquired::has_system))]
 fn query_of_vertex(
     behaviour: &Option<Behaviour>,
     game: &GuardedGame,
