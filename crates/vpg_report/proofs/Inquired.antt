@@ -54,18 +54,14 @@ has_system features behaviour (questions.Lost which) is = tt
 has_system features behaviour (questions.Moves mover) is = tt
 has_system features behaviour questions.Draw is = tt
 
--- what is asked of a vertex without it, of no vertex, and of one
-pub not_asked : (answerable : Bool) (question : VertexQuestion) (place : Option ℕ) → answerable ≡ false → query_if answerable question place ≡ Err NoSystem
-not_asked false question place is = refl
-not_asked true question place is = absurd (false≢true (sym is))
+-- what is asked of a vertex with it, and without
+pub asked_if : (answerable : Bool) (question : VertexQuestion) (place : Option ℕ) → answerable ≡ true → query_if answerable question place ≡ query_or NoVertex (queries.OfVertex question) place
+asked_if true question place is = refl
+asked_if false question place is = absurd (false≢true is)
 
-pub none_asked : (answerable : Bool) (question : VertexQuestion) (place : Option ℕ) → answerable ≡ true → place ≡ None → query_if answerable question place ≡ Err NoVertex
-none_asked false question place is none = absurd (false≢true is)
-none_asked true question place is none = ap (query_or NoVertex (queries.OfVertex question)) none
-
-pub one_asked : (answerable : Bool) (question : VertexQuestion) (place : Option ℕ) (v : ℕ) → answerable ≡ true → place ≡ Some v → query_if answerable question place ≡ Ok (queries.OfVertex question v)
-one_asked false question place v is some = absurd (false≢true is)
-one_asked true question place v is some = ap (query_or NoVertex (queries.OfVertex question)) some
+pub asked_not : (answerable : Bool) (question : VertexQuestion) (place : Option ℕ) → answerable ≡ false → query_if answerable question place ≡ Err NoSystem
+asked_not false question place is = refl
+asked_not true question place is = absurd (false≢true (sym is))
 
 -- what follows where a result is Ok
 pub on_ok : {E : Type 0} (r : Result (Unit {0}) E) (P Q : Type 0) → (P → Q) → OnOk r P → OnOk r Q
