@@ -1,4 +1,4 @@
-//! Questions of lines about the page, by places in the game and the diagram.
+//! What lines ask of the page, by places in the game and the diagram.
 ghost use Rattle.std.specs.Prelude.{◌≡◌, ◌<◌, length, IfOk, IfSome};
 ghost use Rattle.vpg_answers.specs.Answers.{IsWithin};
 ghost use Rattle.vpg_features.specs.Names.{index_of};
@@ -24,7 +24,7 @@ fn feature_at(names: &Names, name: &[u8]) -> Option<u16>
     names.get(name)
 }
 
-/// Whether there is a system over this many features.
+/// Whether there is a system over so many features.
 fn is_over(features: usize, behaviour: &Option<Behaviour>) -> bool
     ensures { result ≡ is_over features behaviour.now }
 {
@@ -34,7 +34,7 @@ fn is_over(features: usize, behaviour: &Option<Behaviour>) -> bool
     }
 }
 
-/// Whether a question has all that it needs besides the family: a trace needs a system.
+/// Whether what a question needs beside the family is there: a trace needs a system.
 fn is_answerable(behaviour: &Option<Behaviour>, diagram: &Diagram, question: VertexQuestion) -> bool
     ensures { result ≡ is_answerable (length diagram.now.names) behaviour.now question }
 {
@@ -44,8 +44,8 @@ fn is_answerable(behaviour: &Option<Behaviour>, diagram: &Diagram, question: Ver
     }
 }
 
-/// Returns the query for a question about a vertex, or what is missing for it.
-#[tactic(auto, using(crate::proofs::Inquired::has_system, crate::proofs::Inquired::not_asked, crate::proofs::Inquired::none_asked, crate::proofs::Inquired::one_asked))]
+/// What is asked of a vertex, or what it needs that isn't there.
+#[tactic(auto, using(crate::proofs::Inquired::asked_if, crate::proofs::Inquired::has_system))]
 fn query_of_vertex(
     behaviour: &Option<Behaviour>,
     game: &GuardedGame,
@@ -67,7 +67,7 @@ fn query_of_vertex(
     }
 }
 
-/// Returns the query for an inquiry, or what is missing for it.
+/// What an inquiry asks, or what it needs that isn't there.
 pub(crate) fn query_of(
     behaviour: &Option<Behaviour>,
     game: &GuardedGame,
