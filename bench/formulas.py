@@ -26,21 +26,22 @@ VARIABLE = re.compile("[A-Za-z_][A-Za-z0-9_]{0,63}")
 
 
 def action_end(text, at):
-    """Where the action ends that begins here, with arguments and others behind `|`; None where arguments stay open."""
-    opened = 0
+    """Where the action ends that begins here, with arguments and others behind `|`: in front of arguments that do not
+    close."""
+    opened, before = 0, None
     while at < len(text):
         byte = text[at]
         if opened == 0:
             if byte == "(":
-                opened = 1
+                opened, before = 1, at
             elif byte not in NAME_BYTES and not (byte == "|" and text[at + 1:at + 2] in NAME_BYTES):
                 return at
-        elif byte == "\n":
-            return None
+        elif byte == "\n" or byte == "(" and opened == MOST_OPEN:
+            return before
         else:
             opened += {"(": 1, ")": -1}.get(byte, 0)
         at += 1
-    return None if opened else at
+    return before if opened else at
 
 
 def quote_end(text, at):
@@ -57,7 +58,7 @@ def word_end(text, at):
     """Where the word ends that begins here. It is as long as it can be."""
     if text[at] in NAME_BYTES:
         end = RUN.match(text, at).end()
-        return end if text[at:end] in KEYWORDS else action_end(text, at) or end
+        return end if text[at:end] in KEYWORDS else action_end(text, at)
     if text[at] == '"':
         return quote_end(text, at) or at + 1
     return at + (2 if text[at:at + 2] in ("=>", "&&", "||") else 1)
@@ -82,6 +83,124 @@ def label_of(word):
     if word.startswith('"'):
         return ("action", True, word[1:-1]) if len(word) > 2 else None
     return ("action", False, word) if word and word[0] in NAME_BYTES and not word[0].isdigit() else None
+
+
+# ---- requirements: grammar
+#
+# A line has a form and what it may be. Words in capitals stand for names of variables, and for actions, `true` and
+# `false`; behind `^` stands a word that opens a part. A line with `~` is two: without it, and with `'` in its place,
+# for what does not end with a fixpoint. So a fixpoint is as long as it can be.
+
+GRAMMAR = """
+whole formula
+formula disjunction
+formula disjunction' ^=> formula
+disjunction~ conjunction~
+disjunction~ disjunction' || conjunction~
+conjunction~ operand~
+conjunction~ conjunction' && operand~
+operand~ true
+operand~ false
+operand~ NAME
+operand~ deadlock free
+operand~ ^( formula )
+operand~ ^can action
+operand~ ^will action
+operand~ ^! operand~
+operand~ ^always operand~
+operand~ ^never operand~
+operand~ ^possibly operand~
+operand~ ^inevitably operand~
+operand~ ^again and again operand~
+operand~ ^after action operand~
+operand~ ^< regular > operand~
+operand~ ^[ regular ] operand~
+operand ^mu NAME . formula
+operand ^nu NAME . formula
+regular sequence
+regular regular + sequence
+sequence repetition
+sequence sequence . repetition
+repetition actions
+repetition ^( regular )
+repetition repetition *
+repetition repetition +
+actions conjoined
+actions actions || conjoined
+conjoined action
+conjoined conjoined && action
+action ACTION
+action ^! action
+action ^( actions )
+"""
+RULES = [tuple(line.replace("~", mark).split())
+         for line in GRAMMAR.split("\n")[1:-1] for mark in ("", "'")[:1 + ("~" in line)]]
+RULES_OF = {form: [rule for rule in RULES if rule[0] == form] for form, *_ in RULES}
+
+
+def accepts(symbol, word):
+    """Whether a word of the grammar stands for this one."""
+    if symbol == "NAME":
+        return is_variable(word)
+    if symbol == "ACTION":
+        return word in ("true", "false") or label_of(word) is not None
+    return symbol.removeprefix("^") == word
+
+
+class Chart:
+    """Whether words can go on to a formula with at most so many open parts: Earley's sets, one after each word.
+
+    An item is a rule, how much of it is read, behind which word it began, and how many parts are open there. A set has
+    the items that are not yet read, by what comes next and by the number of open parts."""
+
+    def __init__(self, most):
+        self.most, self.sets, self.is_formula = most, [], False
+        self.add([(RULES[0], 1, 0, 0)])
+
+    def step(self, word):
+        """Whether the words can go on with this one behind them. It is then one of them."""
+        read = [(rule, dot + 1, start, opened + (symbol[0] == "^"))
+                for (symbol, opened), items in self.sets[-1].items() if symbol not in RULES_OF
+                if accepts(symbol, word) and (symbol[0] != "^" or opened < self.most)
+                for rule, dot, start, _ in items]
+        if read:
+            self.add(read)
+        return bool(read)
+
+    def add(self, items):
+        """A set with these items, and with what begins or ends where they stand."""
+        awaited, here, todo = {}, len(self.sets), list(items)
+        self.sets.append(awaited)
+        known = set(todo)
+        while todo:
+            rule, dot, start, opened = item = todo.pop()
+            if dot < len(rule):
+                awaited.setdefault((rule[dot], opened), []).append(item)
+                more = [(other, 1, here, opened) for other in RULES_OF.get(rule[dot], ())]
+            else:
+                before = opened - sum(symbol[0] == "^" for symbol in rule)
+                more = [(other, at + 1, *rest) for other, at, *rest in self.sets[start].get((rule[0], before), ())]
+            todo += [it for it in more if it not in known]
+            known.update(more)
+        self.is_formula = (RULES[0], 2, 0, 0) in known
+
+
+def goes_on(words, most):
+    return all(map(Chart(most).step, words))
+
+
+def stop_in(words, end):
+    """How many words are right where a formula begins that should end in front of this one, and what is wrong with the
+    next; nothing if it is right. The last of the words is the empty one, at the text's end."""
+    chart, right = Chart(MOST_OPEN), 0
+    while chart.step(words[right]):
+        right += 1
+    if chart.is_formula and words[right] == end:
+        return []
+    if goes_on(words[:right + 1], MOST_OPEN + 1):
+        return [(right, "TooDeep")]
+    assert not goes_on(words[:right + 1], MOST_OPEN + len(words)), words
+    return [(right, "Syntax")]
 
 
 # ---- requirements: trees
@@ -134,9 +253,7 @@ class RequirementsReader:
     def whole(self):
         """The entries, as pairs of a name and a formula."""
         if not (is_variable(self.peek()) and self.peek(1) == "="):
-            self.entries.append(("requirement", self.formula()))
-            if self.peek():
-                self.fail()
+            self.entries.append(("requirement", self.formula_before("")))
         while self.peek():
             self.entry()
         places = [place for _, f in self.entries for place in negated(f)]
@@ -154,11 +271,25 @@ class RequirementsReader:
             self.fail(at, "TooMany")
         self.at += 1
         self.take("=")
-        formula = self.formula()
+        formula = self.formula_before(";")
         self.take(";")
         self.entries.append((name, formula))
 
     # formulas
+
+    def formula_before(self, end):
+        """The formula that ends in front of this word. If it goes wrong, the leftmost fault is told: the first unknown
+        name, or the word with which no formula goes on."""
+        begin, found = self.at, []
+        try:
+            formula = self.formula()
+            if self.peek() == end:
+                return formula
+        except Fault as fault:
+            if str(fault).startswith("UnknownVariable"):
+                found = [(self.at - begin, "UnknownVariable")]
+        right, word = min(found + stop_in([word for word, _ in self.words[begin:]], end))
+        self.fail(self.words[begin + right][1], word)
 
     def formula(self):
         left = self.joined("||", "or", lambda: self.joined("&&", "and", self.operand))

@@ -8,10 +8,11 @@
     python3 requirements.py asserts SYSTEM REQUIREMENTS DIAGRAM SCRIPT    # the assertions of a script, against that
     python3 requirements.py --games VPGDESK CASES SEED  # the games and verdicts of random families, against that
     python3 requirements.py --slips VPGDESK CASES SEED  # files with a slip: the same fault, or the same meaning
+    python3 requirements.py --faults VPGDESK CASES SEED # random words of formulas: the same fault, or none
 
-The last two hold `vpgdesk model` to that, and `vpgdesk run` on the game that it writes, this of each tenth family, and
-with slips of each hundredth. A word `--direct` at their end lets `run --system SYSTEM --requirements REQUIREMENTS` make
-the game.
+`--games` and `--slips` hold `vpgdesk model` to that, and `vpgdesk run` on the game that it writes, this of each tenth
+family, and with slips of each hundredth. A word `--direct` at their end lets `run --system SYSTEM --requirements
+REQUIREMENTS` make the game.
 Where a requirement holds is calculated on the system of each product, by `formulas.py`.
 """
 import functools
@@ -24,7 +25,7 @@ import tempfile
 
 import oracle
 import products
-from formulas import MOST_OPEN, NAME_BYTES, Fault, PlainSystem, read_requirements
+from formulas import MOST_OPEN, NAME_BYTES, RULES, RULES_OF, Chart, Fault, PlainSystem, read_requirements
 
 MOST_STATES = 65536
 MOST_TRANSITIONS = 1048576
@@ -686,6 +687,56 @@ def with_slip(rng, texts):
     return system, requirements, diagram
 
 
+# ---- random words
+
+STANDING_FOR = {"NAME": ("X", "Y"), "ACTION": ("a", "b", '"a"', "send(d1)", "a|b(1)", "mu")}
+FORMULA_WORDS = sorted(it for symbol in {part.strip("^") for rule in RULES for part in rule if part not in RULES_OF}
+                       for it in STANDING_FOR.get(symbol, (symbol,)))
+OTHER_WORDS = ("&", "|", "=", ";", '"', "7", "_" * 65, "f", "Z", "a|b(", "b(1)|a(" + "(" * 64)
+FRONTS = ("!", "(", "[ a ]", "< a >", "mu X .", "nu Y .", "true =>", "always", "again and again", "after a")
+LAST_FRONTS = ("[", "can", "after", "will", "!", "mu", "again")
+
+
+def random_front(rng):
+    """Words behind which about as many parts are open as may be."""
+    words, count, of_paths = [], rng.randint(58, 66), rng.randint(0, 9)
+    fronts = rng.sample(FRONTS, rng.randint(1, 3))
+    for _ in range(count - of_paths):
+        words += rng.choice(fronts).split()
+    return words + [rng.choice(LAST_FRONTS)] + [rng.choice("(!") for _ in range(of_paths)]
+
+
+def goes_on_by(rng, chart):
+    """A word with which the words of a chart go on."""
+    while True:
+        word = rng.choice(FORMULA_WORDS)
+        if chart.step(word):
+            return word
+
+
+def random_words(rng):
+    """Words of which most go on to a formula, and in which names are most often bound."""
+    words = "nu X . nu Y .".split() if rng.random() < 0.8 else []
+    words += random_front(rng) if rng.random() < 0.3 else []
+    chart, is_right = Chart(1000), True
+    for word in words:
+        chart.step(word)
+    while not (chart.is_formula and rng.random() < 0.3) and rng.random() < 0.97:
+        is_right = is_right and rng.random() < 0.96
+        words.append(goes_on_by(rng, chart) if is_right else rng.choice((*FORMULA_WORDS, *OTHER_WORDS)))
+    return words
+
+
+def random_text(rng):
+    """The text of such words, now and then with entries around them."""
+    words = random_words(rng)
+    if rng.random() < 0.3:
+        names = [f"e{k}" for k in range(rng.choice((1, 2, 62, 63, 64)))]
+        entries = [word for name in names for word in (name, "=", "true", ";")]
+        words = entries + [rng.choice(("f", "f", "f", "f", "e0", "7")), "=", *words, *rng.choice(([], [";"]))]
+    return spaced(rng, words)
+
+
 # ---- the program's games and verdicts
 
 FILES = ("system", "requirements", "diagram")
@@ -817,6 +868,35 @@ def compare_all(path, cases, seed, has_slips, is_direct):
     return 0
 
 
+def hold_fault(program, text):
+    """Compares the program's fault of a text of requirements with what is right; returns it."""
+    done = program.model(("des (0, 1, 1)\n(0, a, 0)\n", text, "root r\n"))
+    try:
+        read_requirements(text)
+    except Fault as fault:
+        told = done.stderr.split("\n")[0]
+        expect((done.returncode, told) == (1, f"vpgdesk: requirements {fault}"), "wanted", fault, "got", told)
+        return str(fault).split()[0]
+    expect(done.returncode == 0, "model ends with", done.returncode, done.stderr)
+    return "read"
+
+
+def compare_faults(path, cases, seed):
+    """Random words against the program."""
+    counts = {}
+    with tempfile.TemporaryDirectory() as folder:
+        for case in range(cases):
+            text = random_text(random.Random(f"{seed} {case}"))
+            try:
+                kind = hold_fault(Program(path, folder), text)
+            except Wrong as why:
+                print(f"case {case} of seed {seed}: {why}", text, sep="\n")
+                return 1
+            counts[kind] = counts.get(kind, 0) + 1
+    print(f"{cases} cases, seed {seed}, no difference; {sorted(counts.items())}")
+    return 0
+
+
 def main():
     words = sys.argv[1:]
     if words[:1] == ["system"]:
@@ -834,6 +914,8 @@ def main():
         tell_products(words[1:])
     elif words[:1] == ["asserts"] and len(words) == 5:
         sys.exit(tell_asserts(words[1:]))
+    elif words[:1] == ["--faults"] and len(words) == 4:
+        sys.exit(compare_faults(words[1], int(words[2]), words[3]))
     elif words[:1] in (["--games"], ["--slips"]) and words[4:] in ([], ["--direct"]):
         sys.exit(compare_all(words[1], int(words[2]), words[3], words[0] == "--slips", len(words) == 5))
     else:
