@@ -358,12 +358,12 @@ fn put_of_game(
 
 /// Appends a line for each warning of a family that was read from these files, `FILE:LINE:COLUMN: warning: ..`, and a
 /// last one that counts them. Of each sort at most ten are written with their places, and then how many more there are.
-pub fn put_warned(
+pub fn put_warned<'x>(
     alloc: Global,
     of_diagram: File<'_>,
     of_game: File<'_>,
-    diagram: &Diagram,
-    game: &GuardedGame,
+    diagram: &'x Diagram,
+    game: &'x GuardedGame,
     out: &mut Vec<u8>,
 ) -> Result<(), AllocError> {
     let names = VertexNames::read(alloc, of_game.text)?;
