@@ -75,6 +75,7 @@ fn walk(
         let bytes = Vec::from_slice(alloc, system.action_name(action))?;
         actions.push(Text { bytes })?;
     }
+    assert!(rt; actions.len() == system.actions());
     let mut out = Vec::new(alloc);
     put_trace(
         alloc,
