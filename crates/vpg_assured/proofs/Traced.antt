@@ -42,7 +42,7 @@ module _ (game : NamedGame) (diagram : NamedDiagram) (system_text : List ℕ) (b
         ((vertex : ℕ) × (vertex_of scene named ≡ Some vertex) ×
         (HasNoWalk scene vertex text ⊎ ReportsWalk scene made.system behaviour book.present vertex text))
 
-    inquiry : script.Inquiry
+    abbrev inquiry : script.Inquiry
     inquiry = script.OfVertex questions.Trace named
 
     -- ---- the query
