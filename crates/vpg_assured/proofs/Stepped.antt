@@ -100,8 +100,8 @@ module _ (scene : Scene) (page : List Entry) (system : NamedSystem) (known : Lis
   -- a guard that is true in a product that is left is not known to be false
   not_false : (set : List Bool) (g : Guard) → IsRemaining scene.lines (choices_of page) set → truth set g ≡ true →
       kleene known g ≡ No → ⊥
-  not_false set g remains holds no =
-      false≢true (sym (subst (λ (v : Tri). Agrees v (truth set g)) no
+  not_false set g remains holds absent =
+      false≢true (sym (subst (λ (v : Tri). Agrees v (truth set g)) absent
       (known_values_hold known set g
       (remaining_products_complete scene.lines (choices_of page) known set is_diagram is_known remains))) ∙ holds)
 
