@@ -1,5 +1,5 @@
 -- The steps that a walk reports are those of the system, with the right marks.
-use Rattle.std.proofs.Common.{◌≡◌, ℕ, ◌<◌, ◌⊎◌, inl, inr, Bool, true, false, List, [], ◌∷◌, length, get_or, map, Contains, refl, sym, ap, ◌∙◌, subst, Option, Some, None}
+use Rattle.std.proofs.Common.{◌≡◌, ℕ, ◌<◌, ◌⊎◌, inl, inr, Bool, true, List, [], ◌∷◌, length, Contains, refl, sym, ap, ◌∙◌, subst, Option, Some, None}
 use Rattle.std.specs.Prelude.{filter, IsSome}
 use Rattle.std.proofs.lemmas.Bool.{false≢true}
 use Rattle.vpg_guards.specs.declared.tri.Tri.{Tri}
@@ -29,10 +29,10 @@ use Rattle.vpg_model.specs.Pairs.{departures_at, free_to, leaving_moves, moves_b
 use Rattle.vpg_model.specs.Sources.{system_of, transition_in}
 use Rattle.vpg_trace.specs.declared.taking.Taken.{Taken}
 use Rattle.vpg_trace.specs.declared.walking.Visit.{Visit}
-use Rattle.vpg_trace.specs.Taking.{departure_at, no_departure, taken_along, taken_at, taken_from, value_told}
+use Rattle.vpg_trace.specs.Taking.{departure_at, taken_along, taken_at, taken_from, value_told}
 use Rattle.vpg_trace.specs.Telling.{IsTakenBy}
 use Rattle.vpg_trace.specs.Texts.{Family, family_of, step_from}
-use Rattle.vpg_trace.specs.Traces.{IsTrace, Moves}
+use Rattle.vpg_trace.specs.Traces.{IsTrace}
 use Rattle.vpg_trace.specs.Walks.{visit_at}
 use Rattle.vpg_trace.proofs.Fitting.{some_along, told_from}
 use Rattle.vpg_trace.proofs.Moving.{filtered}

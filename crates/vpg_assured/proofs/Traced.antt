@@ -1,11 +1,10 @@
 -- The answers of a run to traces report steps of the system.
-use Rattle.std.proofs.Common.{◌≡◌, ℕ, ◌+◌, ◌<◌, ◌⊎◌, inl, inr, Bool, true, false, List, [], ◌∷◌, ◌++◌, Option, Some, None, Ok, Err, refl, sym, ap, ◌∙◌, subst}
+use Rattle.std.proofs.Common.{◌≡◌, ℕ, ◌+◌, ◌⊎◌, inl, inr, Bool, true, false, List, [], ◌∷◌, Option, Some, None, Ok, Err, refl, subst}
 use Rattle.std.specs.Prelude.{Result, codes}
 use Rattle.vpg_diagram.specs.DiagramText.{NamedDiagram}
 use Rattle.vpg_game.specs.Game.{NamedGame}
-use Rattle.vpg_trail.specs.Page.{Decision, Entry, Hopeful, Dual, decisions_of, table_of}
-use Rattle.vpg_partial.specs.declared.decision.Decision as decided
-use Rattle.vpg_desk.specs.Book.{Family, Book, Call, Order, Reply, Changed, Undone, Redone, Spent, Ordered, Added, IsSettled, VerdictIs, PageIs, Refused, IsReply}
+use Rattle.vpg_trail.specs.Page.{Decision, decisions_of}
+use Rattle.vpg_desk.specs.Book.{Family, Book, Order, Reply, Changed, Undone, Redone, Spent, Ordered, Added, IsSettled, VerdictIs, PageIs, Refused, IsReply}
 use Rattle.vpg_desk.specs.Desk.{family_of}
 use Rattle.vpg_desk.specs.History.{Event, IsLegalFrom}
 use Rattle.vpg_checking.specs.Behaviours.{Behaviour}
@@ -18,13 +17,13 @@ use Rattle.vpg_family.specs.Made.{IsMadeOf}
 use Rattle.vpg_answers.specs.Answers.{IsAnswer}
 use Rattle.vpg_answers.specs.declared.query.Query.{Query}
 use Rattle.vpg_answers.specs.declared.query.Query.TheVariants as queries
-use Rattle.vpg_report.specs.Answers.{Follows, Asks, Begins, NoSystem, NoVertex, Own, own_text, refusal_text, vertex_of}
+use Rattle.vpg_report.specs.Answers.{Follows, Asks, Begins, NoVertex, Own, own_text, refusal_text, vertex_of}
 use Rattle.vpg_report.specs.Held.{Held}
 use Rattle.vpg_report.specs.Requests.{Continues, Serves, answer_limits, is_over, order_or, query_if, query_of, query_or}
 use Rattle.vpg_report.specs.Run.{Between, begun, answering, as_meant}
 use Rattle.vpg_report.specs.Setting.{setting_in}
 use Rattle.vpg_report.specs.Winners.{IsRefusal}
-use Rattle.vpg_assured.specs.Traced.{HasNoWalk, ReportsSteps, ReportsWalk, TracedStepsAreThere, trace_of, tracing}
+use Rattle.vpg_assured.specs.Traced.{HasNoWalk, ReportsWalk, TracedStepsAreThere, trace_of, tracing}
 use Rattle.vpg_assured.proofs.Walked.{reports_trace}
 
 module _ (game : NamedGame) (diagram : NamedDiagram) (system_text : List ℕ) (behaviour : Behaviour)

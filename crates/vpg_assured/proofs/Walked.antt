@@ -1,7 +1,6 @@
 -- The answer to a trace reports a walk of the system.
-use Rattle.std.proofs.Common.{◌≡◌, ℕ, ◌<◌, ◌⊎◌, inl, inr, Bool, List, ◌++◌, length, Option, refl, ap, ◌∙◌, arith}
+use Rattle.std.proofs.Common.{ℕ, ◌⊎◌, inl, inr, Bool, List, ◌++◌, Option, ap, ◌∙◌, arith}
 use Rattle.std.specs.Prelude.{slice_index}
-use Rattle.vpg_guards.specs.declared.tri.Tri.{Tri}
 use Rattle.vpg_diagram.specs.DiagramText.{NamedDiagram}
 use Rattle.vpg_diagram.specs.FeatureDiagram.{IsDiagram}
 use Rattle.vpg_game.specs.Game.{NamedGame, graph_of}
@@ -14,7 +13,7 @@ use Rattle.vpg_why.specs.declared.question.Limits.{Limits}
 use Rattle.vpg_trail.specs.Page.{Entry, decisions_of}
 use Rattle.vpg_checking.specs.Behaviours.{Behaviour}
 use Rattle.vpg_trace.specs.declared.walking.Visit.{Visit}
-use Rattle.vpg_trace.specs.Answering.{Page, HasVerdict, TellsTrace, TellsWalk, TellsWon, head_line, walk_along}
+use Rattle.vpg_trace.specs.Answering.{Page, TellsTrace, TellsWalk, TellsWon, head_line, walk_along}
 use Rattle.vpg_trace.specs.Texts.{family_of, trace_text}
 use Rattle.vpg_trace.specs.Traces.{IsTrace}
 use Rattle.vpg_trace.specs.Walks.{is_left, walk_from}
