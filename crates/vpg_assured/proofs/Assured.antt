@@ -1,6 +1,6 @@
 -- The answers that name winners speak of requirements.
-use Rattle.std.proofs.Common.{◌≡◌, ℕ, ◌<◌, Bool, List, [], ◌∷◌, length, Option, Some, None, Ok, Err, inl, inr, refl}
-use Rattle.std.specs.Prelude.{◌⊎◌, slice_index}
+use Rattle.std.proofs.Common.{ℕ, List, [], ◌∷◌, Option, Some, None, Ok, Err, inl, inr}
+use Rattle.std.specs.Prelude.{slice_index}
 use Rattle.vpg_verdict.specs.declared.verdict.Verdict.{Verdict}
 use Rattle.vpg_diagram.specs.DiagramText.{NamedDiagram}
 use Rattle.vpg_game.specs.Game.{NamedGame, graph_of}
@@ -17,7 +17,7 @@ use Rattle.vpg_texts.specs.Changed.{seen_at}
 use Rattle.vpg_texts.specs.Scene.{Scene, scene_of}
 use Rattle.vpg_report.specs.Run.{Between, begun, as_meant}
 use Rattle.vpg_report.specs.Setting.{setting_in}
-use Rattle.vpg_report.specs.Winners.{AreTrue, SaysVerdicts, NamesWinners, naming}
+use Rattle.vpg_report.specs.Winners.{AreTrue, NamesWinners, naming}
 use Rattle.vpg_report.proofs.Winning.{answers_name_winners}
 use Rattle.vpg_assured.specs.Assured.{AreTrueOfEntries, SpeaksOfEntries, speaking, AnswersSpeakOfRequirements}
 

@@ -1,1 +1,5 @@
 pub mod Assured
+pub mod Moved
+pub mod Stepped
+pub mod Traced
+pub mod Walked

@@ -1,6 +1,6 @@
 -- The meaning of a run's answers for requirements, if its game is that of the texts of a system and of requirements.
 -- This project's own.
-use Rattle.std.specs.Prelude.{◌≡◌, ◌⊎◌, ℕ, ◌<◌, Bool, Option, List, length, slice_index, IsTrue}
+use Rattle.std.specs.Prelude.{◌⊎◌, ℕ, ◌<◌, Bool, Option, List, length, slice_index, IsTrue}
 use Rattle.vpg_verdict.specs.declared.verdict.Verdict.{Verdict}
 use Rattle.vpg_diagram.specs.DiagramText.{NamedDiagram}
 use Rattle.vpg_game.specs.Game.{NamedGame, graph_of}

@@ -1,5 +1,6 @@
-//! The law on requirements, as the contract of a function that does nothing.
+//! Laws of a run's answers, as contracts of functions that do nothing.
 ghost use Rattle.vpg_assured.specs.Assured.{AnswersSpeakOfRequirements};
+ghost use Rattle.vpg_assured.specs.Traced.{TracedStepsAreThere};
 
 /// Verdicts in a run's answers are true of the requirements, if the run's game is that of the texts of a system and of
 /// requirements. If an answer calls an entry's vertex hopeless, the entry's requirement fails in each product left on
@@ -9,4 +10,15 @@ ghost use Rattle.vpg_assured.specs.Assured.{AnswersSpeakOfRequirements};
 /// on it (`vpg_report::run`: `opened`); so nothing else is to be shown.
 pub fn answers_speak_of_requirements()
     ensures { AnswersSpeakOfRequirements }
+{}
+
+/// Steps in a run's traces are transitions of the system, if the run's game was made of a system and requirements. A
+/// step that isn't marked as depending is one of the system of each product left on the page at that point; the guard
+/// of a marked one is open there. A step leaves the state that the walk is at, and leads to its next state. A move
+/// without a step stays in its state, or no product that is left has it.
+///
+/// `vpg_family::read_known` returns such a game with its system (`made`), and `vpg_report::run` answers by them; so
+/// nothing else is to be shown.
+pub fn traced_steps_are_there()
+    ensures { TracedStepsAreThere }
 {}

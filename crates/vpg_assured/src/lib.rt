@@ -1,9 +1,11 @@
-//! The law that verdicts in a run's answers are true of the requirements.
+//! The laws that a run's answers are true of a system and its requirements.
 //!
 //! If a run's game is that of a system and of requirements, as `vpg_checking` reads it, its answers to `show`, `assert`
 //! and `changed` speak of the requirement of each entry. Hopeless at the entry's vertex: it fails in the system of
-//! every product left on the page at that point. Sure: it holds in each. [`laws`] has the law, and `specs/Assured` its
-//! words.
+//! every product left on the page at that point. Sure: it holds in each. Its answers to `trace` go by steps of the
+//! system. Each is one of every product left on the page, or is marked as depending.
+//!
+//! [`laws`] has both laws. `specs/Assured` has the words of the first, `specs/Traced` those of the second.
 #![tactic(auto)]
 
 pub mod laws;
