@@ -22,6 +22,10 @@ front_with most decisions kept = take most decisions ++ kept
 abbrev pub choices : List Decision → List Literal
 choices decisions = map literal_of decisions
 
+-- it holds of the choices of each number of first decisions, with the others after them
+abbrev pub OfFronts : (List Literal → Type 0) → (decisions kept : List Decision) → Type 0
+OfFronts Holds decisions kept = (most : ℕ) → Holds (choices (front_with most decisions kept))
+
 -- The last of the first decisions that is needed beside others. With it the front suffices, and without it the front
 -- does not, if that is shown.
 pub record IsLast (Suffices : List Literal → Type 0) (decisions kept : List Decision) (most place : ℕ) (exact : Bool) : Type 0 where
