@@ -14,7 +14,7 @@ use Rattle.vpg_why.specs.Suffices.{Suffice, SufficeIn, EachIsSettled, IsSettled}
 use Rattle.vpg_why.specs.Explained.{choices, front_with, IsLast, AreNeededInTurn, Explains, OfFronts}
 use Rattle.vpg_why.proofs.Fronts.{choices_with, front_among, pool_named}
 use Rattle.vpg_why.proofs.Listing.{IsListing, among_named, begun, ended, taken}
-use Rattle.vpg_why.proofs.InTurn.{shorter, one_more, none_yet, one_list}
+use Rattle.vpg_why.proofs.InTurn.{shorter, one_more, none_yet, one_list, weaker}
 use Rattle.vpg_why.proofs.Monotone.{more_choices_suffice}
 use Rattle.vpg_why.specs.Laws.{ExplanationsAreOne}
 
@@ -26,7 +26,7 @@ choice_at (d ∷ ds) (suc i) x l less = choice_at ds i x l (omega (arith, less))
 -- what listing keeps, of choices and of decisions
 pub record IsListed (Suffices : List Literal → Type 0) (Settles : Type 0) (decisions kept : List Decision) (most : ℕ) (exact : Bool) : Type 0 where
   pub listing : IsListing Suffices (choices decisions) (choices kept) most exact
-  pub in_turn : IsTrue exact → AreNeededInTurn Suffices (take most decisions) (drop most decisions) kept
+  pub in_turn : AreNeededInTurn Suffices exact (take most decisions) (drop most decisions) kept
   pub settled : Settles → IsTrue exact
 
 -- each of two that hold
@@ -55,7 +55,7 @@ module _ (game : NamedGame) (diagram : NamedDiagram) (limits : Limits) (question
   pub first_listed : (kept : List Decision) → kept ≡ [] → Suffice game diagram question (choices decisions) → IsListed (Suffice game diagram question) (EachIsSettled game diagram limits question (choices decisions)) decisions kept (length decisions) true
   first_listed kept e h = record {
     listing = first_listing kept e h;
-    in_turn = λ t. subst (λ (ds : List Decision). AreNeededInTurn (Suffice game diagram question) (take (length decisions) decisions) (drop (length decisions) decisions) ds) (sym e) (none_yet (Suffice game diagram question) decisions);
+    in_turn = subst (λ (ds : List Decision). AreNeededInTurn (Suffice game diagram question) true (take (length decisions) decisions) (drop (length decisions) decisions) ds) (sym e) (none_yet (Suffice game diagram question) true decisions);
     settled = λ s. refl;
   }
 
@@ -75,8 +75,9 @@ module _ (game : NamedGame) (diagram : NamedDiagram) (limits : Limits) (question
     pub next_listed : IsListed (Suffice game diagram question) (EachIsSettled game diagram limits question (choices decisions)) decisions new place (exact && also)
     next_listed = record {
       listing = next_listing;
-      in_turn = λ t. subst (λ (ds : List Decision). AreNeededInTurn (Suffice game diagram question) (take place decisions) (drop place decisions) ds) (sym e)
-          (one_more (Suffice game diagram question) decisions kept place most x last.within inside (last.short (both_hold exact also t).1) (is.in_turn (both_hold exact also t).0));
+      in_turn = subst (λ (ds : List Decision). AreNeededInTurn (Suffice game diagram question) (exact && also) (take place decisions) (drop place decisions) ds) (sym e)
+          (one_more (Suffice game diagram question) (exact && also) decisions kept place most x last.within inside (λ t. last.short (both_hold exact also t).1)
+          (weaker (Suffice game diagram question) exact (exact && also) (λ t. (both_hold exact also t).0) is.in_turn));
       settled = λ s. both_true exact also (is.settled s) (so (λ n. s (choices (front_with n decisions kept)) (front_among n decisions kept is.listing.among)));
     }
 
@@ -84,7 +85,7 @@ module _ (game : NamedGame) (diagram : NamedDiagram) (limits : Limits) (question
       IsListed (Suffice game diagram question) (EachIsSettled game diagram limits question (choices decisions)) decisions kept 0 exact
   last_listed kept most exact is h = record {
     listing = ended (Suffice game diagram question) (choices decisions) (choices kept) most exact is.listing (moved 0 kept h);
-    in_turn = λ t. shorter (Suffice game diagram question) decisions kept 0 most (omega arith) (is.in_turn t);
+    in_turn = shorter (Suffice game diagram question) exact decisions kept 0 most (omega arith) is.in_turn;
     settled = is.settled;
   }
 
@@ -102,4 +103,4 @@ module _ (game : NamedGame) (diagram : NamedDiagram) (limits : Limits) (question
 pub explanations_are_one : ExplanationsAreOne
 explanations_are_one game lines question decisions one other is named a b =
     one_list (SufficeIn game lines question) (λ c. c.feature < feature_count lines) (λ few many within among h. more_choices_suffice game lines question few many is within among h)
-    (a.in_turn refl) tt named (among_named lines (choices one) (choices decisions) a.among named) other (b.in_turn refl) (among_named lines (choices other) (choices decisions) b.among named) a.enough b.enough
+    a.in_turn tt named (among_named lines (choices one) (choices decisions) a.among named) other b.in_turn (among_named lines (choices other) (choices decisions) b.among named) a.enough b.enough

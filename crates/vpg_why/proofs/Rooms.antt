@@ -1,7 +1,8 @@
 -- What a search has room for.
-use Rattle.std.proofs.Common.{◌≡◌, ℕ, zero, suc, ◌+◌, ◌-◌, ◌<◌, ◌≤◌, ◌⊎◌, inl, inr, Bool, true, false, cond, List, [], ◌∷◌, ◌++◌, count_by, length, slice_index_or, IsTrue, refl, sym, ◌∙◌, subst, append-nil, append_assoc, arith}
+use Rattle.std.proofs.Common.{◌≡◌, ℕ, zero, suc, ◌+◌, ◌-◌, ◌<◌, ◌≤◌, ◌⊎◌, inl, inr, Bool, true, false, cond, List, [], ◌∷◌, ◌++◌, count_by, length, slice_index_or, IsTrue, refl, sym, ◌∙◌, ap, subst, add-one, append-nil, append_assoc, arith}
 use Rattle.std.proofs.lemmas.Bool.{cases_lt}
 use Rattle.std.proofs.lemmas.List.Elements.{Contains-append_left}
+use Rattle.std.proofs.lemmas.List.Sums.{count_by-le-length, sum_by-cons}
 use Rattle.vpg_guards.specs.declared.tri.Tri.{Tri}
 use Rattle.vpg_guards.specs.declared.tri.Tri.TheVariants.{No, Unknown, Yes}
 use Rattle.vpg_guards.specs.Known.{IsFiner, IsFinerValue}
@@ -32,6 +33,9 @@ pub one_less : (n : ℕ) → (n ≡ 0 → ⊥) → n ≡ suc (n - 1)
 one_less zero h = absurd (h refl)
 one_less (suc n) h = omega arith
 
+trials_step : (n : ℕ) → most_trials (n + 1) ≡ suc (most_trials n + most_trials n)
+trials_step n = ap most_trials (add-one n)
+
 pub trials_grow : (n m : ℕ) → n ≤ m → most_trials n ≤ most_trials m
 trials_grow zero m le = omega arith
 trials_grow (suc n) zero le = absurd (omega (arith, le))
@@ -47,12 +51,15 @@ fewer_of Unknown Unknown h = omega arith
 fewer_of Unknown Yes h = omega arith
 fewer_of Yes u h = rw h (omega arith)
 
+count_step : (t : Tri) (ts : List Tri) → count_by is_open (t ∷ ts) ≡ cond (is_open t) 1 0 + count_by is_open ts
+count_step t ts = sum_by-cons (λ y. cond (is_open y) 1 0) t ts
+
 pub fewer_open : (known more : List Tri) → length known ≡ length more → IsFiner known more → count_by is_open more ≤ count_by is_open known
 fewer_open [] [] e h = omega arith
 fewer_open [] (u ∷ us) e h = absurd (omega (arith, e))
 fewer_open (t ∷ ts) [] e h = absurd (omega (arith, e))
 fewer_open (t ∷ ts) (u ∷ us) e h =
-    omega (arith, fewer_of t u (h 0), fewer_open ts us (omega (arith, e)) (λ f. h (suc f)))
+    omega (arith, count_step t ts, count_step u us, fewer_of t u (h 0), fewer_open ts us (omega (arith, e)) (λ f. h (suc f)))
 
 open_to_known : (t u : Tri) → t ≡ Unknown → (u ≡ Unknown → ⊥) → suc (cond (is_open u) 1 0) ≤ cond (is_open t) 1 0
 open_to_known No u e h = cc e
@@ -68,35 +75,26 @@ pub one_fewer : (known more : List Tri) (g : ℕ) → length known ≡ length mo
 one_fewer [] more g e h less was is = absurd (omega (arith, less))
 one_fewer (t ∷ ts) [] g e h less was is = absurd (omega (arith, e))
 one_fewer (t ∷ ts) (u ∷ us) zero e h less was is =
-    omega (arith, open_to_known t u was is, fewer_open ts us (omega (arith, e)) (λ f. h (suc f)))
+    omega (arith, count_step t ts, count_step u us, open_to_known t u was is, fewer_open ts us (omega (arith, e)) (λ f. h (suc f)))
 one_fewer (t ∷ ts) (u ∷ us) (suc g) e h less was is =
-    omega (arith, fewer_of t u (h 0), one_fewer ts us g (omega (arith, e)) (λ f. h (suc f)) (omega (arith, less)) was is)
+    omega (arith, count_step t ts, count_step u us, fewer_of t u (h 0), one_fewer ts us g (omega (arith, e)) (λ f. h (suc f)) (omega (arith, less)) was is)
 
 some_open : (known : List Tri) (g : ℕ) → g < length known → slice_index_or known g Unknown ≡ Unknown → 1 ≤ count_by is_open known
 some_open [] g less is = absurd (omega (arith, less))
-some_open (t ∷ ts) zero less is = omega (arith, of t is)
+some_open (t ∷ ts) zero less is = omega (arith, count_step t ts, of t is)
   where
     of : (t : Tri) → t ≡ Unknown → 1 ≤ cond (is_open t) 1 0
     of No e = cc e
     of Unknown e = omega arith
     of Yes e = cc e
-some_open (t ∷ ts) (suc g) less is = omega (arith, some_open ts g (omega (arith, less)) is)
+some_open (t ∷ ts) (suc g) less is = omega (arith, count_step t ts, some_open ts g (omega (arith, less)) is)
 
 not_unknown : (t : Tri) (value : Bool) → IsTrue (is_known_as t value) → t ≡ Unknown → ⊥
 not_unknown t value h e = clash (subst (λ (u : Tri). IsTrue (is_known_as u value)) e h)
 
 -- not more than all are open
-all_open : (known : List Tri) → count_by is_open known ≤ length known
-all_open [] = omega arith
-all_open (t ∷ ts) = omega (arith, of t, all_open ts)
-  where
-    of : (t : Tri) → cond (is_open t) 1 0 ≤ 1
-    of No = omega arith
-    of Unknown = omega arith
-    of Yes = omega arith
-
 pub open_up_to_all : (lines : List Line) (choices : List Literal) → AreOpenUpTo (feature_count lines) lines choices
-open_up_to_all lines choices known t = subst (λ n. count_by is_open known ≤ n) t.length_is (all_open known)
+open_up_to_all lines choices known t = subst (λ n. count_by is_open known ≤ n) t.length_is (count_by-le-length is_open known)
 
 -- more choices leave no more open
 pub open_stays : (lines : List Line) (few many : List Literal) (most : ℕ) → IsDiagram lines → AreChoicesOf lines few → AreAmong few many →
@@ -180,7 +178,7 @@ module _ (diagram : NamedDiagram) (choices : List Literal) where
   no_depth depth trials e room = let d = room.deep in omega (arith, d, e)
 
   pub room_trials : (depth trials : ℕ) → (room : HasRoom diagram choices depth trials) → suc (most_trials room.most + most_trials room.most) ≤ trials
-  room_trials depth trials room = subst (λ n. most_trials n ≤ trials) (omega arith) room.enough
+  room_trials depth trials room = let e = trials_step room.most in let h = room.enough in omega (arith, e, h)
 
   pub no_trials : (depth trials : ℕ) → trials ≡ 0 → HasRoom diagram choices depth trials → ⊥
   no_trials depth trials e room = let h = room_trials depth trials room in omega (arith, h, e)
