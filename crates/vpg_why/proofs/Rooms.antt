@@ -124,7 +124,7 @@ module _ (diagram : NamedDiagram) (choices : List Literal) (f : ℕ) (value : Bo
   child_open most up more u =
       let a = up is.known is.is_table in
       let b = one_fewer is.known more f (is.is_table.length_is ∙ sym u.length_is) (tables_refine diagram.lines choices (choices ++ choice f value ∷ []) is.known more among is.is_table u) inside is.unknown
-          (not_unknown (slice_index_or more f Unknown) value (u.all_known (choice f value) own)) in
+      (not_unknown (slice_index_or more f Unknown) value (u.all_known (choice f value) own)) in
       omega (arith, a, b)
 
   pub child_room : (depth less trials left : ℕ) → depth ≡ suc less → (room : HasRoom diagram choices depth trials) → most_trials room.most ≤ left → HasRoom diagram (choices ++ choice f value ∷ []) less left

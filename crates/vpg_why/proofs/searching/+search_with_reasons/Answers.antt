@@ -105,6 +105,11 @@ returns-in-Product-clause-fewer t c most up =
     let s = left_after_half c.args.order.now.diagram (choices c.args.decisions.now) c.in-Open.feature true (rw c.in-Open.is at c.in_ok-look.ensures.outlook) most (c.args.trials.now - 1) c.search_with_reasons.new.trials up (rw (c.deref.ensures.value, c.in_ok-more.ensures) at c.in_ok-found.ensures.fewer) in
     open_spent most c.args.trials.now (c.args.trials.now - 1) c.search_with_reasons.new.trials (omega arith) (omega (arith, s))
 
+pub returns-then-not-front-clause-fewer : goal.returns-then-not-front-clause-fewer
+returns-then-not-front-clause-fewer t c most up =
+    let s = left_after_half c.args.order.now.diagram (choices c.args.decisions.now) c.in-Open.feature true (rw c.in-Open.is at c.in_ok-look.ensures.outlook) most (c.args.trials.now - 1) c.search_with_reasons.new.trials up (rw (c.deref.ensures.value, c.in_ok-more.ensures) at c.in_ok-found.ensures.fewer) in
+    open_spent most c.args.trials.now (c.args.trials.now - 1) c.search_with_reasons.new.trials (omega arith) (omega (arith, s))
+
 pub returns-clause-fewer : goal.returns-clause-fewer
 returns-clause-fewer t c most up =
     let s = left_after_half c.args.order.now.diagram (choices c.args.decisions.now) c.in-Open.feature true (rw c.in-Open.is at c.in_ok-look.ensures.outlook) most (c.args.trials.now - 1) c.search_with_reasons.new.trials up (rw (c.deref.ensures.value, c.in_ok-more.ensures) at c.in_ok-found.ensures.fewer) in
