@@ -17,3 +17,6 @@ give_up-requires-clause-named c = grind (arith, common_steps)
 
 pub returns-in-Yes-clause-remedy : goal.returns-in-Yes-clause-remedy
 returns-in-Yes-clause-remedy c = grind (arith, common_steps)
+
+pub returns-clause-settled : goal.returns-clause-settled
+returns-clause-settled c = rw c.decisions.ensures.decisions at c.in_ok-found.ensures.settled
