@@ -78,7 +78,7 @@ offered_named n m (o ∷ rest) is named (suc k) d l = offered_named n m rest is 
 -- what one more choice makes of a vertex, as the crate below says it
 module _ (game : NamedGame) (diagram : NamedDiagram) (limits : Limits) (vertex : ℕ) (chosen : List Literal) where
   shown_in : (which : Which) (answer : Shown) → IsShown limits.rounds game diagram vertex chosen which answer → IsVerdictShown (scene_of game diagram) limits vertex chosen which answer
-  shown_in which answer so = record { yes = so.yes; no = so.no; settled = λ rounds. so.settled (rounds chosen) }
+  shown_in which answer so = record { yes = so.yes; no = so.no; settled = so.settled }
 
   pub offer_in : (offer : Offer) → IsOffer limits.rounds game diagram vertex chosen offer → IsOfferOf (scene_of game diagram) limits vertex chosen offer
   offer_in offers.Conflict so = so

@@ -28,7 +28,7 @@ use Rattle.vpg_why.specs.declared.repairing.Retraction.{Retraction}
 use Rattle.vpg_why.proofs.Next.{both_hold}
 use Rattle.vpg_answers.specs.Answers.{identifier_of, IsHopelessBy, TellsRepair, TellsRetractions, Appends}
 use Rattle.vpg_answers.specs.Repairs.{AreSingles}
-use Rattle.vpg_answers.specs.Room.{RoundsSettle}
+use Rattle.vpg_answers.specs.Room.{RoundsSettleEach}
 use Rattle.vpg_answers.specs.Texts.{none_line, other_line, several_text, singles_text, unsettled_line}
 use Rattle.vpg_answers.proofs.Trying.{given_named, repair_weaker, singles_named, singles_weaker}
 
@@ -107,7 +107,7 @@ module _ (order : OrderView) where
       as_named text appended = appended ∙ ap (λ (ns : List (List ℕ)). before ++ text ns) names_is
 
       pub told_singles : (items listed : List Decision) (exact : Bool) → listed ≡ items → items ≢ [] → AreSingles (IsHopelessBy page vertex) exact [] order.decisions items →
-          (RoundsSettle page limits.rounds Hopeful → IsTrue exact) → after ≡ before ++ singles_text names listed exact → Appends (TellsRetractions page limits vertex order.decisions) before after
+          (RoundsSettleEach page limits.rounds Hopeful (choices order.decisions) → IsTrue exact) → after ≡ before ++ singles_text names listed exact → Appends (TellsRetractions page limits vertex order.decisions) before after
       told_singles items listed exact same some are settled appended = (
         singles_text order.diagram.names items exact,
         (
@@ -117,8 +117,8 @@ module _ (order : OrderView) where
       )
 
       pub told_several : (alone : Bool) (r : Retraction) (listed : List Decision) (exact : Bool) → listed ≡ r.retracted.items → exact ≡ (alone && r.exact) →
-          AreSingles (IsHopelessBy page vertex) alone [] order.decisions [] → (RoundsSettle page limits.rounds Hopeful → IsTrue alone) →
-          IsRepair (IsHopelessBy page vertex) order.decisions r.kept.items r.retracted.items r.exact → (RoundsSettle page limits.rounds Hopeful → IsTrue r.exact) →
+          AreSingles (IsHopelessBy page vertex) alone [] order.decisions [] → (RoundsSettleEach page limits.rounds Hopeful (choices order.decisions) → IsTrue alone) →
+          IsRepair (IsHopelessBy page vertex) order.decisions r.kept.items r.retracted.items r.exact → (RoundsSettleEach page limits.rounds Hopeful (choices order.decisions) → IsTrue r.exact) →
           after ≡ before ++ several_text names listed exact → Appends (TellsRetractions page limits vertex order.decisions) before after
       told_several alone r listed exact same both are sure repair settled appended = (
         several_text order.diagram.names r.retracted.items exact,
@@ -146,7 +146,7 @@ module _ (order : OrderView) where
       pub told_no_repair : IsHopelessBy page vertex [] → after ≡ before ++ none_line → Appends (TellsRetractions page limits vertex order.decisions) before after
       told_no_repair none appended = (none_line, (inr (inr (inl (none, refl))), appended))
 
-      pub told_unsettled_repair : (RoundsSettle page limits.rounds Hopeful → ⊥) → after ≡ before ++ unsettled_line → Appends (TellsRetractions page limits vertex order.decisions) before after
+      pub told_unsettled_repair : (RoundsSettleEach page limits.rounds Hopeful (choices order.decisions) → ⊥) → after ≡ before ++ unsettled_line → Appends (TellsRetractions page limits vertex order.decisions) before after
       told_unsettled_repair short appended = (unsettled_line, (inr (inr (inr (short, refl))), appended))
 
   module _ (limits : Limits) (vertex : ℕ) (before after : List ℕ) where

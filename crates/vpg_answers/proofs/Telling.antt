@@ -13,9 +13,9 @@ use Rattle.vpg_partial.specs.declared.decision.Decision.{Decision}
 use Rattle.vpg_texts.specs.Scene.{Scene, scene_of}
 use Rattle.vpg_texts.proofs.Shown.{named_below}
 use Rattle.vpg_why.specs.Explained.{choices, Explains}
-use Rattle.vpg_why.specs.Found.{AreFoundNeeds, IsFoundProduct, IsFound, IsFoundExact, IsWhyLost, IsWhyLostExact}
+use Rattle.vpg_why.specs.Found.{AreFoundNeeds, IsFoundProduct, IsFound, IsFoundExact, IsWhyLost, IsWhyLostExact, IsWhyLostShown}
 use Rattle.vpg_why.specs.Products.{NoneMeets}
-use Rattle.vpg_why.specs.Suffices.{AimSettles, IsSettled, Suffice, choice}
+use Rattle.vpg_why.specs.Suffices.{AimSettles, EachIsSettled, IsSettled, Suffice, choice}
 use Rattle.vpg_why.specs.declared.explaining.Explanation.{Explanation}
 use Rattle.vpg_why.specs.declared.forcing.Demand.TheVariants as demands
 use Rattle.vpg_why.specs.declared.forcing.Forced.{Forced}
@@ -36,7 +36,7 @@ use Rattle.vpg_answers.specs.Texts.{verdict_line, other_line, lost_line, known_l
 use Rattle.vpg_answers.specs.Answers.{identifier_of, TellsVerdict, TellsVertex, TellsKnownBy, IsNotKnown, TellsFeature, TellsChoice, TellsExample, TellsLost, TellsForced, TellsOffers, Tells, lost_for, forced_word, IsAnswer, Appends}
 use Rattle.vpg_answers.specs.Offers.{AreOffers}
 use Rattle.vpg_answers.specs.declared.offers.Offered.{Offered}
-use Rattle.vpg_answers.specs.Room.{RoundsSettle, RoundsSettleFor, SearchEnds}
+use Rattle.vpg_answers.specs.Room.{RoundsSettleEach, RoundsSettleFor, SearchEnds}
 
 module _ (order : OrderView) (is : IsOrder order) where
   abbrev scene : Scene
@@ -59,7 +59,7 @@ module _ (order : OrderView) (names : List (List ℕ)) (names_is : names ≡ ord
   page = scene_of order.game order.diagram
 
   module _ (which : Which) (vertex identifier : ℕ) (identifier_is : identifier ≡ slice_index (vertex_ids order.game.vertices) vertex) (before after : List ℕ) where
-    pub told_verdict : (limits : Limits) (listed : List Decision) (exact : Bool) → (RoundsSettle page limits.rounds which → IsTrue exact) →
+    pub told_verdict : (limits : Limits) (listed : List Decision) (exact : Bool) → (RoundsSettleEach page limits.rounds which (choices order.decisions) → IsTrue exact) →
         slice_index (order_table which order) vertex ≡ top_for which (graph_of order.game) →
         Explains (Suffice order.game order.diagram (asks.Verdict which vertex)) order.decisions listed exact → after ≡ before ++ verdict_line names which identifier listed exact →
         Appends (TellsVerdict page limits which vertex order.decisions (order_table which order)) before after
@@ -77,45 +77,45 @@ module _ (order : OrderView) (names : List (List ℕ)) (names_is : names ≡ ord
 
   -- ---- products that meet an aim
 
-  aim_settles : (rounds : ℕ) (aim : Aim) → RoundsSettleFor page rounds aim → AimSettles rounds order.game order.diagram aim
-  aim_settles rounds aims.Any settles = λ cs known is. tt
-  aim_settles rounds (aims.Won which vertex) settles = settles
+  aim_settles : (rounds : ℕ) (aim : Aim) (cs : List Literal) → RoundsSettleFor page rounds aim cs → AimSettles rounds order.game order.diagram aim cs
+  aim_settles rounds aims.Any cs settles = λ more known is. tt
+  aim_settles rounds (aims.Won which vertex) cs settles = settles
 
   module _ (limits : Limits) (aim : Aim) (before after : List ℕ) where
     -- where the limits leave room, the question is settled
-    room : SearchEnds page limits aim → IsSettled order.game order.diagram limits (asks.Lost aim)
-    room (settles, enough) = (aim_settles limits.rounds aim settles, enough)
+    room : (cs : List Literal) → SearchEnds page limits aim cs → IsSettled order.game order.diagram limits (asks.Lost aim) cs
+    room cs (settles, enough) = (aim_settles limits.rounds aim cs settles, enough)
 
-    pub told_lost : (listed : List Decision) (exact : Bool) → (IsSettled order.game order.diagram limits (asks.Lost aim) → IsTrue exact) →
+    pub told_lost : (listed : List Decision) (exact : Bool) → (EachIsSettled order.game order.diagram limits (asks.Lost aim) (choices order.decisions) → IsTrue exact) →
         Explains (Suffice order.game order.diagram (asks.Lost aim)) order.decisions listed exact → after ≡ before ++ lost_line (lost_for page aim) names listed exact →
         Appends (TellsLost page limits aim order.decisions) before after
     told_lost listed exact settled explains appended = (
       lost_line (lost_for page aim) order.diagram.names listed exact,
       (
-        inl (listed, exact, explains, refl, λ ends. settled (room ends)),
+        inl (listed, exact, explains, refl, λ ends. settled (λ own among. room own (ends own among))),
         appended ∙ ap (λ (ns : List (List ℕ)). before ++ lost_line (lost_for page aim) ns listed exact) names_is,
       ),
     )
 
     pub told_unless : (set : List Bool) (first : Bool) → IsFoundProduct order.game order.diagram aim (choices order.decisions) set first →
-        (IsSettled order.game order.diagram limits (asks.Lost aim) → IsTrue first) → after ≡ before ++ product_line names set first → Appends (TellsLost page limits aim order.decisions) before after
+        (IsSettled order.game order.diagram limits (asks.Lost aim) (choices order.decisions) → IsTrue first) → after ≡ before ++ product_line names set first → Appends (TellsLost page limits aim order.decisions) before after
     told_unless set first found settled appended = (
       product_line order.diagram.names set first,
       (
-        inr (inl (set, first, found.remaining, found.meets, found.is_first, refl, λ ends. settled (room ends))),
+        inr (inl (set, first, found.remaining, found.meets, found.is_first, refl, λ ends. settled (room (choices order.decisions) ends))),
         appended ∙ ap (λ (ns : List (List ℕ)). before ++ product_line ns set first) names_is,
       ),
     )
 
-    pub told_lost_unsettled : (IsSettled order.game order.diagram limits (asks.Lost aim) → ⊥) → after ≡ before ++ unsettled_line → Appends (TellsLost page limits aim order.decisions) before after
-    told_lost_unsettled short appended = (unsettled_line, (inr (inr (λ ends. short (room ends), refl)), appended))
+    pub told_lost_unsettled : (IsSettled order.game order.diagram limits (asks.Lost aim) (choices order.decisions) → ⊥) → after ≡ before ++ unsettled_line → Appends (TellsLost page limits aim order.decisions) before after
+    told_lost_unsettled short appended = (unsettled_line, (inr (inr (λ ends. short (room (choices order.decisions) ends), refl)), appended))
 
     pub told_product : (set : List Bool) (first : Bool) → IsFoundProduct order.game order.diagram aim (choices order.decisions) set first →
-        (IsSettled order.game order.diagram limits (asks.Lost aim) → IsTrue first) → after ≡ before ++ product_line names set first → Appends (TellsExample page limits aim order.decisions) before after
+        (IsSettled order.game order.diagram limits (asks.Lost aim) (choices order.decisions) → IsTrue first) → after ≡ before ++ product_line names set first → Appends (TellsExample page limits aim order.decisions) before after
     told_product set first found settled appended = (
       product_line order.diagram.names set first,
       (
-        inl (set, first, found.remaining, found.meets, found.is_first, refl, λ ends. settled (room ends)),
+        inl (set, first, found.remaining, found.meets, found.is_first, refl, λ ends. settled (room (choices order.decisions) ends)),
         appended ∙ ap (λ (ns : List (List ℕ)). before ++ product_line ns set first) names_is,
       ),
     )
@@ -123,15 +123,15 @@ module _ (order : OrderView) (names : List (List ℕ)) (names_is : names ≡ ord
     pub told_nothing : NoneMeets order.game order.diagram aim (choices order.decisions) → after ≡ before ++ none_line → Appends (TellsExample page limits aim order.decisions) before after
     told_nothing none appended = (none_line, (inr (inl (none, refl)), appended))
 
-    pub told_unsettled : (IsSettled order.game order.diagram limits (asks.Lost aim) → ⊥) → after ≡ before ++ unsettled_line → Appends (TellsExample page limits aim order.decisions) before after
-    told_unsettled short appended = (unsettled_line, (inr (inr (λ ends. short (room ends), refl)), appended))
+    pub told_unsettled : (IsSettled order.game order.diagram limits (asks.Lost aim) (choices order.decisions) → ⊥) → after ≡ before ++ unsettled_line → Appends (TellsExample page limits aim order.decisions) before after
+    told_unsettled short appended = (unsettled_line, (inr (inr (λ ends. short (room (choices order.decisions) ends), refl)), appended))
 
     pub told_forced : (f : Forced) (listed : List Literal) (word : List ℕ) → listed ≡ f.literals.items → word ≡ forced_word aim → AreFoundNeeds order.game order.diagram aim (choices order.decisions) (demands.These f) →
-        (IsSettled order.game order.diagram limits (asks.Lost aim) → IsTrue f.exact) → after ≡ before ++ forced_text word names listed f.exact → Appends (TellsForced page limits aim order.decisions) before after
+        (IsSettled order.game order.diagram limits (asks.Lost aim) (choices order.decisions) → IsTrue f.exact) → after ≡ before ++ forced_text word names listed f.exact → Appends (TellsForced page limits aim order.decisions) before after
     told_forced f listed word same word_is found settled appended = (
       forced_text (forced_word aim) order.diagram.names f.literals.items f.exact,
       (
-        inl (f.literals.items, f.exact, found.0.0, found.0.1, found.0.2, found.1, refl, λ ends. settled (room ends)),
+        inl (f.literals.items, f.exact, found.0.0, found.0.1, found.0.2, found.1, refl, λ ends. settled (room (choices order.decisions) ends)),
         appended ∙ ap (λ (ns : List (List ℕ)). before ++ forced_text word ns listed f.exact) names_is
             ∙ ap₂ (λ (w : List ℕ) (ls : List Literal). before ++ forced_text w order.diagram.names ls f.exact) word_is same,
       ),
@@ -140,8 +140,8 @@ module _ (order : OrderView) (names : List (List ℕ)) (names_is : names ≡ ord
     pub told_none_forced : NoneMeets order.game order.diagram aim (choices order.decisions) → after ≡ before ++ none_line → Appends (TellsForced page limits aim order.decisions) before after
     told_none_forced none appended = (none_line, (inr (inl (none, refl)), appended))
 
-    pub told_forced_unsettled : (IsSettled order.game order.diagram limits (asks.Lost aim) → ⊥) → after ≡ before ++ unsettled_line → Appends (TellsForced page limits aim order.decisions) before after
-    told_forced_unsettled short appended = (unsettled_line, (inr (inr (λ ends. short (room ends), refl)), appended))
+    pub told_forced_unsettled : (IsSettled order.game order.diagram limits (asks.Lost aim) (choices order.decisions) → ⊥) → after ≡ before ++ unsettled_line → Appends (TellsForced page limits aim order.decisions) before after
+    told_forced_unsettled short appended = (unsettled_line, (inr (inr (λ ends. short (room (choices order.decisions) ends), refl)), appended))
 
   pub told_vertex : (limits : Limits) (vertex : ℕ) (before between after : List ℕ) → Appends (TellsVerdict page limits Hopeful vertex order.decisions order.hopeful) before between →
       Appends (TellsVerdict page limits Dual vertex order.decisions order.dual) between after → Appends (TellsVertex page limits vertex order.decisions order.hopeful order.dual) before after
@@ -249,11 +249,11 @@ unless_product order aim found e set is same so =
 pub because_settled : (found : WhyLost) (e : Explanation) (Settles : Type 0) → found ≡ whys.Because e → (Settles → IsWhyLostExact found) → Settles → IsTrue e.exact
 because_settled found e Settles is settled = subst (λ (f : WhyLost). Settles → IsWhyLostExact f) is settled
 
-pub unless_settled : (found : WhyLost) (e : Example) (Settles : Type 0) → found ≡ whys.Unless e → (Settles → IsWhyLostExact found) → Settles → IsTrue e.first
-unless_settled found e Settles is settled = subst (λ (f : WhyLost). Settles → IsWhyLostExact f) is settled
+pub unless_settled : (found : WhyLost) (e : Example) (Settles : Type 0) → found ≡ whys.Unless e → (Settles → IsWhyLostShown found) → Settles → IsTrue e.first
+unless_settled found e Settles is settled = subst (λ (f : WhyLost). Settles → IsWhyLostShown f) is settled
 
-pub lost_short : (found : WhyLost) (Settles : Type 0) → found ≡ whys.Unsettled → (Settles → IsWhyLostExact found) → Settles → ⊥
-lost_short found Settles is settled = subst (λ (f : WhyLost). Settles → IsWhyLostExact f) is settled
+pub lost_short : (found : WhyLost) (Settles : Type 0) → found ≡ whys.Unsettled → (Settles → IsWhyLostShown found) → Settles → ⊥
+lost_short found Settles is settled = subst (λ (f : WhyLost). Settles → IsWhyLostShown f) is settled
 
 pub first_settled : (found : Found) (e : Example) (Settles : Type 0) → found ≡ founds.Product e → (Settles → IsFoundExact found) → Settles → IsTrue e.first
 first_settled found e Settles is settled = subst (λ (f : Found). Settles → IsFoundExact f) is settled

@@ -34,7 +34,7 @@ use Rattle.vpg_answers.specs.Texts.{verdict_line, other_line, lost_head, lost_li
 use Rattle.vpg_answers.specs.Offers.{AreOffers}
 use Rattle.vpg_answers.specs.Parts.{TellsPart}
 use Rattle.vpg_answers.specs.Repairs.{AreSingles}
-use Rattle.vpg_answers.specs.Room.{RoundsSettle, SearchEnds}
+use Rattle.vpg_answers.specs.Room.{EachSearchEnds, RoundsSettleEach, SearchEnds}
 
 -- these choices alone are the question's reason, in the scene's game and diagram
 abbrev pub MakeSo : Scene → Question → List Literal → Type 0
@@ -50,14 +50,14 @@ IsReason scene question decisions listed exact = Explains (MakeSo scene question
 abbrev pub identifier_of : Scene → ℕ → ℕ
 identifier_of scene vertex = slice_index scene.identifiers vertex
 
--- The page's table has the top at the vertex, and these decisions are the reason, exactly if the limits leave room; or
--- it hasn't.
+-- The page's table has the top at the vertex, and these decisions are the reason, exactly if the limits leave room for
+-- each list of decisions; or it hasn't.
 abbrev pub TellsVerdict : Scene → Limits → Which → (vertex : ℕ) → List Decision → (table text : List ℕ) → Type 0
 TellsVerdict scene limits which vertex decisions table text =
     ((slice_index table vertex ≡ top_for which scene.game)
     × ((listed : List Decision) × (exact : Bool) × IsReason scene (asks.Verdict which vertex) decisions listed exact ×
     (text ≡ verdict_line scene.names which (identifier_of scene vertex) listed exact)
-    × (RoundsSettle scene limits.rounds which → IsTrue exact)))
+    × (RoundsSettleEach scene limits.rounds which (choices decisions) → IsTrue exact)))
     ⊎ (¬ (slice_index table vertex ≡ top_for which scene.game) × (text ≡ other_line which (identifier_of scene vertex)))
 
 -- the text of both verdicts of a vertex
@@ -103,29 +103,29 @@ TellsProduct scene limits aim decisions text =
     (set : List Bool) × (first : Bool) × IsRemaining scene.lines (choices decisions) set × MeetsIn scene.game aim set
     × (IsTrue first → IsFirstIn scene.game scene.lines aim (choices decisions) set) ×
     (text ≡ product_line scene.names set first)
-    × (SearchEnds scene limits aim → IsTrue first)
+    × (SearchEnds scene limits aim (choices decisions) → IsTrue first)
 
 -- there is such a product; or there is none; or the limits leave no room
 abbrev pub TellsExample : Scene → Limits → Aim → List Decision → (text : List ℕ) → Type 0
 TellsExample scene limits aim decisions text =
     TellsProduct scene limits aim decisions text
     ⊎ (NoneMeetsIn scene.game scene.lines aim (choices decisions) × (text ≡ none_line))
-    ⊎ (¬ (SearchEnds scene limits aim) × (text ≡ unsettled_line))
+    ⊎ (¬ (SearchEnds scene limits aim (choices decisions)) × (text ≡ unsettled_line))
 
 -- the head of the line if no product left meets the aim: there is none at all, or the vertex is lost, or won
 abbrev pub lost_for : Scene → Aim → List ℕ
 lost_for scene aims.Any = codes "empty"
 lost_for scene (aims.Won which vertex) = lost_head which (identifier_of scene vertex)
 
--- These decisions of the page alone leave no such product, exactly if the limits leave room; or there is one; or the
--- limits leave no room.
+-- These decisions of the page alone leave no such product, exactly if the limits leave room for each list of them; or
+-- there is one; or the limits leave no room.
 abbrev pub TellsLost : Scene → Limits → Aim → List Decision → (text : List ℕ) → Type 0
 TellsLost scene limits aim decisions text =
     ((listed : List Decision) × (exact : Bool) × IsReason scene (asks.Lost aim) decisions listed exact ×
     (text ≡ lost_line (lost_for scene aim) scene.names listed exact)
-    × (SearchEnds scene limits aim → IsTrue exact))
+    × (EachSearchEnds scene limits aim (choices decisions) → IsTrue exact))
     ⊎ TellsProduct scene limits aim decisions text
-    ⊎ (¬ (SearchEnds scene limits aim) × (text ≡ unsettled_line))
+    ⊎ (¬ (SearchEnds scene limits aim (choices decisions)) × (text ≡ unsettled_line))
 
 -- ---- offers
 
@@ -149,9 +149,9 @@ TellsForced scene limits aim decisions text =
     ((listed : List Literal) × (exact : Bool) × (set : List Bool) × IsRemaining scene.lines (choices decisions) set ×
     MeetsIn scene.game aim set × AreNeedsIn scene.game scene.lines aim (choices decisions) listed exact ×
     (text ≡ forced_text (forced_word aim) scene.names listed exact)
-    × (SearchEnds scene limits aim → IsTrue exact))
+    × (SearchEnds scene limits aim (choices decisions) → IsTrue exact))
     ⊎ (NoneMeetsIn scene.game scene.lines aim (choices decisions) × (text ≡ none_line))
-    ⊎ (¬ (SearchEnds scene limits aim) × (text ≡ unsettled_line))
+    ⊎ (¬ (SearchEnds scene limits aim (choices decisions)) × (text ≡ unsettled_line))
 
 -- ---- what to retract
 
@@ -164,7 +164,7 @@ abbrev pub TellsSingles : Scene → Limits → (vertex : ℕ) → List Decision 
 TellsSingles scene limits vertex decisions text =
     (listed : List Decision) × (exact : Bool) × (listed ≢ []) ×
     AreSingles (IsHopelessBy scene vertex) exact [] decisions listed × (text ≡ singles_text scene.names listed exact)
-    × (RoundsSettle scene limits.rounds Hopeful → IsTrue exact)
+    × (RoundsSettleEach scene limits.rounds Hopeful (choices decisions) → IsTrue exact)
 
 -- none can, if that is shown, and several together can, so that the oldest are kept
 abbrev pub TellsSeveral : Scene → Limits → (vertex : ℕ) → List Decision → (text : List ℕ) → Type 0
@@ -172,14 +172,14 @@ TellsSeveral scene limits vertex decisions text =
     (kept : List Decision) × (given : List Decision) × (exact : Bool) ×
     AreSingles (IsHopelessBy scene vertex) exact [] decisions [] ×
     IsRepair (IsHopelessBy scene vertex) decisions kept given exact × (text ≡ several_text scene.names given exact)
-    × (RoundsSettle scene limits.rounds Hopeful → IsTrue exact)
+    × (RoundsSettleEach scene limits.rounds Hopeful (choices decisions) → IsTrue exact)
 
 -- some or several can; or the vertex is hopeless whatever is retracted; or the limits leave no room
 abbrev pub TellsRetractions : Scene → Limits → (vertex : ℕ) → List Decision → (text : List ℕ) → Type 0
 TellsRetractions scene limits vertex decisions text =
     TellsSingles scene limits vertex decisions text ⊎ TellsSeveral scene limits vertex decisions text
     ⊎ (IsHopelessBy scene vertex [] × (text ≡ none_line))
-    ⊎ (¬ (RoundsSettle scene limits.rounds Hopeful) × (text ≡ unsettled_line))
+    ⊎ (¬ (RoundsSettleEach scene limits.rounds Hopeful (choices decisions)) × (text ≡ unsettled_line))
 
 -- the page's table has the top at the vertex, and these decisions can be retracted; or it hasn't
 abbrev pub TellsRepair : Scene → Limits → (vertex : ℕ) → List Decision → (hopeful text : List ℕ) → Type 0

@@ -26,7 +26,7 @@ pub record IsVerdictShown (scene : Scene) (limits : Limits) (vertex : ℕ) (choi
     (answer : Shown) : Type 0 where
   pub yes : answer ≡ shown.Yes → SufficeIn scene.game scene.lines (asks.Verdict which vertex) choices
   pub no : answer ≡ shown.No → SufficeIn scene.game scene.lines (asks.Verdict which vertex) choices → ⊥
-  pub settled : RoundsSettle scene limits.rounds which → answer ≢ shown.Unsettled
+  pub settled : RoundsSettle scene limits.rounds which choices → answer ≢ shown.Unsettled
 
 -- the choices contradict one another, or give these verdicts
 abbrev pub IsOfferOf : Scene → Limits → (vertex : ℕ) → List Literal → Offer → Type 0

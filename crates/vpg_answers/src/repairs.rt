@@ -3,7 +3,7 @@ ghost use Rattle.std.specs.Prelude.{◌≡◌, ◌↔◌, ◌<◌, ◌+◌, ◌+
 ghost use Rattle.vpg_answers.specs.Answers.{Appends, IsHopelessBy, TellsRepair, TellsRetractions};
 ghost use Rattle.vpg_answers.specs.Offers.{IsVerdictShown};
 ghost use Rattle.vpg_answers.specs.Repairs.{AreSingles};
-ghost use Rattle.vpg_answers.specs.Room.{RoundsSettle};
+ghost use Rattle.vpg_answers.specs.Room.{RoundsSettleEach};
 ghost use Rattle.vpg_answers.specs.Texts.{choice_line, several_text, singles_text};
 ghost use Rattle.vpg_game.specs.Game.{graph_of};
 ghost use Rattle.vpg_measure.specs.TwoGames.{top_for};
@@ -60,7 +60,8 @@ fn singles(alloc: Global, order: &Order, vertex: u32, limits: Limits) -> Result<
         (IsHopelessBy (scene_of order.now.game order.now.diagram) vertex) found.exact [] order.now.decisions
         found.listed.items) }
     ensures settled { IfOk result (λ found.
-        RoundsSettle (scene_of order.now.game order.now.diagram) limits.rounds Which.Hopeful → IsTrue found.exact) }
+        RoundsSettleEach (scene_of order.now.game order.now.diagram) limits.rounds Which.Hopeful
+        (choices order.now.decisions) → IsTrue found.exact) }
 {
     let decisions = order.decisions();
     let mut listed = Vec::new(alloc);
@@ -125,8 +126,8 @@ fn several(
     requires vertex { vertex < length order.now.game.vertices }
     requires none { AreSingles (IsHopelessBy (scene_of order.now.game order.now.diagram) vertex) is_none_single []
         order.now.decisions [] }
-    requires settled { RoundsSettle (scene_of order.now.game order.now.diagram) limits.rounds Which.Hopeful →
-        IsTrue is_none_single }
+    requires settled { RoundsSettleEach (scene_of order.now.game order.now.diagram) limits.rounds Which.Hopeful
+        (choices order.now.decisions) → IsTrue is_none_single }
     ensures { OnOk result (Appends
         (TellsRetractions (scene_of order.now.game order.now.diagram) limits vertex order.now.decisions)
         out.old.items out.new.items) }

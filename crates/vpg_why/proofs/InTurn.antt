@@ -1,5 +1,5 @@
 -- What is needed in turn and suffices is one list.
-use Rattle.std.proofs.Common.{◌≡◌, ℕ, zero, suc, ◌<◌, ◌≤◌, ◌⊎◌, inl, inr, List, [], ◌∷◌, ◌++◌, length, take, drop, get_or, Contains, refl, sym, ap, ◌∙◌, subst, append-nil, append_assoc, arith}
+use Rattle.std.proofs.Common.{◌≡◌, ℕ, zero, suc, ◌<◌, ◌≤◌, ◌⊎◌, inl, inr, Bool, true, IsTrue, List, [], ◌∷◌, ◌++◌, length, take, drop, get_or, Contains, refl, sym, ap, ◌∙◌, subst, append-nil, append_assoc, arith}
 use Rattle.std.specs.List.{AllByRecursion}
 use Rattle.std.proofs.Math.Seq.{take-suc, drop-cons, drop-length}
 use Rattle.std.proofs.lemmas.List.{map-append, take-append-drop}
@@ -32,15 +32,15 @@ module _ (Suffices : List Literal → Type 0) where
 
     -- the same list, whatever other one there is
     abbrev IsOne : (before rest one : List Decision) → Type 0
-    IsOne before rest one = (other : List Decision) → AreNeededInTurn Suffices before rest other → AllByRecursion P (choices other) → Suffices (choices (before ++ one)) → Suffices (choices (before ++ other)) → one ≡ other
+    IsOne before rest one = (other : List Decision) → AreNeededInTurn Suffices true before rest other → AllByRecursion P (choices other) → Suffices (choices (before ++ one)) → Suffices (choices (before ++ other)) → one ≡ other
 
-    one_after_skip : (before rest one : List Decision) (d : Decision) → AllByRecursion P (choices before) → AllByRecursion P (choices one) → IsOne (before ++ d ∷ []) rest one → {other : List Decision} → AreNeededInTurn Suffices before (d ∷ rest) other → AllByRecursion P (choices other) →
+    one_after_skip : (before rest one : List Decision) (d : Decision) → AllByRecursion P (choices before) → AllByRecursion P (choices one) → IsOne (before ++ d ∷ []) rest one → {other : List Decision} → AreNeededInTurn Suffices true before (d ∷ rest) other → AllByRecursion P (choices other) →
         Suffices (choices (before ++ one)) → Suffices (choices (before ++ other)) → one ≡ other
     one_after_skip before rest one d nb named same (skipped {listed = other} b) nt h k = same other b nt (wide before one d nb named h) (wide before other d nb nt k)
     one_after_skip before rest one d nb named same (taken {listed = other} short b) nt h k =
-        absurd (short (subst (λ (ds : List Decision). Suffices (choices (before ++ ds))) (same other b nt.1 (wide before one d nb named h) (moved before other d k)) h))
+        absurd (short refl (subst (λ (ds : List Decision). Suffices (choices (before ++ ds))) (same other b nt.1 (wide before one d nb named h) (moved before other d k)) h))
 
-    one_after_taking : (before rest one : List Decision) (d : Decision) → AllByRecursion P (choices before) → (Suffices (choices (before ++ one)) → ⊥) → IsOne (before ++ d ∷ []) rest one → {other : List Decision} → AreNeededInTurn Suffices before (d ∷ rest) other → AllByRecursion P (choices other) →
+    one_after_taking : (before rest one : List Decision) (d : Decision) → AllByRecursion P (choices before) → (Suffices (choices (before ++ one)) → ⊥) → IsOne (before ++ d ∷ []) rest one → {other : List Decision} → AreNeededInTurn Suffices true before (d ∷ rest) other → AllByRecursion P (choices other) →
         Suffices (choices (before ++ d ∷ one)) → Suffices (choices (before ++ other)) → d ∷ one ≡ other
     one_after_taking before rest one d nb lacks same (skipped {listed = other} b) nt h k =
         absurd (lacks (subst (λ (ds : List Decision). Suffices (choices (before ++ ds))) (sym (same other b nt (moved before one d h) (wide before other d nb nt k))) k))
@@ -49,37 +49,44 @@ module _ (Suffices : List Literal → Type 0) where
     further : (before : List Decision) (d : Decision) → AllByRecursion P (choices before) → P (literal_of d) → AllByRecursion P (choices (before ++ d ∷ []))
     further before d nb n = rw (map-append literal_of before (d ∷ [])) (All-append P (choices before) (literal_of d ∷ []) nb (n, tt))
 
-    pub one_list : {before rest one : List Decision} → AreNeededInTurn Suffices before rest one → AllByRecursion P (choices before) → AllByRecursion P (choices rest) → AllByRecursion P (choices one) → IsOne before rest one
+    pub one_list : {before rest one : List Decision} → AreNeededInTurn Suffices true before rest one → AllByRecursion P (choices before) → AllByRecursion P (choices rest) → AllByRecursion P (choices one) → IsOne before rest one
     one_list (done {before}) nb nr named other b nt h k = none b
       where
-        none : {other : List Decision} → AreNeededInTurn Suffices before [] other → [] ≡ other
+        none : {other : List Decision} → AreNeededInTurn Suffices true before [] other → [] ≡ other
         none done = refl
     one_list (skipped {d} {before} {rest} {listed} a) nb nr named other b nt h k = one_after_skip before rest listed d nb named (one_list a (further before d nb nr.0) nr.1 named) b nt h k
-    one_list (taken {d} {before} {rest} {listed} short a) nb nr named other b nt h k = one_after_taking before rest listed d nb short (one_list a (further before d nb nr.0) nr.1 named.1) b nt h k
+    one_list (taken {d} {before} {rest} {listed} short a) nb nr named other b nt h k = one_after_taking before rest listed d nb (short refl) (one_list a (further before d nb nr.0) nr.1 named.1) b nt h k
 
+-- where less is shown
+pub weaker : (Suffices : List Literal → Type 0) (exact final : Bool) → (IsTrue final → IsTrue exact) → {before rest listed : List Decision} → AreNeededInTurn Suffices exact before rest listed → AreNeededInTurn Suffices final before rest listed
+weaker Suffices exact final i done = done
+weaker Suffices exact final i (skipped a) = skipped (weaker Suffices exact final i a)
+weaker Suffices exact final i (taken short a) = taken (λ t. short (i t)) (weaker Suffices exact final i a)
+
+module _ (Suffices : List Literal → Type 0) (exact : Bool) where
   -- those that stand in a front are skipped
-  skip_front : (before front rest listed : List Decision) → AreNeededInTurn Suffices (before ++ front) rest listed → AreNeededInTurn Suffices before (front ++ rest) listed
-  skip_front before [] rest listed h = subst (λ (ds : List Decision). AreNeededInTurn Suffices ds rest listed) (append-nil before) h
-  skip_front before (d ∷ front) rest listed h = skipped (skip_front (before ++ d ∷ []) front rest listed (subst (λ (ds : List Decision). AreNeededInTurn Suffices ds rest listed) (sym (append_assoc before (d ∷ []) front)) h))
+  skip_front : (before front rest listed : List Decision) → AreNeededInTurn Suffices exact (before ++ front) rest listed → AreNeededInTurn Suffices exact before (front ++ rest) listed
+  skip_front before [] rest listed h = subst (λ (ds : List Decision). AreNeededInTurn Suffices exact ds rest listed) (append-nil before) h
+  skip_front before (d ∷ front) rest listed h = skipped (skip_front (before ++ d ∷ []) front rest listed (subst (λ (ds : List Decision). AreNeededInTurn Suffices exact ds rest listed) (sym (append_assoc before (d ∷ []) front)) h))
 
-  skip_back : (before ds listed : List Decision) (place most : ℕ) → place ≤ most → AreNeededInTurn Suffices (before ++ take most ds) (drop most ds) listed → AreNeededInTurn Suffices (before ++ take place ds) (drop place ds) listed
-  skip_back before ds listed zero most le h = subst (λ (bs : List Decision). AreNeededInTurn Suffices bs ds listed) (sym (append-nil before))
-      (subst (λ (rs : List Decision). AreNeededInTurn Suffices before rs listed) (take-append-drop most ds) (skip_front before (take most ds) (drop most ds) listed h))
+  skip_back : (before ds listed : List Decision) (place most : ℕ) → place ≤ most → AreNeededInTurn Suffices exact (before ++ take most ds) (drop most ds) listed → AreNeededInTurn Suffices exact (before ++ take place ds) (drop place ds) listed
+  skip_back before ds listed zero most le h = subst (λ (bs : List Decision). AreNeededInTurn Suffices exact bs ds listed) (sym (append-nil before))
+      (subst (λ (rs : List Decision). AreNeededInTurn Suffices exact before rs listed) (take-append-drop most ds) (skip_front before (take most ds) (drop most ds) listed h))
   skip_back before [] listed (suc place) zero le h = absurd (omega (arith, le))
   skip_back before [] listed (suc place) (suc most) le h = h
   skip_back before (d ∷ ds) listed (suc place) zero le h = absurd (omega (arith, le))
-  skip_back before (d ∷ ds) listed (suc place) (suc most) le h = subst (λ (bs : List Decision). AreNeededInTurn Suffices bs (drop place ds) listed) (append_assoc before (d ∷ []) (take place ds))
-      (skip_back (before ++ d ∷ []) ds listed place most (omega (arith, le)) (subst (λ (bs : List Decision). AreNeededInTurn Suffices bs (drop most ds) listed) (sym (append_assoc before (d ∷ []) (take most ds))) h))
+  skip_back before (d ∷ ds) listed (suc place) (suc most) le h = subst (λ (bs : List Decision). AreNeededInTurn Suffices exact bs (drop place ds) listed) (append_assoc before (d ∷ []) (take place ds))
+      (skip_back (before ++ d ∷ []) ds listed place most (omega (arith, le)) (subst (λ (bs : List Decision). AreNeededInTurn Suffices exact bs (drop most ds) listed) (sym (append_assoc before (d ∷ []) (take most ds))) h))
 
-  pub shorter : (ds listed : List Decision) (place most : ℕ) → place ≤ most → AreNeededInTurn Suffices (take most ds) (drop most ds) listed → AreNeededInTurn Suffices (take place ds) (drop place ds) listed
+  pub shorter : (ds listed : List Decision) (place most : ℕ) → place ≤ most → AreNeededInTurn Suffices exact (take most ds) (drop most ds) listed → AreNeededInTurn Suffices exact (take place ds) (drop place ds) listed
   shorter ds listed place most le h = skip_back [] ds listed place most le h
 
   -- one more is listed
-  pub one_more : (ds listed : List Decision) (place most : ℕ) (x : Decision) → place < most → place < length ds → (Suffices (choices (take place ds ++ listed)) → ⊥) → AreNeededInTurn Suffices (take most ds) (drop most ds) listed →
-      AreNeededInTurn Suffices (take place ds) (drop place ds) (get_or ds place x ∷ listed)
-  one_more ds listed place most x less inside lacks h = subst (λ (rs : List Decision). AreNeededInTurn Suffices (take place ds) rs (get_or ds place x ∷ listed)) (sym (drop-cons ds place x inside))
-      (taken lacks (subst (λ (bs : List Decision). AreNeededInTurn Suffices bs (drop (suc place) ds) listed) (take-suc ds place x inside) (shorter ds listed (suc place) most (omega (arith, less)) h)))
+  pub one_more : (ds listed : List Decision) (place most : ℕ) (x : Decision) → place < most → place < length ds → (IsTrue exact → Suffices (choices (take place ds ++ listed)) → ⊥) → AreNeededInTurn Suffices exact (take most ds) (drop most ds) listed →
+      AreNeededInTurn Suffices exact (take place ds) (drop place ds) (get_or ds place x ∷ listed)
+  one_more ds listed place most x less inside lacks h = subst (λ (rs : List Decision). AreNeededInTurn Suffices exact (take place ds) rs (get_or ds place x ∷ listed)) (sym (drop-cons ds place x inside))
+      (taken lacks (subst (λ (bs : List Decision). AreNeededInTurn Suffices exact bs (drop (suc place) ds) listed) (take-suc ds place x inside) (shorter ds listed (suc place) most (omega (arith, less)) h)))
 
   -- nothing is listed yet
-  pub none_yet : (ds : List Decision) → AreNeededInTurn Suffices (take (length ds) ds) (drop (length ds) ds) []
-  none_yet ds = subst (λ (rs : List Decision). AreNeededInTurn Suffices (take (length ds) ds) rs []) (sym (drop-length ds)) done
+  pub none_yet : (ds : List Decision) → AreNeededInTurn Suffices exact (take (length ds) ds) (drop (length ds) ds) []
+  none_yet ds = subst (λ (rs : List Decision). AreNeededInTurn Suffices exact (take (length ds) ds) rs []) (sym (drop-length ds)) done

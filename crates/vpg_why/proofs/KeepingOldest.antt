@@ -6,9 +6,9 @@ use Rattle.std.proofs.Math.ListN.{drop_of_length-le}
 use Rattle.std.proofs.lemmas.List.{map-append, length-map}
 use Rattle.std.proofs.lemmas.List.Elements.{Contains-get_or}
 use Rattle.vpg_diagram.specs.FeatureDiagram.{Line, feature_count}
-use Rattle.vpg_partial.specs.TableLaws.{AreChoicesOf}
+use Rattle.vpg_partial.specs.TableLaws.{AreAmong, AreChoicesOf}
 use Rattle.vpg_diagram.specs.declared.clause.Literal.{Literal}
-use Rattle.vpg_diagram.proofs.Lists.{All-append, All-contained}
+use Rattle.vpg_diagram.proofs.Lists.{All-append, All-contained, All-from_contained}
 use Rattle.vpg_partial.specs.Known.{literal_of}
 use Rattle.vpg_partial.specs.declared.decision.Decision.{Decision}
 use Rattle.vpg_why.specs.Explained.{choices}
@@ -30,6 +30,26 @@ one_named lines decisions i x named inside = All-contained (λ c. c.feature < fe
 pub more_named : (lines : List Line) (decisions kept : List Decision) (i : ℕ) (x : Decision) → AreChoicesOf lines (choices decisions) → i < length decisions → AreChoicesOf lines (choices kept) → AreChoicesOf lines (choices (kept ++ get_or decisions i x ∷ []))
 more_named lines decisions kept i x named inside before = rw (map-append literal_of kept (get_or decisions i x ∷ []))
     (All-append (λ c. c.feature < feature_count lines) (choices kept) (literal_of (get_or decisions i x) ∷ []) before (one_named lines decisions i x named inside, tt))
+
+-- one of the decisions' choices, named in the diagram
+abbrev pub IsOwn : List Line → List Decision → Literal → Type 0
+IsOwn lines decisions c = (c.feature < feature_count lines) × Contains (choices decisions) c
+
+pub own_named : (lines : List Line) (decisions : List Decision) (few : List Literal) → AllByRecursion (IsOwn lines decisions) few → AreChoicesOf lines few
+own_named lines decisions few all = All-from_contained (λ c. c.feature < feature_count lines) few (λ c within. (All-contained (IsOwn lines decisions) few c all within).0)
+
+pub one_own : (lines : List Line) (decisions : List Decision) (i : ℕ) (x : Decision) → AreChoicesOf lines (choices decisions) → i < length decisions → IsOwn lines decisions (literal_of (get_or decisions i x))
+one_own lines decisions i x named inside = (
+  one_named lines decisions i x named inside,
+  subst (λ (c : Literal). Contains (choices decisions) c) (choice_at decisions i x (literal_of (get_or decisions i x)) inside)
+      (Contains-get_or (choices decisions) i (literal_of (get_or decisions i x)) (subst (λ (n : ℕ). i < n) (sym (length-map decisions literal_of)) inside)),
+)
+
+-- those kept and one more are among all
+pub more_among : (lines : List Line) (decisions kept : List Decision) (i : ℕ) (x : Decision) → AreChoicesOf lines (choices decisions) → i < length decisions → AllByRecursion (IsOwn lines decisions) (choices kept) →
+    AreAmong (choices (kept ++ get_or decisions i x ∷ [])) (choices decisions)
+more_among lines decisions kept i x named inside own c within = (All-contained (IsOwn lines decisions) (choices (kept ++ get_or decisions i x ∷ [])) c
+    (rw (map-append literal_of kept (get_or decisions i x ∷ [])) (All-append (IsOwn lines decisions) (choices kept) (literal_of (get_or decisions i x) ∷ []) own (one_own lines decisions i x named inside, tt))) within).1
 
 module _ (Suffices : List Literal → Type 0) (P : Literal → Type 0) (decisions : List Decision) where
   pub going_begun : (kept given : List Decision) → kept ≡ [] → given ≡ [] → (Suffices [] → ⊥) → IsGoing Suffices P decisions kept given 0 true

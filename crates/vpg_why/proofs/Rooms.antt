@@ -1,22 +1,30 @@
 -- What a search has room for.
-use Rattle.std.proofs.Common.{◌≡◌, ℕ, zero, suc, ◌+◌, ◌-◌, ◌<◌, ◌≤◌, ◌⊎◌, inl, inr, Bool, true, false, List, [], ◌∷◌, ◌++◌, slice_index_or, IsTrue, refl, subst, arith}
-use Rattle.std.proofs.lemmas.Bool.{cases_lt, cases_order}
+use Rattle.std.proofs.Common.{◌≡◌, ℕ, zero, suc, ◌+◌, ◌-◌, ◌<◌, ◌≤◌, ◌⊎◌, inl, inr, Bool, true, false, cond, List, [], ◌∷◌, ◌++◌, count_by, length, slice_index_or, IsTrue, refl, sym, ◌∙◌, ap, subst, add-one, append-nil, append_assoc, arith}
+use Rattle.std.proofs.lemmas.Bool.{cases_lt}
 use Rattle.std.proofs.lemmas.List.Elements.{Contains-append_left}
+use Rattle.std.proofs.lemmas.List.Sums.{count_by-le-length, sum_by-cons}
 use Rattle.vpg_guards.specs.declared.tri.Tri.{Tri}
 use Rattle.vpg_guards.specs.declared.tri.Tri.TheVariants.{No, Unknown, Yes}
-use Rattle.vpg_diagram.specs.DiagramText.{NamedDiagram}
+use Rattle.vpg_guards.specs.Known.{IsFiner, IsFinerValue}
+use Rattle.vpg_diagram.specs.DiagramText.{NamedDiagram, IsNamedDiagram}
+use Rattle.vpg_diagram.specs.FeatureDiagram.{Line, IsDiagram, feature_count}
 use Rattle.vpg_diagram.specs.Clauses.{clauses_of, counts_of}
 use Rattle.vpg_diagram.specs.declared.clause.Literal.{Literal}
 use Rattle.vpg_diagram.proofs.Lists.{All-back}
+use Rattle.vpg_game.specs.Game.{NamedGame}
 use Rattle.vpg_partial.specs.Known.{IsKnown}
 use Rattle.vpg_partial.specs.KnownTable.{is_known_as}
-use Rattle.vpg_partial.specs.TableLaws.{AreAmong}
+use Rattle.vpg_partial.specs.TableLaws.{AreAmong, AreChoicesOf, IsKnownTable}
+use Rattle.vpg_partial.proofs.Tables.{tables_refine}
+use Rattle.vpg_why.specs.declared.question.Aim.{Aim}
+use Rattle.vpg_why.specs.declared.question.Limits.{Limits}
+use Rattle.vpg_why.specs.declared.question.Question.TheVariants as asks
 use Rattle.vpg_why.specs.declared.searching.Example.{Example}
 use Rattle.vpg_why.specs.declared.searching.Found.{Found}
 use Rattle.vpg_why.specs.declared.searching.Found.TheVariants as founds
-use Rattle.vpg_why.specs.Found.{AreKnownBelow, IsOpen, HasRoom, IsFoundExact}
-use Rattle.vpg_why.specs.Suffices.{choice, most_trials}
-use Rattle.vpg_why.proofs.Monotone.{known_stays}
+use Rattle.vpg_why.specs.Found.{IsOpen, HasRoom, IsFoundExact}
+use Rattle.vpg_why.specs.Suffices.{choice, is_open, most_trials, AreOpenUpTo, HasTrials, AimSettles, AimSettlesUnder, IsSettled}
+use Rattle.vpg_why.proofs.Monotone.{earlier}
 
 clash : false ≡ true → ⊥
 clash e = cc
@@ -25,13 +33,77 @@ pub one_less : (n : ℕ) → (n ≡ 0 → ⊥) → n ≡ suc (n - 1)
 one_less zero h = absurd (h refl)
 one_less (suc n) h = omega arith
 
-value_of : (t : Tri) → (t ≡ Unknown → ⊥) → (value : Bool) × IsTrue (is_known_as t value)
-value_of No h = (false, refl)
-value_of Unknown h = absurd (h refl)
-value_of Yes h = (true, refl)
+trials_step : (n : ℕ) → most_trials (n + 1) ≡ suc (most_trials n + most_trials n)
+trials_step n = ap most_trials (add-one n)
+
+pub trials_grow : (n m : ℕ) → n ≤ m → most_trials n ≤ most_trials m
+trials_grow zero m le = omega arith
+trials_grow (suc n) zero le = absurd (omega (arith, le))
+trials_grow (suc n) (suc m) le = let h = trials_grow n m (omega (arith, le)) in omega (arith, h)
+
+-- ---- open features
+
+-- what is known more finely has fewer open features, in order
+fewer_of : (t u : Tri) → IsFinerValue t u → cond (is_open u) 1 0 ≤ cond (is_open t) 1 0
+fewer_of No u h = rw h (omega arith)
+fewer_of Unknown No h = omega arith
+fewer_of Unknown Unknown h = omega arith
+fewer_of Unknown Yes h = omega arith
+fewer_of Yes u h = rw h (omega arith)
+
+count_step : (t : Tri) (ts : List Tri) → count_by is_open (t ∷ ts) ≡ cond (is_open t) 1 0 + count_by is_open ts
+count_step t ts = sum_by-cons (λ y. cond (is_open y) 1 0) t ts
+
+pub fewer_open : (known more : List Tri) → length known ≡ length more → IsFiner known more → count_by is_open more ≤ count_by is_open known
+fewer_open [] [] e h = omega arith
+fewer_open [] (u ∷ us) e h = absurd (omega (arith, e))
+fewer_open (t ∷ ts) [] e h = absurd (omega (arith, e))
+fewer_open (t ∷ ts) (u ∷ us) e h =
+    omega (arith, count_step t ts, count_step u us, fewer_of t u (h 0), fewer_open ts us (omega (arith, e)) (λ f. h (suc f)))
+
+open_to_known : (t u : Tri) → t ≡ Unknown → (u ≡ Unknown → ⊥) → suc (cond (is_open u) 1 0) ≤ cond (is_open t) 1 0
+open_to_known No u e h = cc e
+open_to_known Unknown No e h = omega arith
+open_to_known Unknown Unknown e h = absurd (h refl)
+open_to_known Unknown Yes e h = omega arith
+open_to_known Yes u e h = cc e
+
+-- and fewer still if an open one is known there
+pub one_fewer : (known more : List Tri) (g : ℕ) → length known ≡ length more → IsFiner known more → g < length known →
+    slice_index_or known g Unknown ≡ Unknown → (slice_index_or more g Unknown ≡ Unknown → ⊥) →
+    suc (count_by is_open more) ≤ count_by is_open known
+one_fewer [] more g e h less was is = absurd (omega (arith, less))
+one_fewer (t ∷ ts) [] g e h less was is = absurd (omega (arith, e))
+one_fewer (t ∷ ts) (u ∷ us) zero e h less was is =
+    omega (arith, count_step t ts, count_step u us, open_to_known t u was is, fewer_open ts us (omega (arith, e)) (λ f. h (suc f)))
+one_fewer (t ∷ ts) (u ∷ us) (suc g) e h less was is =
+    omega (arith, count_step t ts, count_step u us, fewer_of t u (h 0), one_fewer ts us g (omega (arith, e)) (λ f. h (suc f)) (omega (arith, less)) was is)
+
+some_open : (known : List Tri) (g : ℕ) → g < length known → slice_index_or known g Unknown ≡ Unknown → 1 ≤ count_by is_open known
+some_open [] g less is = absurd (omega (arith, less))
+some_open (t ∷ ts) zero less is = omega (arith, count_step t ts, of t is)
+  where
+    of : (t : Tri) → t ≡ Unknown → 1 ≤ cond (is_open t) 1 0
+    of No e = cc e
+    of Unknown e = omega arith
+    of Yes e = cc e
+some_open (t ∷ ts) (suc g) less is = omega (arith, count_step t ts, some_open ts g (omega (arith, less)) is)
 
 not_unknown : (t : Tri) (value : Bool) → IsTrue (is_known_as t value) → t ≡ Unknown → ⊥
 not_unknown t value h e = clash (subst (λ (u : Tri). IsTrue (is_known_as u value)) e h)
+
+-- not more than all are open
+pub open_up_to_all : (lines : List Line) (choices : List Literal) → AreOpenUpTo (feature_count lines) lines choices
+open_up_to_all lines choices known t = subst (λ n. count_by is_open known ≤ n) t.length_is (count_by-le-length is_open known)
+
+-- more choices leave no more open
+pub open_stays : (lines : List Line) (few many : List Literal) (most : ℕ) → IsDiagram lines → AreChoicesOf lines few → AreAmong few many →
+    AreOpenUpTo most lines few → AreOpenUpTo most lines many
+open_stays lines few many most is named among up more u = of (earlier lines few many is named among more u)
+  where
+    of : (known : List Tri) × IsKnownTable lines few known → count_by is_open more ≤ most
+    of k = let a = up k.0 k.1 in
+        let b = fewer_open k.0 more (k.1.length_is ∙ sym u.length_is) (tables_refine lines few many k.0 more among k.1 u) in omega (arith, a, b)
 
 module _ (diagram : NamedDiagram) (choices : List Literal) (f : ℕ) (value : Bool) (is : IsOpen diagram choices f) where
   among : AreAmong choices (choices ++ choice f value ∷ [])
@@ -40,44 +112,76 @@ module _ (diagram : NamedDiagram) (choices : List Literal) (f : ℕ) (value : Bo
   own : IsKnown (clauses_of diagram.lines) (counts_of diagram.lines) (choices ++ choice f value ∷ []) (choice f value)
   own set closed held = (All-back (λ d. IsTrue (set d)) choices (choice f value ∷ []) held).0
 
-  known_below_more : AreKnownBelow diagram (choices ++ choice f value ∷ []) (suc f)
-  known_below_more more u g less e = of (cases_order g f)
-    where
-      before : g < f → (v : Bool) × IsTrue (is_known_as (slice_index_or is.known g Unknown) v) → ⊥
-      before k v = not_unknown (slice_index_or more g Unknown) v.0 (known_stays diagram.lines choices (choices ++ choice f value ∷ []) is.known more (choice g v.0) among is.is_table u v.1) e
+  inside : f < length is.known
+  inside = subst (λ n. f < n) (sym is.is_table.length_is) is.within
 
-      of : (g ≡ f) ⊎ ((g < f) ⊎ (f < g)) → ⊥
-      of (inl same) = not_unknown (slice_index_or more f Unknown) value (u.all_known (choice f value) own) (subst (λ n. slice_index_or more n Unknown ≡ Unknown) same e)
-      of (inr (inl k)) = before k (value_of (slice_index_or is.known g Unknown) (is.below g k))
-      of (inr (inr k)) = absurd (omega (arith, less, k))
-
-  not_before : (from : ℕ) → AreKnownBelow diagram choices from → from ≤ f
-  not_before from below = of (cases_lt f from)
-    where
-      of : (f < from) ⊎ (from ≤ f) → from ≤ f
-      of (inl less) = absurd (below is.known is.is_table f less is.unknown)
-      of (inr le) = le
+  -- some feature is open
+  pub open_here : (most : ℕ) → AreOpenUpTo most diagram.lines choices → 1 ≤ most
+  open_here most up = let a = up is.known is.is_table in let b = some_open is.known f inside is.unknown in omega (arith, a, b)
 
   -- with one more choice, which decides the first open feature
-  pub child_room : (depth less trials left : ℕ) → depth ≡ suc less → most_trials less ≤ left → HasRoom diagram choices depth trials → HasRoom diagram (choices ++ choice f value ∷ []) less left
-  child_room depth less trials left e enough room = record {
-    from = suc f;
-    below = known_below_more;
-    within = let w = is.within in omega (arith, w);
-    deep = let d = room.deep in let b = not_before room.from room.below in omega (arith, d, b, e);
-    enough = enough;
+  pub child_open : (most : ℕ) → AreOpenUpTo most diagram.lines choices → AreOpenUpTo (most - 1) diagram.lines (choices ++ choice f value ∷ [])
+  child_open most up more u =
+      let a = up is.known is.is_table in
+      let b = one_fewer is.known more f (is.is_table.length_is ∙ sym u.length_is) (tables_refine diagram.lines choices (choices ++ choice f value ∷ []) is.known more among is.is_table u) inside is.unknown
+      (not_unknown (slice_index_or more f Unknown) value (u.all_known (choice f value) own)) in
+      omega (arith, a, b)
+
+  pub child_room : (depth less trials left : ℕ) → depth ≡ suc less → (room : HasRoom diagram choices depth trials) → most_trials room.most ≤ left → HasRoom diagram (choices ++ choice f value ∷ []) less left
+  child_room depth less trials left e room enough = record {
+    most = room.most - 1;
+    are_open = child_open room.most room.are_open;
+    deep = let d = room.deep in let o = open_here room.most room.are_open in omega (arith, d, e, o);
+    enough = subst (λ n. most_trials n ≤ left) (let o = open_here room.most room.are_open in omega (arith, o)) enough;
   }
+
+  -- what a search with one more choice leaves
+  pub left_after_half : (most before after : ℕ) → AreOpenUpTo most diagram.lines choices →
+      ((n : ℕ) → AreOpenUpTo n diagram.lines (choices ++ choice f value ∷ []) → before ≤ after + most_trials (n + 1)) → before ≤ after + most_trials most
+  left_after_half most before after up h =
+      subst (λ n. before ≤ after + most_trials n) (let o = open_here most up in omega (arith, o)) (h (most - 1) (child_open most up))
+
+  pub child_settles : (rounds : ℕ) (game : NamedGame) (aim : Aim) → AimSettles rounds game diagram aim choices → AimSettles rounds game diagram aim (choices ++ choice f value ∷ [])
+  child_settles rounds game aim h more = subst (λ (cs : List Literal). AimSettlesUnder rounds game diagram aim cs) (sym (append_assoc choices (choice f value ∷ []) more)) (h (choice f value ∷ more))
+
+-- the choices alone
+pub settles_here : (rounds : ℕ) (game : NamedGame) (diagram : NamedDiagram) (aim : Aim) (choices : List Literal) → AimSettles rounds game diagram aim choices → AimSettlesUnder rounds game diagram aim choices
+settles_here rounds game diagram aim choices h = subst (λ (cs : List Literal). AimSettlesUnder rounds game diagram aim cs) (append-nil choices) (h [])
+
+-- a search of all has room where the trials suffice
+pub whole_room : (diagram : NamedDiagram) (choices : List Literal) (depth trials : ℕ) → depth ≡ feature_count diagram.lines + 1 → HasTrials diagram.lines choices trials → HasRoom diagram choices depth trials
+whole_room diagram choices depth trials e has = of (cases_lt (feature_count diagram.lines) has.most)
+  where
+    of : (feature_count diagram.lines < has.most) ⊎ (has.most ≤ feature_count diagram.lines) → HasRoom diagram choices depth trials
+    of (inl less) = record {
+      most = feature_count diagram.lines;
+      are_open = open_up_to_all diagram.lines choices;
+      deep = omega (arith, e);
+      enough = let m = trials_grow (feature_count diagram.lines + 1) (has.most + 1) (omega (arith, less)) in let n = has.enough in omega (arith, m, n);
+    }
+    of (inr le) = record { most = has.most; are_open = has.are_open; deep = omega (arith, le, e); enough = has.enough }
+
+-- with one more choice
+pub settled_more : (game : NamedGame) (diagram : NamedDiagram) (limits : Limits) (aim : Aim) (choices : List Literal) (c : Literal) → IsNamedDiagram diagram → AreChoicesOf diagram.lines choices →
+    IsSettled game diagram limits (asks.Lost aim) choices → IsSettled game diagram limits (asks.Lost aim) (choices ++ c ∷ [])
+settled_more game diagram limits aim choices c is named s = (
+  (λ more. subst (λ (cs : List Literal). AimSettlesUnder limits.rounds game diagram aim cs) (sym (append_assoc choices (c ∷ []) more)) (s.0 (c ∷ more))),
+  record {
+    most = s.1.most;
+    are_open = open_stays diagram.lines choices (choices ++ c ∷ []) s.1.most is.diagram named (λ x h. Contains-append_left choices (c ∷ []) x h) s.1.are_open;
+    enough = s.1.enough;
+  },
+)
 
 module _ (diagram : NamedDiagram) (choices : List Literal) where
   pub no_depth : (depth trials : ℕ) → depth ≡ 0 → HasRoom diagram choices depth trials → ⊥
-  no_depth depth trials e room = let w = room.within in let d = room.deep in omega (arith, w, d, e)
+  no_depth depth trials e room = let d = room.deep in omega (arith, d, e)
 
-  pub room_trials : (depth less trials : ℕ) → depth ≡ suc less → HasRoom diagram choices depth trials → suc (most_trials less + most_trials less) ≤ trials
-  room_trials depth less trials e room = subst (λ n. most_trials n ≤ trials) e room.enough
+  pub room_trials : (depth trials : ℕ) → (room : HasRoom diagram choices depth trials) → suc (most_trials room.most + most_trials room.most) ≤ trials
+  room_trials depth trials room = let e = trials_step room.most in let h = room.enough in omega (arith, e, h)
 
   pub no_trials : (depth trials : ℕ) → trials ≡ 0 → HasRoom diagram choices depth trials → ⊥
-  no_trials zero trials e room = no_depth zero trials refl room
-  no_trials (suc less) trials e room = let h = room_trials (suc less) less trials refl room in omega (arith, h, e)
+  no_trials depth trials e room = let h = room_trials depth trials room in omega (arith, h, e)
 
 -- what a trial and the two searches behind it spent
 pub spent : (depth less trials after left : ℕ) → depth ≡ suc less → trials ≤ suc after → after ≤ left + (most_trials less + most_trials less) → trials ≤ left + most_trials depth
@@ -85,6 +189,14 @@ spent depth less trials after left e one both = subst (λ n. trials ≤ left + m
   where
     sym_suc : depth ≡ suc less → suc less ≡ depth
     sym_suc h = omega (arith, h)
+
+-- the same by open features
+pub open_spent : (most trials after left : ℕ) → trials ≤ suc after → after ≤ left + (most_trials most + most_trials most) → trials ≤ left + most_trials (most + 1)
+open_spent most trials after left one both = spent (most + 1) most trials after left (omega arith) one both
+
+-- a trial alone
+pub one_spent : (most trials left : ℕ) → trials ≤ suc left → trials ≤ left + most_trials (most + 1)
+one_spent most trials left one = let h = trials_grow 1 (most + 1) (omega arith) in omega (arith, one, h)
 
 -- what was neither found nor ruled out met a limit
 pub not_exact : (found : Found) → IsFoundExact found → ((x : Example) → found ≡ founds.Product x → ⊥) → (found ≡ founds.Nothing → ⊥) → ⊥

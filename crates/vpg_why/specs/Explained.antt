@@ -22,6 +22,10 @@ front_with most decisions kept = take most decisions ++ kept
 abbrev pub choices : List Decision → List Literal
 choices decisions = map literal_of decisions
 
+-- it holds of the choices of each number of first decisions, with the others after them
+abbrev pub OfFronts : (List Literal → Type 0) → (decisions kept : List Decision) → Type 0
+OfFronts Holds decisions kept = (most : ℕ) → Holds (choices (front_with most decisions kept))
+
 -- The last of the first decisions that is needed beside others. With it the front suffices, and without it the front
 -- does not, if that is shown.
 pub record IsLast (Suffices : List Literal → Type 0) (decisions kept : List Decision) (most place : ℕ) (exact : Bool) : Type 0 where
@@ -29,18 +33,18 @@ pub record IsLast (Suffices : List Literal → Type 0) (decisions kept : List De
   pub enough : Suffices (choices (front_with (place + 1) decisions kept))
   pub short : IsTrue exact → Suffices (choices (front_with place decisions kept)) → ⊥
 
--- Of the decisions `rest`, which come after those `before`, each listed one is needed. All that come before it and
--- those listed after it do not suffice without it.
-pub data AreNeededInTurn (Suffices : List Literal → Type 0) : (before rest listed : List Decision) → Type 0 where
-  done : {before : List Decision} → AreNeededInTurn Suffices before [] []
-  skipped : {d : Decision} {before rest listed : List Decision} → AreNeededInTurn Suffices (before ++ d ∷ []) rest listed → AreNeededInTurn Suffices before (d ∷ rest) listed
-  taken : {d : Decision} {before rest listed : List Decision} → (Suffices (choices (before ++ listed)) → ⊥) → AreNeededInTurn Suffices (before ++ d ∷ []) rest listed → AreNeededInTurn Suffices before (d ∷ rest) (d ∷ listed)
+-- Going through the decisions `rest`, which come after those `before`: one is left out, or it is listed, since it is
+-- needed (if that is shown). All that come before it and those listed after it do not suffice without it.
+pub data AreNeededInTurn (Suffices : List Literal → Type 0) (exact : Bool) : (before rest listed : List Decision) → Type 0 where
+  done : {before : List Decision} → AreNeededInTurn Suffices exact before [] []
+  skipped : {d : Decision} {before rest listed : List Decision} → AreNeededInTurn Suffices exact (before ++ d ∷ []) rest listed → AreNeededInTurn Suffices exact before (d ∷ rest) listed
+  taken : {d : Decision} {before rest listed : List Decision} → (IsTrue exact → Suffices (choices (before ++ listed)) → ⊥) → AreNeededInTurn Suffices exact (before ++ d ∷ []) rest listed → AreNeededInTurn Suffices exact before (d ∷ rest) (d ∷ listed)
 
--- Decisions that are among others and suffice, none of which can be left out, if that is shown. Of all such lists it is
--- then the one with the earliest last decision, before that the earliest next to last, and so on. Only one list
--- suffices and is needed in turn.
+-- Decisions that are among others, in their order, and suffice, none of which can be left out, if that is shown. Of all
+-- such lists it is then the one with the earliest last decision, before that the earliest next to last, and so on. Only
+-- one list suffices and is needed in turn.
 pub record Explains (Suffices : List Literal → Type 0) (decisions listed : List Decision) (exact : Bool) : Type 0 where
   pub among : AreAmong (choices listed) (choices decisions)
   pub enough : Suffices (choices listed)
   pub needed : IsTrue exact → AreNeeded Suffices (choices listed) (choices listed)
-  pub in_turn : IsTrue exact → AreNeededInTurn Suffices [] decisions listed
+  pub in_turn : AreNeededInTurn Suffices exact [] decisions listed

@@ -23,11 +23,7 @@ use Rattle.vpg_why.specs.declared.telling.WhyLost.{WhyLost}
 use Rattle.vpg_why.specs.declared.telling.WhyLost.TheVariants as whys
 use Rattle.vpg_why.specs.Explained.{choices, Explains}
 use Rattle.vpg_why.specs.Products.{NoneMeets, Meets, IsFirst, AgreeBelow, AreNeeds}
-use Rattle.vpg_why.specs.Suffices.{Suffice, most_trials}
-
--- the choices make each feature below this one known
-abbrev pub AreKnownBelow : NamedDiagram → List Literal → ℕ → Type 0
-AreKnownBelow diagram choices feature = (known : List Tri) → IsKnownTable diagram.lines choices known → (f : ℕ) → f < feature → slice_index_or known f Unknown ≡ Unknown → ⊥
+use Rattle.vpg_why.specs.Suffices.{Suffice, AreOpenUpTo, most_trials}
 
 -- the feature is the first that the choices don't make known
 pub record IsOpen (diagram : NamedDiagram) (choices : List Literal) (feature : ℕ) : Type 0 where
@@ -53,13 +49,13 @@ IsOutlookExact (outlooks.Met product) = ⊤
 IsOutlookExact (outlooks.Open feature) = ⊤
 IsOutlookExact outlooks.Unsettled = ⊥
 
--- A search from these choices, of this depth and with this many trials, comes to its end.
+-- A search from these choices, of this depth and with this many trials, comes to its end: both suffice for the features
+-- that are open.
 pub record HasRoom (diagram : NamedDiagram) (choices : List Literal) (depth trials : ℕ) : Type 0 where
-  pub from : ℕ
-  pub below : AreKnownBelow diagram choices from
-  pub within : from ≤ feature_count diagram.lines
-  pub deep : feature_count diagram.lines < from + depth
-  pub enough : most_trials depth ≤ trials
+  pub most : ℕ
+  pub are_open : AreOpenUpTo most diagram.lines choices
+  pub deep : most < depth
+  pub enough : most_trials (most + 1) ≤ trials
 
 -- A product that agrees with the choices and meets the aim; it is the first one, if that is shown.
 pub record IsFoundProduct (game : NamedGame) (diagram : NamedDiagram) (aim : Aim) (choices : List Literal) (set : List Bool) (first : Bool) : Type 0 where
@@ -96,6 +92,12 @@ abbrev pub IsWhyLost : NamedGame → NamedDiagram → Aim → List Decision → 
 IsWhyLost game diagram aim decisions (whys.Because found) = Explains (Suffice game diagram (asks.Lost aim)) decisions found.decisions.items found.exact
 IsWhyLost game diagram aim decisions (whys.Unless example) = IsFoundProduct game diagram aim (choices decisions) example.features.items example.first
 IsWhyLost game diagram aim decisions whys.Unsettled = ⊤
+
+-- one of both was shown; and a product is the first
+abbrev pub IsWhyLostShown : WhyLost → Type 0
+IsWhyLostShown (whys.Because found) = ⊤
+IsWhyLostShown (whys.Unless example) = IsTrue example.first
+IsWhyLostShown whys.Unsettled = ⊥
 
 -- no limit was met in the search for the reason
 abbrev pub IsWhyLostExact : WhyLost → Type 0

@@ -1,6 +1,7 @@
 -- Questions on a list of choices, and when the choices alone make it so. This project's own.
-use Rattle.std.specs.Prelude.{ℕ, zero, suc, ◌+◌, ◌<◌, ◌≤◌, ⊤, Bool, List, [], ◌∷◌, ◌++◌, length, replicate, slice_index, IsTrue}
+use Rattle.std.specs.Prelude.{ℕ, zero, suc, ◌+◌, ◌<◌, ◌≤◌, ⊤, Bool, true, false, List, [], ◌∷◌, ◌++◌, count_by, length, replicate, slice_index, IsTrue}
 use Rattle.vpg_guards.specs.declared.tri.Tri.{Tri}
+use Rattle.vpg_guards.specs.declared.tri.Tri.TheVariants.{No, Unknown, Yes}
 use Rattle.vpg_guards.specs.Formula.{Formula}
 use Rattle.vpg_guards.specs.Known.{kleene}
 use Rattle.vpg_diagram.specs.DiagramText.{NamedDiagram}
@@ -10,7 +11,7 @@ use Rattle.vpg_game.specs.Game.{NamedGame, graph_of}
 use Rattle.vpg_game.specs.Guarded.{GuardedGame}
 use Rattle.vpg_partial.specs.KnownLaws.{HasConflictOf}
 use Rattle.vpg_partial.specs.KnownTable.{literals_in}
-use Rattle.vpg_partial.specs.TableLaws.{IsKnownTable}
+use Rattle.vpg_partial.specs.TableLaws.{AreAmong, IsKnownTable}
 use Rattle.vpg_measure.specs.Least.{IsValueBelow}
 use Rattle.vpg_measure.specs.Lifts.{IsProgressTable, after_rounds}
 use Rattle.vpg_measure.specs.TwoGames.{levels_for, arena_for, top_for, IsProgressOf}
@@ -79,28 +80,57 @@ abbrev pub SettlesWithin : ℕ → NamedGame → Which → List Tri → Type 0
 SettlesWithin rounds game which known = IsProgressTable (levels_for which (graph_of game)) (arena_for (kleene known) which (graph_of game))
     (after_rounds (levels_for which (graph_of game)) (arena_for (kleene known) which (graph_of game)) rounds (replicate (length (arena_for (kleene known) which (graph_of game))) 0))
 
--- the table settles so whatever was chosen
-abbrev pub AlwaysSettles : ℕ → NamedGame → NamedDiagram → Which → Type 0
-AlwaysSettles rounds game diagram which = (choices : List Literal) (known : List Tri) → IsKnownTable diagram.lines choices known → SettlesWithin rounds game which known
+-- the table settles so under what the choices make known
+abbrev pub SettlesUnder : ℕ → NamedGame → NamedDiagram → Which → List Literal → Type 0
+SettlesUnder rounds game diagram which choices =
+    (known : List Tri) → IsKnownTable diagram.lines choices known → SettlesWithin rounds game which known
 
 -- this many rounds of lifts from zeros settle the game in which a product is to be won
-abbrev pub AimSettlesUnder : ℕ → NamedGame → Aim → List Tri → Type 0
-AimSettlesUnder rounds game aims.Any known = ⊤
-AimSettlesUnder rounds game (aims.Won which vertex) known = SettlesWithin rounds game which known
+abbrev pub AimSettlesWithin : ℕ → NamedGame → Aim → List Tri → Type 0
+AimSettlesWithin rounds game aims.Any known = ⊤
+AimSettlesWithin rounds game (aims.Won which vertex) known = SettlesWithin rounds game which known
 
--- the game of an aim settles so whatever was chosen
-abbrev pub AimSettles : ℕ → NamedGame → NamedDiagram → Aim → Type 0
-AimSettles rounds game diagram aim = (choices : List Literal) (known : List Tri) → IsKnownTable diagram.lines choices known → AimSettlesUnder rounds game aim known
+-- the game of an aim settles so under what the choices make known
+abbrev pub AimSettlesUnder : ℕ → NamedGame → NamedDiagram → Aim → List Literal → Type 0
+AimSettlesUnder rounds game diagram aim choices =
+    (known : List Tri) → IsKnownTable diagram.lines choices known → AimSettlesWithin rounds game aim known
+
+-- it does under the choices, whatever else is chosen
+abbrev pub AimSettles : ℕ → NamedGame → NamedDiagram → Aim → List Literal → Type 0
+AimSettles rounds game diagram aim choices =
+    (more : List Literal) → AimSettlesUnder rounds game diagram aim (choices ++ more)
 
 -- the greatest number of trials of a search over this many features, less one
 abbrev pub most_trials : ℕ → ℕ
 most_trials zero = 0
 most_trials (suc n) = suc (most_trials n + most_trials n)
 
--- The limits leave room for an answer, whatever was chosen: the rounds settle each table, and the trials suffice for
--- each case. (The known features are computed without a limit.)
-abbrev pub IsSettled : NamedGame → NamedDiagram → Limits → Question → Type 0
-IsSettled game diagram limits (asks.Verdict which vertex) = AlwaysSettles limits.rounds game diagram which
-IsSettled game diagram limits (asks.Lost aim) = AimSettles limits.rounds game diagram aim × (most_trials (feature_count diagram.lines + 1) ≤ limits.trials)
-IsSettled game diagram limits (asks.Known feature value) = ⊤
-IsSettled game diagram limits (asks.Conflict feature value) = ⊤
+abbrev pub is_open : Tri → Bool
+is_open No = false
+is_open Unknown = true
+is_open Yes = false
+
+-- At most this many features are open: the choices make known all others, or contradict the diagram.
+abbrev pub AreOpenUpTo : ℕ → List Line → List Literal → Type 0
+AreOpenUpTo most lines choices = (known : List Tri) → IsKnownTable lines choices known → count_by is_open known ≤ most
+
+-- the trials suffice for each case of the features that are open
+pub record HasTrials (lines : List Line) (choices : List Literal) (trials : ℕ) : Type 0 where
+  pub most : ℕ
+  pub are_open : AreOpenUpTo most lines choices
+  pub enough : most_trials (most + 1) ≤ trials
+
+-- The limits leave room for an answer on these choices: the rounds settle each table that is needed, of the choices and
+-- of the cases that they leave, and the trials suffice for these cases. (The known features are computed without a
+-- limit.)
+abbrev pub IsSettled : NamedGame → NamedDiagram → Limits → Question → List Literal → Type 0
+IsSettled game diagram limits (asks.Verdict which vertex) choices = SettlesUnder limits.rounds game diagram which choices
+IsSettled game diagram limits (asks.Lost aim) choices =
+    AimSettles limits.rounds game diagram aim choices × HasTrials diagram.lines choices limits.trials
+IsSettled game diagram limits (asks.Known feature value) choices = ⊤
+IsSettled game diagram limits (asks.Conflict feature value) choices = ⊤
+
+-- they leave room for an answer on any of these choices
+abbrev pub EachIsSettled : NamedGame → NamedDiagram → Limits → Question → List Literal → Type 0
+EachIsSettled game diagram limits question choices =
+    (own : List Literal) → AreAmong own choices → IsSettled game diagram limits question own

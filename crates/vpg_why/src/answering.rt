@@ -22,7 +22,9 @@ fn lost_shown(
     requires aim { IsAim order.now.game aim }
     ensures yes { IfOk result (λ shown. shown ≡ Shown.Yes → Suffice order.now.game order.now.diagram (Question.Lost aim) (choices decisions.now)) }
     ensures no { IfOk result (λ shown. shown ≡ Shown.No → Suffice order.now.game order.now.diagram (Question.Lost aim) (choices decisions.now) → ⊥) }
-    ensures settled { IfOk result (λ shown. IsSettled order.now.game order.now.diagram limits (Question.Lost aim) → shown ≢ Shown.Unsettled) }
+    ensures settled { IfOk result (λ shown.
+        IsSettled order.now.game order.now.diagram limits (Question.Lost aim) (choices decisions.now) →
+        shown ≢ Shown.Unsettled) }
 {
     let found = search_all(alloc, order, aim, decisions, limits)?;
     match found {
@@ -45,7 +47,9 @@ pub fn suffice(
     requires askable { IsAskable order.now.game order.now.diagram question }
     ensures yes { IfOk result (λ shown. shown ≡ Shown.Yes → Suffice order.now.game order.now.diagram question (choices decisions.now)) }
     ensures no { IfOk result (λ shown. shown ≡ Shown.No → Suffice order.now.game order.now.diagram question (choices decisions.now) → ⊥) }
-    ensures settled { IfOk result (λ shown. IsSettled order.now.game order.now.diagram limits question → shown ≢ Shown.Unsettled) }
+    ensures settled { IfOk result (λ shown.
+        IsSettled order.now.game order.now.diagram limits question (choices decisions.now) →
+        shown ≢ Shown.Unsettled) }
 {
     match question {
         Question::Verdict { which, vertex } => {

@@ -148,7 +148,9 @@ pub(crate) fn verdict_shown(
     requires vertex { vertex < length order.now.game.vertices }
     ensures yes { IfOk result (λ shown. shown ≡ Shown.Yes → Suffice order.now.game order.now.diagram (Question.Verdict which vertex) (map literal_of decisions.now)) }
     ensures no { IfOk result (λ shown. shown ≡ Shown.No → Suffice order.now.game order.now.diagram (Question.Verdict which vertex) (map literal_of decisions.now) → ⊥) }
-    ensures settled { IfOk result (λ shown. IsSettled order.now.game order.now.diagram limits (Question.Verdict which vertex) → shown ≢ Shown.Unsettled) }
+    ensures settled { IfOk result (λ shown.
+        IsSettled order.now.game order.now.diagram limits (Question.Verdict which vertex)
+        (map literal_of decisions.now) → shown ≢ Shown.Unsettled) }
 {
     match games_with(alloc, order, decisions)? {
         Some(games) => {

@@ -1,8 +1,8 @@
 //! Explanations: some of a page's decisions that suffice, none of which can be left out.
 ghost use Rattle.std.specs.Prelude.{◌≡◌, ◌≢◌, ◌<◌, ◌≤◌, ◌+◌, length, IfOk, IfSome, IsNone, IsTrue};
 ghost use Rattle.vpg_partial.specs.TableLaws.{AreChoicesOf};
-ghost use Rattle.vpg_why.specs.Explained.{choices, front_with, IsLast, Explains};
-ghost use Rattle.vpg_why.specs.Suffices.{Suffice, IsAskable, IsSettled};
+ghost use Rattle.vpg_why.specs.Explained.{choices, front_with, IsLast, OfFronts, Explains};
+ghost use Rattle.vpg_why.specs.Suffices.{Suffice, EachIsSettled, IsAskable, IsSettled};
 
 use crate::answering::suffice;
 use crate::question::{Limits, Question, Shown};
@@ -49,7 +49,9 @@ fn front_suffices(
     requires within { most ≤ length decisions.now }
     ensures yes { IfOk result (λ shown. shown ≡ Shown.Yes → Suffice order.now.game order.now.diagram question (choices (front_with most decisions.now kept.now))) }
     ensures no { IfOk result (λ shown. shown ≡ Shown.No → Suffice order.now.game order.now.diagram question (choices (front_with most decisions.now kept.now)) → ⊥) }
-    ensures settled { IfOk result (λ shown. IsSettled order.now.game order.now.diagram limits question → shown ≢ Shown.Unsettled) }
+    ensures settled { IfOk result (λ shown.
+        IsSettled order.now.game order.now.diagram limits question (choices (front_with most decisions.now kept.now)) →
+        shown ≢ Shown.Unsettled) }
 {
     let joined = joined(alloc, decisions, most, kept)?;
     let shown = suffice(alloc, order, question, &joined, limits)?;
@@ -105,12 +107,14 @@ fn halve(
     requires within { most ≤ length decisions.now }
     requires some { 0 < most }
     requires enough { Suffice order.now.game order.now.diagram question (choices (front_with most decisions.now kept.now)) }
-    requires settled { IsSettled order.now.game order.now.diagram limits question → IsTrue exact }
+    requires settled { OfFronts (IsSettled order.now.game order.now.diagram limits question) decisions.now kept.now →
+        IsTrue exact }
     requires short { IsTrue exact → Suffice order.now.game order.now.diagram question (choices (front_with 0 decisions.now kept.now)) → ⊥ }
     ensures place { IfOk result (λ last. last.place < most) }
     ensures enough { IfOk result (λ last. Suffice order.now.game order.now.diagram question (choices (front_with (last.place + 1) decisions.now kept.now))) }
     ensures short { IfOk result (λ last. IsTrue last.exact → Suffice order.now.game order.now.diagram question (choices (front_with last.place decisions.now kept.now)) → ⊥) }
-    ensures settled { IfOk result (λ last. IsSettled order.now.game order.now.diagram limits question → IsTrue last.exact) }
+    ensures settled { IfOk result (λ last.
+        OfFronts (IsSettled order.now.game order.now.diagram limits question) decisions.now kept.now → IsTrue last.exact) }
 {
     let mut low = 0;
     let mut high = most;
@@ -152,7 +156,8 @@ fn last_needed(
     requires enough { Suffice order.now.game order.now.diagram question (choices (front_with most decisions.now kept.now)) }
     ensures none { IfOk result (λ found. IsNone found → Suffice order.now.game order.now.diagram question (choices (front_with 0 decisions.now kept.now))) }
     ensures some { IfOk result (λ found. IfSome found (λ last. IsLast (Suffice order.now.game order.now.diagram question) decisions.now kept.now most last.place last.exact)) }
-    ensures settled { IfOk result (λ found. IfSome found (λ last. IsSettled order.now.game order.now.diagram limits question → IsTrue last.exact)) }
+    ensures settled { IfOk result (λ found. IfSome found (λ last.
+        OfFronts (IsSettled order.now.game order.now.diagram limits question) decisions.now kept.now → IsTrue last.exact)) }
 {
     let shown = front_suffices(alloc, order, question, decisions, 0, kept, limits)?;
     let exact = match shown {
@@ -180,7 +185,8 @@ pub(crate) fn explain_by(
     requires askable { IsAskable order.now.game order.now.diagram question }
     requires enough { Suffice order.now.game order.now.diagram question (choices decisions.now) }
     ensures explains { IfOk result (λ found. Explains (Suffice order.now.game order.now.diagram question) decisions.now found.decisions.items found.exact) }
-    ensures settled { IfOk result (λ found. IsSettled order.now.game order.now.diagram limits question → IsTrue found.exact) }
+    ensures settled { IfOk result (λ found.
+        EachIsSettled order.now.game order.now.diagram limits question (choices decisions.now) → IsTrue found.exact) }
 {
     // Properties of every order, for the proof.
     let _order = order.game();
@@ -221,7 +227,8 @@ pub fn explain(
     requires askable { IsAskable order.now.game order.now.diagram question }
     requires enough { Suffice order.now.game order.now.diagram question (choices decisions.now) }
     ensures explains { IfOk result (λ found. Explains (Suffice order.now.game order.now.diagram question) decisions.now found.decisions.items found.exact) }
-    ensures settled { IfOk result (λ found. IsSettled order.now.game order.now.diagram limits question → IsTrue found.exact) }
+    ensures settled { IfOk result (λ found.
+        EachIsSettled order.now.game order.now.diagram limits question (choices decisions.now) → IsTrue found.exact) }
 {
     let found = explain_by(alloc, order, question, decisions, &[], limits)?;
     Ok(found)

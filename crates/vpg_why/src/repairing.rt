@@ -3,7 +3,7 @@ ghost use Rattle.std.specs.Prelude.{◌≡◌, ◌↔◌, ◌<◌, ◌++◌, ◌
 ghost use Rattle.vpg_partial.specs.TableLaws.{AreChoicesOf};
 ghost use Rattle.vpg_why.specs.Explained.{choices};
 ghost use Rattle.vpg_why.specs.Repaired.{IsRepair, IsRemedy, IsRemedyExact};
-ghost use Rattle.vpg_why.specs.Suffices.{Suffice, IsAskable, IsSettled};
+ghost use Rattle.vpg_why.specs.Suffices.{Suffice, EachIsSettled, IsAskable};
 
 use crate::answering::suffice;
 use crate::question::{Limits, Question, Shown};
@@ -68,7 +68,8 @@ fn give_up(
     requires askable { IsAskable order.now.game order.now.diagram question }
     requires possible { Suffice order.now.game order.now.diagram question [] → ⊥ }
     ensures repair { IfOk result (λ found. IsRepair (Suffice order.now.game order.now.diagram question) decisions.now found.kept.items found.retracted.items found.exact) }
-    ensures settled { IfOk result (λ found. IsSettled order.now.game order.now.diagram limits question → IsTrue found.exact) }
+    ensures settled { IfOk result (λ found.
+        EachIsSettled order.now.game order.now.diagram limits question (choices decisions.now) → IsTrue found.exact) }
 {
     let mut kept = Vec::new(alloc);
     let mut retracted = Vec::new(alloc);
@@ -102,7 +103,9 @@ pub fn repair(
 ) -> Result<Remedy, AllocError>
     requires { vertex < length order.now.game.vertices }
     ensures remedy { IfOk result (IsRemedy order.now.game order.now.diagram which vertex order.now.decisions) }
-    ensures settled { IfOk result (λ found. IsSettled order.now.game order.now.diagram limits (Question.Verdict which vertex) → IsRemedyExact found) }
+    ensures settled { IfOk result (λ found.
+        EachIsSettled order.now.game order.now.diagram limits (Question.Verdict which vertex)
+        (choices order.now.decisions) → IsRemedyExact found) }
 {
     let question = Question::Verdict { which, vertex };
     match suffice(alloc, order, question, &[], limits)? {

@@ -12,7 +12,7 @@ ghost use Rattle.vpg_why.specs.Explained.{choices};
 ghost use Rattle.vpg_why.specs.Found.{HasRoom, IsOutlook, IsOutlookExact, IsFound, IsFoundExact};
 ghost use Rattle.vpg_why.specs.Products.{NoneMeets};
 ghost use Rattle.vpg_why.specs.Reasons.{either_of, HasMarks, IsReason, IsReasoned, IsReasonedExact};
-ghost use Rattle.vpg_why.specs.Suffices.{choice, IsAim, IsBarred, MayMeet, AimSettles, AlwaysSettles, IsSettled, most_trials};
+ghost use Rattle.vpg_why.specs.Suffices.{choice, IsAim, IsBarred, MayMeet, AimSettles, AimSettlesUnder, AreOpenUpTo, SettlesUnder, IsSettled, most_trials};
 
 use crate::asking::{closed, games_with, is_top, with_one};
 use crate::grounds::{grounds, kept_by};
@@ -143,7 +143,8 @@ pub fn look_at_games(
     ensures outlook { IfOk result
         (IsOutlook order.now.game order.now.diagram (Aim.Won which vertex) (choices decisions.now)) }
     ensures settled { IfOk result
-        (λ outlook. AlwaysSettles limits.rounds order.now.game order.now.diagram which → IsOutlookExact outlook) }
+        (λ outlook. SettlesUnder limits.rounds order.now.game order.now.diagram which (choices decisions.now) →
+        IsOutlookExact outlook) }
 {
     // Properties of every order, for the proof.
     let _order = order.game();
@@ -167,7 +168,8 @@ fn look_at_game(
     ensures outlook { IfOk result
         (IsOutlook order.now.game order.now.diagram (Aim.Won which vertex) (choices decisions.now)) }
     ensures settled { IfOk result
-        (λ outlook. AlwaysSettles limits.rounds order.now.game order.now.diagram which → IsOutlookExact outlook) }
+        (λ outlook. SettlesUnder limits.rounds order.now.game order.now.diagram which (choices decisions.now) →
+        IsOutlookExact outlook) }
 {
     // Properties of every order, for the proof.
     let _order = order.game();
@@ -188,7 +190,8 @@ pub(crate) fn look(
     requires aim { IsAim order.now.game aim }
     ensures outlook { IfOk result (IsOutlook order.now.game order.now.diagram aim (choices decisions.now)) }
     ensures settled { IfOk result
-        (λ outlook. AimSettles limits.rounds order.now.game order.now.diagram aim → IsOutlookExact outlook) }
+        (λ outlook. AimSettlesUnder limits.rounds order.now.game order.now.diagram aim (choices decisions.now) →
+        IsOutlookExact outlook) }
 {
     match aim {
         Aim::Any => look_at_features(alloc, order, decisions),
@@ -316,9 +319,13 @@ pub(crate) fn search_with_reasons(
     requires aim { IsAim order.now.game aim }
     ensures found { IfOk result (IsReasoned order.now.game order.now.diagram aim (choices decisions.now)) }
     ensures spent { IfOk result (λ found. trials.old ≤ trials.new + most_trials depth) }
+    ensures fewer { IfOk result (λ found. (most : ℕ) →
+        AreOpenUpTo most order.now.diagram.lines (choices decisions.now) →
+        trials.old ≤ trials.new + most_trials (most + 1)) }
     ensures settled { IfOk result
         (λ found. HasRoom order.now.diagram (choices decisions.now) depth trials.old →
-        AimSettles limits.rounds order.now.game order.now.diagram aim → IsReasonedExact found) }
+        AimSettles limits.rounds order.now.game order.now.diagram aim (choices decisions.now) →
+        IsReasonedExact found) }
 {
     if depth == 0 || *trials == 0 {
         return Ok(Reasoned::Unsettled);
@@ -371,9 +378,12 @@ pub fn search(
     requires aim { IsAim order.now.game aim }
     ensures found { IfOk result (IsFound order.now.game order.now.diagram aim (choices decisions.now)) }
     ensures spent { IfOk result (λ found. trials.old ≤ trials.new + most_trials depth) }
+    ensures fewer { IfOk result (λ found. (most : ℕ) →
+        AreOpenUpTo most order.now.diagram.lines (choices decisions.now) →
+        trials.old ≤ trials.new + most_trials (most + 1)) }
     ensures settled { IfOk result
         (λ found. HasRoom order.now.diagram (choices decisions.now) depth trials.old →
-        AimSettles limits.rounds order.now.game order.now.diagram aim → IsFoundExact found) }
+        AimSettles limits.rounds order.now.game order.now.diagram aim (choices decisions.now) → IsFoundExact found) }
 {
     match search_with_reasons(alloc, order, aim, decisions, limits, depth, trials)? {
         Reasoned::Product(example) => Ok(Found::Product(example)),
@@ -394,7 +404,8 @@ pub fn search_all(
     requires aim { IsAim order.now.game aim }
     ensures found { IfOk result (IsFound order.now.game order.now.diagram aim (choices decisions.now)) }
     ensures settled { IfOk result
-        (λ found. IsSettled order.now.game order.now.diagram limits (Question.Lost aim) → IsFoundExact found) }
+        (λ found. IsSettled order.now.game order.now.diagram limits (Question.Lost aim) (choices decisions.now) →
+        IsFoundExact found) }
 {
     let mut trials = limits.trials;
     let depth = order.diagram().features() as u32 + 1;
@@ -412,7 +423,8 @@ pub fn find(alloc: Global, order: &Order, aim: Aim, limits: Limits) -> Result<Fo
     requires { IsAim order.now.game aim }
     ensures found { IfOk result (IsFound order.now.game order.now.diagram aim (choices order.now.decisions)) }
     ensures settled { IfOk result
-        (λ found. IsSettled order.now.game order.now.diagram limits (Question.Lost aim) → IsFoundExact found) }
+        (λ found. IsSettled order.now.game order.now.diagram limits (Question.Lost aim) (choices order.now.decisions) →
+        IsFoundExact found) }
 {
     let found = search_all(alloc, order, aim, order.decisions(), limits)?;
     Ok(found)

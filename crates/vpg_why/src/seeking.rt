@@ -1,9 +1,9 @@
 //! A search for any product that meets an aim, as unlike another product as possible.
-ghost use Rattle.std.specs.Prelude.{◌≡◌, ◌≢◌, ◌≤◌, ◌+◌, false, slice_index_or, IfOk};
+ghost use Rattle.std.specs.Prelude.{◌≡◌, ◌≢◌, ◌≤◌, ◌+◌, ℕ, false, slice_index_or, IfOk};
 ghost use Rattle.vpg_partial.specs.TableLaws.{AreChoicesOf};
 ghost use Rattle.vpg_why.specs.Explained.{choices};
 ghost use Rattle.vpg_why.specs.Found.{HasRoom, IsSought};
-ghost use Rattle.vpg_why.specs.Suffices.{IsAim, AimSettles, IsSettled, most_trials};
+ghost use Rattle.vpg_why.specs.Suffices.{IsAim, AimSettles, AreOpenUpTo, IsSettled, most_trials};
 
 use crate::asking::with_one;
 use crate::question::{Aim, Limits, Question};
@@ -37,9 +37,12 @@ fn seek(
     requires named { AreChoicesOf order.now.diagram.lines (choices decisions.now) }
     requires aim { IsAim order.now.game aim }
     ensures found { IfOk result (IsSought order.now.game order.now.diagram aim (choices decisions.now)) }
-    ensures spent { IfOk result (λ found. trials.old ≤ trials.new + most_trials depth) }
+    ensures fewer { IfOk result (λ found. (most : ℕ) →
+        AreOpenUpTo most order.now.diagram.lines (choices decisions.now) →
+        trials.old ≤ trials.new + most_trials (most + 1)) }
     ensures settled { IfOk result (λ found. HasRoom order.now.diagram (choices decisions.now) depth trials.old →
-        AimSettles limits.rounds order.now.game order.now.diagram aim → found ≢ Found.Unsettled) }
+        AimSettles limits.rounds order.now.game order.now.diagram aim (choices decisions.now) →
+        found ≢ Found.Unsettled) }
 {
     if depth == 0 || *trials == 0 {
         return Ok(Found::Unsettled);
@@ -85,7 +88,8 @@ pub(crate) fn seek_all(
     requires named { AreChoicesOf order.now.diagram.lines (choices decisions.now) }
     requires aim { IsAim order.now.game aim }
     ensures found { IfOk result (IsSought order.now.game order.now.diagram aim (choices decisions.now)) }
-    ensures settled { IfOk result (λ found. IsSettled order.now.game order.now.diagram limits (Question.Lost aim) →
+    ensures settled { IfOk result
+        (λ found. IsSettled order.now.game order.now.diagram limits (Question.Lost aim) (choices decisions.now) →
         found ≢ Found.Unsettled) }
 {
     let mut trials = limits.trials;

@@ -1,13 +1,14 @@
 //! Why a verdict, a loss, a known feature or a conflict is so.
-ghost use Rattle.std.specs.Prelude.{◌≡◌, ◌↔◌, ◌<◌, length, slice_index, IfOk, IfSome, IsSome, IsTrue};
+ghost use Rattle.std.specs.Prelude.{◌≡◌, ◌↔◌, ◌<◌, List, length, slice_index, IfOk, IfSome, IsSome, IsTrue};
 ghost use Rattle.vpg_game.specs.Game.{graph_of};
 ghost use Rattle.vpg_measure.specs.Orders.{order_table};
 ghost use Rattle.vpg_measure.specs.TwoGames.{top_for};
 ghost use Rattle.vpg_why.specs.Explained.{choices, Explains};
 ghost use Rattle.vpg_why.specs.Products.{NoneMeets};
-ghost use Rattle.vpg_why.specs.Found.{IsWhyLost, IsWhyLostExact};
+ghost use Rattle.vpg_why.specs.Found.{IsWhyLost, IsWhyLostExact, IsWhyLostShown};
 ghost use Rattle.vpg_diagram.specs.FeatureDiagram.{feature_count};
-ghost use Rattle.vpg_why.specs.Suffices.{Suffice, IsAim, IsAskable, IsSettled};
+ghost use Rattle.vpg_diagram.specs.declared.clause.Literal.{Literal};
+ghost use Rattle.vpg_why.specs.Suffices.{Suffice, EachIsSettled, IsAim, IsAskable, IsSettled};
 
 use crate::answering::suffice;
 use crate::explaining::{Explanation, explain, explain_by};
@@ -33,7 +34,9 @@ pub fn why(
         Explains (Suffice order.now.game order.now.diagram (Question.Verdict which vertex)) order.now.decisions e.decisions.items e.exact)) }
     // These decisions alone leave the loser of the verdict no winning strategy in any product that agrees with them.
     ensures lost { IfOk result (λ found. IfSome found (λ e. NoneMeets order.now.game order.now.diagram (Aim.Won which vertex) (choices e.decisions.items))) }
-    ensures settled { IfOk result (λ found. IfSome found (λ e. IsSettled order.now.game order.now.diagram limits (Question.Verdict which vertex) → IsTrue e.exact)) }
+    ensures settled { IfOk result (λ found. IfSome found (λ e.
+        EachIsSettled order.now.game order.now.diagram limits (Question.Verdict which vertex)
+        (choices order.now.decisions) → IsTrue e.exact)) }
 {
     if order.table(which).get(vertex) != order.shape(which).top() {
         return Ok(None);
@@ -84,7 +87,12 @@ pub fn why_lost(
 ) -> Result<WhyLost, AllocError>
     requires { IsAim order.now.game aim }
     ensures why { IfOk result (IsWhyLost order.now.game order.now.diagram aim order.now.decisions) }
-    ensures settled { IfOk result (λ found. IsSettled order.now.game order.now.diagram limits (Question.Lost aim) → IsWhyLostExact found) }
+    ensures settled { IfOk result (λ found.
+        IsSettled order.now.game order.now.diagram limits (Question.Lost aim) (choices order.now.decisions) →
+        IsWhyLostShown found) }
+    ensures exact { IfOk result (λ found.
+        EachIsSettled order.now.game order.now.diagram limits (Question.Lost aim) (choices order.now.decisions) →
+        IsWhyLostExact found) }
 {
     match find(alloc, order, aim, limits)? {
         Found::Product(example) => return Ok(WhyLost::Unless(example)),
@@ -110,7 +118,8 @@ fn why_so(
     question: Question,
 ) -> Result<Option<Explanation>, AllocError>
     requires askable { IsAskable order.now.game order.now.diagram question }
-    requires settled { (limits : Limits) → IsSettled order.now.game order.now.diagram limits question }
+    requires settled { (limits : Limits) (own : List Literal) →
+        IsSettled order.now.game order.now.diagram limits question own }
     ensures told { IfOk result (λ found. IsSome found ↔ Suffice order.now.game order.now.diagram question (choices order.now.decisions)) }
     ensures explains { IfOk result (λ found. IfSome found (λ e. Explains (Suffice order.now.game order.now.diagram question) order.now.decisions e.decisions.items e.exact)) }
     ensures exact { IfOk result (λ found. IfSome found (λ e. IsTrue e.exact)) }

@@ -63,8 +63,10 @@ pub fn decide(
     ensures decided { IfOk result
         (IsDecidedAs (graph_of order.now.game) order.now.diagram.lines (choices decisions.now) vertex) }
     ensures settled { IfOk result (λ decided.
-        IsSettled order.now.game order.now.diagram limits (Question.Lost (Aim.Won Which.Hopeful vertex)) →
-        IsSettled order.now.game order.now.diagram limits (Question.Lost (Aim.Won Which.Dual vertex)) →
+        IsSettled order.now.game order.now.diagram limits (Question.Lost (Aim.Won Which.Hopeful vertex))
+        (choices decisions.now) →
+        IsSettled order.now.game order.now.diagram limits (Question.Lost (Aim.Won Which.Dual vertex))
+        (choices decisions.now) →
         IsDecidedExact decided) }
 {
     // Properties of every order, for the proof.

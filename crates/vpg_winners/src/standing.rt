@@ -3,7 +3,7 @@ ghost use Rattle.std.specs.Prelude.{◌<◌, length, IfOk};
 ghost use Rattle.vpg_measure.specs.Games.{ArePageGames};
 ghost use Rattle.vpg_partial.specs.TableLaws.{AreChoicesOf};
 ghost use Rattle.vpg_why.specs.Explained.{choices};
-ghost use Rattle.vpg_why.specs.Suffices.{AlwaysSettles};
+ghost use Rattle.vpg_why.specs.Suffices.{SettlesUnder};
 ghost use Rattle.vpg_winners.specs.Standing.{IsStanding, IsStandingExact};
 
 use crate::parts::Winner;
@@ -40,8 +40,9 @@ fn look_under(
     requires vertex { vertex < length order.now.game.vertices }
     ensures standing { IfOk result (IsStanding order.now.game order.now.diagram vertex (choices decisions.now)) }
     ensures settled { IfOk result (λ standing.
-        AlwaysSettles limits.rounds order.now.game order.now.diagram Which.Hopeful →
-        AlwaysSettles limits.rounds order.now.game order.now.diagram Which.Dual → IsStandingExact standing) }
+        SettlesUnder limits.rounds order.now.game order.now.diagram Which.Hopeful (choices decisions.now) →
+        SettlesUnder limits.rounds order.now.game order.now.diagram Which.Dual (choices decisions.now) →
+        IsStandingExact standing) }
 {
     // Properties of every order, for the proof.
     let _order = order.game();
@@ -78,8 +79,9 @@ pub(crate) fn look(
     requires vertex { vertex < length order.now.game.vertices }
     ensures standing { IfOk result (IsStanding order.now.game order.now.diagram vertex (choices decisions.now)) }
     ensures settled { IfOk result (λ standing.
-        AlwaysSettles limits.rounds order.now.game order.now.diagram Which.Hopeful →
-        AlwaysSettles limits.rounds order.now.game order.now.diagram Which.Dual → IsStandingExact standing) }
+        SettlesUnder limits.rounds order.now.game order.now.diagram Which.Hopeful (choices decisions.now) →
+        SettlesUnder limits.rounds order.now.game order.now.diagram Which.Dual (choices decisions.now) →
+        IsStandingExact standing) }
 {
     // Properties of every order, for the proof.
     let _order = order.game();

@@ -1,4 +1,5 @@
 use Rattle.vpg_texts.proofs.Shown.{on_ok}
+use Rattle.vpg_why.specs.Explained.{choices}
 use Rattle.vpg_why.specs.Suffices.{IsSettled}
 use Rattle.vpg_why.specs.declared.question.Question.TheVariants as asks
 use Rattle.vpg_answers.proofs.Telling.{told_product, told_nothing, told_unsettled, found_product, found_nothing, first_settled, search_short}
@@ -8,7 +9,7 @@ pub returns-in-Product : goal.returns-in-Product
 returns-in-Product c =
     let order = c.args.order.now in
     let found = found_product order c.args.aim c.in_ok-found.field-0 c.in-Product.found c.deref.result.now c.in-Product.is c.deref.ensures.value c.in_ok-found.ensures.found in
-    let settled = first_settled c.in_ok-found.field-0 c.in-Product.found (IsSettled order.game order.diagram c.args.limits (asks.Lost c.args.aim)) c.in-Product.is c.in_ok-found.ensures.settled in
+    let settled = first_settled c.in_ok-found.field-0 c.in-Product.found (IsSettled order.game order.diagram c.args.limits (asks.Lost c.args.aim) (choices order.decisions)) c.in-Product.is c.in_ok-found.ensures.settled in
     on_ok c.product.result _ _
     (λ appended. told_product order c.names-names.result.now c.names-names.ensures.names c.args.limits c.args.aim c.args.out.now.items c.product.new.out.items c.deref.result.now
     c.in-Product.found.first found settled appended) c.product.ensures
@@ -23,6 +24,6 @@ returns-in-Nothing c =
 pub returns-in-Unsettled : goal.returns-in-Unsettled
 returns-in-Unsettled c =
     let order = c.args.order.now in
-    let short = search_short c.in_ok-found.field-0 (IsSettled order.game order.diagram c.args.limits (asks.Lost c.args.aim)) c.in-Unsettled.is c.in_ok-found.ensures.settled in
+    let short = search_short c.in_ok-found.field-0 (IsSettled order.game order.diagram c.args.limits (asks.Lost c.args.aim) (choices order.decisions)) c.in-Unsettled.is c.in_ok-found.ensures.settled in
     on_ok c.unsettled.result _ _
     (λ appended. told_unsettled order c.names-names.result.now c.names-names.ensures.names c.args.limits c.args.aim c.args.out.now.items c.unsettled.new.out.items short appended) c.unsettled.ensures

@@ -1,4 +1,5 @@
 use Rattle.vpg_texts.proofs.Shown.{on_ok}
+use Rattle.vpg_why.specs.Explained.{choices}
 use Rattle.vpg_why.specs.Suffices.{IsSettled}
 use Rattle.vpg_why.specs.declared.question.Question.TheVariants as asks
 use Rattle.vpg_answers.proofs.Repairing.{found_none, found_these, needs_below, needs_settled, needs_short}
@@ -15,7 +16,7 @@ pub returns-in-These : goal.returns-in-These
 returns-in-These c =
     let order = c.args.order.now in
     let found = found_these order c.args.aim c.in_ok-found.field-0 c.in-These.found c.in-These.is c.in_ok-found.ensures.needs in
-    let settled = needs_settled order c.in_ok-found.field-0 c.in-These.found (IsSettled order.game order.diagram c.args.limits (asks.Lost c.args.aim)) c.in-These.is c.in_ok-found.ensures.settled in
+    let settled = needs_settled order c.in_ok-found.field-0 c.in-These.found (IsSettled order.game order.diagram c.args.limits (asks.Lost c.args.aim) (choices order.decisions)) c.in-These.is c.in_ok-found.ensures.settled in
     on_ok c.tell.result _ _
     (λ appended. told_forced order c.names-names.result.now c.names-names.ensures.names c.args.limits c.args.aim c.args.out.now.items c.tell.new.out.items
     c.in-These.found c.deref.result.now c.word_of.result.now c.deref.ensures.value c.word_of.ensures found settled appended) c.tell.ensures
@@ -30,6 +31,6 @@ returns-in-Nothing c =
 pub returns-in-Unsettled : goal.returns-in-Unsettled
 returns-in-Unsettled c =
     let order = c.args.order.now in
-    let short = needs_short order c.in_ok-found.field-0 (IsSettled order.game order.diagram c.args.limits (asks.Lost c.args.aim)) c.in-Unsettled.is c.in_ok-found.ensures.settled in
+    let short = needs_short order c.in_ok-found.field-0 (IsSettled order.game order.diagram c.args.limits (asks.Lost c.args.aim) (choices order.decisions)) c.in-Unsettled.is c.in_ok-found.ensures.settled in
     on_ok c.unsettled.result _ _
     (λ appended. told_forced_unsettled order c.names-names.result.now c.names-names.ensures.names c.args.limits c.args.aim c.args.out.now.items c.unsettled.new.out.items short appended) c.unsettled.ensures

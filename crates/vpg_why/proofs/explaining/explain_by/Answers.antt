@@ -2,7 +2,7 @@ use Rattle.std.proofs.lemmas.Grind.{common_steps}
 use Rattle.std.proofs.Common.{◌≡◌, ◌&&◌, Bool, true, false, List, refl, sym, subst, arith}
 use Rattle.vpg_diagram.specs.declared.clause.Literal.{Literal}
 use Rattle.vpg_partial.specs.declared.decision.Decision.{Decision}
-use Rattle.vpg_why.specs.Suffices.{Suffice, IsSettled}
+use Rattle.vpg_why.specs.Suffices.{Suffice, EachIsSettled}
 use Rattle.vpg_why.specs.Explained.{choices}
 use Rattle.vpg_why.proofs.Fronts.{choices_with}
 use Rattle.vpg_why.proofs.Listing.{among_named}
@@ -26,15 +26,15 @@ last_needed-requires-clause-enough c =
 
 pub listing-preserved-then-exact : goal.listing-preserved-then-exact
 listing-preserved-then-exact c =
-    subst (λ (b : Bool). IsListed (Suffice c.args.order.now.game c.args.order.now.diagram c.args.question) (IsSettled c.args.order.now.game c.args.order.now.diagram c.args.limits c.args.question) c.args.decisions.now c.insert.new.self.items c.in-Some.last.place (b && c.in-Some.last.exact)) c.if-exact.true
+    subst (λ (b : Bool). IsListed (Suffice c.args.order.now.game c.args.order.now.diagram c.args.question) (EachIsSettled c.args.order.now.game c.args.order.now.diagram c.args.limits c.args.question (choices c.args.decisions.now)) c.args.decisions.now c.insert.new.self.items c.in-Some.last.place (b && c.in-Some.last.exact)) c.if-exact.true
     (next_listed c.args.order.now.game c.args.order.now.diagram c.args.limits c.args.question c.args.decisions.now c.game-order.ensures.order.diagram c.requires.named c.listing.kept.items c.insert.new.self.items
-    c.listing.most c.in-Some.last.place c.listing.exact c.in-Some.last.exact no_decision c.listing.invariant (rw (c.in-Some.is, c.deref.ensures.value) at c.in_ok-found.ensures.some) (rw c.in-Some.is at c.in_ok-found.ensures.settled) c.in_ok-insert-in-Some.ensures.items)
+    c.listing.most c.in-Some.last.place c.listing.exact c.in-Some.last.exact no_decision c.listing.invariant (rw (c.in-Some.is, c.deref.ensures.value) at c.in_ok-found.ensures.some) (rw (c.in-Some.is, c.deref.ensures.value) at c.in_ok-found.ensures.settled) c.in_ok-insert-in-Some.ensures.items)
 
 pub listing-preserved-else-exact : goal.listing-preserved-else-exact
 listing-preserved-else-exact c =
-    subst (λ (b : Bool). IsListed (Suffice c.args.order.now.game c.args.order.now.diagram c.args.question) (IsSettled c.args.order.now.game c.args.order.now.diagram c.args.limits c.args.question) c.args.decisions.now c.insert.new.self.items c.in-Some.last.place b) (and_false c.listing.exact c.in-Some.last.exact c.if-exact.false)
+    subst (λ (b : Bool). IsListed (Suffice c.args.order.now.game c.args.order.now.diagram c.args.question) (EachIsSettled c.args.order.now.game c.args.order.now.diagram c.args.limits c.args.question (choices c.args.decisions.now)) c.args.decisions.now c.insert.new.self.items c.in-Some.last.place b) (and_false c.listing.exact c.in-Some.last.exact c.if-exact.false)
     (next_listed c.args.order.now.game c.args.order.now.diagram c.args.limits c.args.question c.args.decisions.now c.game-order.ensures.order.diagram c.requires.named c.listing.kept.items c.insert.new.self.items
-    c.listing.most c.in-Some.last.place c.listing.exact c.in-Some.last.exact no_decision c.listing.invariant (rw (c.in-Some.is, c.deref.ensures.value) at c.in_ok-found.ensures.some) (rw c.in-Some.is at c.in_ok-found.ensures.settled) c.in_ok-insert-in-Some.ensures.items)
+    c.listing.most c.in-Some.last.place c.listing.exact c.in-Some.last.exact no_decision c.listing.invariant (rw (c.in-Some.is, c.deref.ensures.value) at c.in_ok-found.ensures.some) (rw (c.in-Some.is, c.deref.ensures.value) at c.in_ok-found.ensures.settled) c.in_ok-insert-in-Some.ensures.items)
   where
     and_false : (a b : Bool) → a ≡ false → (a && b) ≡ a
     and_false true b e = absurd (clash e)

@@ -1,6 +1,8 @@
 use Rattle.std.proofs.lemmas.Grind.{common_steps}
 use Rattle.std.proofs.Common.{◌≡◌, true, false, sym, ◌∙◌, arith}
 use Rattle.vpg_why.specs.Explained.{choices}
+use Rattle.vpg_why.specs.Suffices.{choice}
+use Rattle.vpg_why.proofs.Rooms.{settled_more}
 use Rattle.vpg_why.proofs.Sought.{one_more, otherwise, sought_with}
 use Rattle.vpg_why.proofs.Distinct.{yes_no, yes_unsettled, no_yes, no_unsettled, unsettled_yes, unsettled_no}
 use Rattle.vpg_why.proofs.forcing.is_barred.Goals as goal
@@ -50,7 +52,11 @@ pub returns-in-Nothing-clause-settled : goal.returns-in-Nothing-clause-settled
 returns-in-Nothing-clause-settled c s e = yes_unsettled e
 
 pub returns-clause-settled : goal.returns-clause-settled
-returns-clause-settled c = grind (arith, common_steps)
+returns-clause-settled c s e =
+    let order = c.args.order.now in
+    (rw (c.deref-2.ensures.value, c.in_ok-more.ensures, c.decisions.ensures.decisions) at c.in_ok-example.ensures.settled)
+    (settled_more order.game order.diagram c.args.limits c.args.aim (choices order.decisions) (choice c.args.feature c.args.value) c.decisions.ensures.order.diagram c.decisions.ensures.order.named s)
+    c.in-Unsettled.is
 
 pub returns-then-not-all_have-clause-yes : goal.returns-then-not-all_have-clause-yes
 returns-then-not-all_have-clause-yes c e = absurd (no_yes e)

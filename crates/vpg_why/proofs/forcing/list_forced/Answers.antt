@@ -14,7 +14,7 @@ pub forcing-preserved : goal.forcing-preserved
 forcing-preserved c = elim c.match-tri.branch [
   | in-Unknown+in_ok-is_barred+in-Yes+in_ok-push-in-Yes w ↦ (
     rw (w.literals-is, w.exact-is, w.in_ok-push-in-Yes.ensures.items, w.has-value.ensures)
-        (forced_next (IsSettled c.args.order.now.game c.args.order.now.diagram c.args.limits (asks.Lost c.args.aim)) c.args.order.now.game c.args.order.now.diagram c.args.aim (choices c.args.order.now.decisions) c.args.product.now c.requires.remaining c.requires.meets c.forcing.literals.items c.forcing.feature c.forcing.exact c.forcing.invariant.0
+        (forced_next (IsSettled c.args.order.now.game c.args.order.now.diagram c.args.limits (asks.Lost c.args.aim) (choices c.args.order.now.decisions)) c.args.order.now.game c.args.order.now.diagram c.args.aim (choices c.args.order.now.decisions) c.args.product.now c.requires.remaining c.requires.meets c.forcing.literals.items c.forcing.feature c.forcing.exact c.forcing.invariant.0
         c.known-known.result.now (subst (λ (k : List Tri). IsKnownTable c.args.order.now.diagram.lines (choices c.args.order.now.decisions) k) (sym (c.known-known.ensures ∙ ap (λ (g : GamesView). g.known) c.deref.ensures)) c.games.ensures.known)
         (sym c.value-tri.ensures ∙ w.in-Unknown.is)
         (c.forcing.literals.items ++ choice c.forcing.feature (slice_index_or c.args.product.now c.forcing.feature false) ∷ []) refl (rw w.has-value.ensures at (w.in_ok-is_barred.ensures.yes w.in-Yes.is))),
@@ -22,19 +22,19 @@ forcing-preserved c = elim c.match-tri.branch [
   )
   | in-Unknown+in_ok-is_barred+in-No w ↦ (
     rw (w.literals-is, w.exact-is)
-        (free_next (IsSettled c.args.order.now.game c.args.order.now.diagram c.args.limits (asks.Lost c.args.aim)) c.args.order.now.game c.args.order.now.diagram c.args.aim (choices c.args.order.now.decisions) c.args.product.now c.requires.remaining c.requires.meets c.forcing.literals.items c.forcing.feature c.forcing.exact c.forcing.invariant.0
+        (free_next (IsSettled c.args.order.now.game c.args.order.now.diagram c.args.limits (asks.Lost c.args.aim) (choices c.args.order.now.decisions)) c.args.order.now.game c.args.order.now.diagram c.args.aim (choices c.args.order.now.decisions) c.args.product.now c.requires.remaining c.requires.meets c.forcing.literals.items c.forcing.feature c.forcing.exact c.forcing.invariant.0
         (rw w.has-value.ensures at (w.in_ok-is_barred.ensures.no w.in-No.is))),
     rw w.found-is w.in_ok-is_barred.ensures.found,
   )
   | in-Unknown+in_ok-is_barred+in-Unsettled w ↦ (
     rw (w.literals-is, w.exact-is)
-        (unshown_next (IsSettled c.args.order.now.game c.args.order.now.diagram c.args.limits (asks.Lost c.args.aim)) c.args.order.now.game c.args.order.now.diagram c.args.aim (choices c.args.order.now.decisions) c.args.product.now c.requires.remaining c.requires.meets c.forcing.literals.items c.forcing.feature c.forcing.exact c.forcing.invariant.0
+        (unshown_next (IsSettled c.args.order.now.game c.args.order.now.diagram c.args.limits (asks.Lost c.args.aim) (choices c.args.order.now.decisions)) c.args.order.now.game c.args.order.now.diagram c.args.aim (choices c.args.order.now.decisions) c.args.product.now c.requires.remaining c.requires.meets c.forcing.literals.items c.forcing.feature c.forcing.exact c.forcing.invariant.0
         (λ s. w.in_ok-is_barred.ensures.settled s w.in-Unsettled.is)),
     rw w.found-is w.in_ok-is_barred.ensures.found,
   )
   | in_default w ↦ (
     rw (w.literals-is, w.exact-is)
-        (known_next (IsSettled c.args.order.now.game c.args.order.now.diagram c.args.limits (asks.Lost c.args.aim)) c.args.order.now.game c.args.order.now.diagram c.args.aim (choices c.args.order.now.decisions) c.args.product.now c.requires.remaining c.requires.meets c.forcing.literals.items c.forcing.feature c.forcing.exact c.forcing.invariant.0
+        (known_next (IsSettled c.args.order.now.game c.args.order.now.diagram c.args.limits (asks.Lost c.args.aim) (choices c.args.order.now.decisions)) c.args.order.now.game c.args.order.now.diagram c.args.aim (choices c.args.order.now.decisions) c.args.product.now c.requires.remaining c.requires.meets c.forcing.literals.items c.forcing.feature c.forcing.exact c.forcing.invariant.0
         c.known-known.result.now c.games.ensures.is_diagram (subst (λ (k : List Tri). IsKnownTable c.args.order.now.diagram.lines (choices c.args.order.now.decisions) k) (sym (c.known-known.ensures ∙ ap (λ (g : GamesView). g.known) c.deref.ensures)) c.games.ensures.known)
         (λ e. w.in_default.not-Unknown (c.value-tri.ensures ∙ e))),
     rw w.found-is c.forcing.invariant.1,
@@ -44,7 +44,7 @@ forcing-preserved c = elim c.match-tri.branch [
 pub returns-clause-needs : goal.returns-clause-needs
 returns-clause-needs c =
     let order = c.args.order.now in
-    all_forced (IsSettled order.game order.diagram c.args.limits (asks.Lost c.args.aim)) order.game order.diagram c.args.aim (choices order.decisions) c.forcing.literals.items
+    all_forced (IsSettled order.game order.diagram c.args.limits (asks.Lost c.args.aim) (choices order.decisions)) order.game order.diagram c.args.aim (choices order.decisions) c.forcing.literals.items
     c.forcing.feature c.forcing.exact
     (omega (
       arith,

@@ -12,3 +12,7 @@ returns-clause-yes c =
 pub returns-clause-no : goal.returns-clause-no
 returns-clause-no c =
     rw (c.deref.ensures.value, c.in_ok-fewer.ensures, c.decisions.ensures.decisions) at c.in_ok-shown.ensures.no
+
+pub returns-clause-settled : goal.returns-clause-settled
+returns-clause-settled c =
+    rw (c.deref.ensures.value, c.in_ok-fewer.ensures, c.decisions.ensures.decisions) at c.in_ok-shown.ensures.settled

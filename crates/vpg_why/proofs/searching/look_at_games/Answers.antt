@@ -12,7 +12,7 @@ outlook_under-requires-clause-yes c e = subst (λ (k : List Tri). IsTopUnder c.a
 
 pub returns-clause-settled : goal.returns-clause-settled
 returns-clause-settled c s =
-    c.in_ok-found.ensures.settled (c.in_ok-shown.ensures.settled (s (choices c.args.decisions.now) c.args.games.now.known c.requires.games.known))
+    c.in_ok-found.ensures.settled (c.in_ok-shown.ensures.settled (s c.args.games.now.known c.requires.games.known))
 
 pub outlook_under-requires-clause-no : goal.outlook_under-requires-clause-no
 outlook_under-requires-clause-no c e = subst (λ (k : List Tri). IsLowUnder c.args.order.now.game c.args.which c.args.vertex k) (sym c.known.ensures) (c.in_ok-shown.ensures.low e)

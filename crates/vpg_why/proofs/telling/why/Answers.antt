@@ -31,3 +31,6 @@ get-requires c = grind (arith, common_steps)
 
 pub explain-requires-clause-named : goal.explain-requires-clause-named
 explain-requires-clause-named c = grind (arith, common_steps)
+
+pub returns-clause-settled : goal.returns-clause-settled
+returns-clause-settled c = rw c.decisions.ensures.decisions at c.in_ok-found.ensures.settled
