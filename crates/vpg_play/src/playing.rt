@@ -7,7 +7,7 @@ use crate::counter::Counter;
 use crate::noting::{
     Notes, put_failure, put_fault, put_harvest, put_order, put_page, put_verdicts,
 };
-use crate::tokens::{Change, Seat, Token, change, give_up, turn};
+use crate::tokens::{Change, Seat, Token, give_up, make_change, turn};
 use std::alloc::Global;
 use std::mem;
 use std::sync::Wait;
@@ -118,10 +118,10 @@ fn turn_token<L: Terms, R: Wait>(
 ) {
     let goes_on = player.dice.below(4) != 0;
     let feature = player.dice.below(player.play.features.clamp(1, 512)) as u16;
-    let change_to = change_by(&mut player.dice);
+    let change = change_by(&mut player.dice);
     let seat = &mut player.seat;
     let token = match mem::replace(slot, Token::Absent) {
-        Token::Absent => change(rt, alloc, office, seat, notes, feature, change_to),
+        Token::Absent => make_change(rt, alloc, office, seat, notes, feature, change),
         token => turn(rt, alloc, office, seat, notes, token, goes_on),
     };
     let rest = mem::replace(slot, token);

@@ -92,7 +92,7 @@ fn retract<L: Terms, R: Wait>(
 }
 
 /// Changes a feature, and returns the token of that.
-pub(crate) fn change<L: Terms, R: Wait>(
+pub(crate) fn make_change<L: Terms, R: Wait>(
     rt: &R,
     alloc: Global,
     office: &Office<L>,

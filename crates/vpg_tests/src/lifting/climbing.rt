@@ -9,7 +9,7 @@ use std::sync::atomic::{AtomicU64, Ordering};
 use std::test::*;
 use std::thread;
 use std::thread::Threads;
-use vpg_board::{Gate, OpenGate, sweep};
+use vpg_board::{Gate, OpenGate};
 use vpg_guess::Groundwork;
 use vpg_measure::{Harvest, Order};
 use vpg_settle::{LAST_SWEEPS, MANY_SWEEPS, swept};
@@ -114,7 +114,8 @@ impl Gate for Four {
     fn after_lift(&self, _lifter: u32) {}
 }
 
-fn four() -> Four {
+/// Returns a meeting to which none came.
+fn no_meeting() -> Four {
     Four {
         come: AtomicU64::new(0),
         met: AtomicU64::new(0),
@@ -122,17 +123,15 @@ fn four() -> Four {
 }
 
 /// Whether lifters 1 to 4 came and met, and no other.
-fn have_met(four: &Four) -> bool {
-    four.come.load(Ordering::SeqCst) == 30 && four.met.load(Ordering::SeqCst) == 4
+fn have_met(meeting: &Four) -> bool {
+    meeting.come.load(Ordering::SeqCst) == 30 && meeting.met.load(Ordering::SeqCst) == 4
 }
 
-/// Sweeps the order with four lifters: by a sweep, and by a line that asks for one. Returns the order then, and whether
-/// four met each time.
+/// Sweeps the order as by a line that asks for one sweep by four lifters. Returns the order then, and whether four met.
 fn by_four<R: Threads + Wait + Abort + AllocGlobal + Sync>(rt: &R, order: Order) -> (Order, bool) {
-    let (one, other) = (four(), four());
-    let order = sweep(rt, rt.alloc(), order, 4, &one).again();
-    let found = swept(rt, rt.alloc(), order, 1, 4, &other, &mut Groundwork::none());
-    let is_so = found.sweeps == 1 && have_met(&one) && have_met(&other);
+    let four = no_meeting();
+    let found = swept(rt, rt.alloc(), order, 1, 4, &four, &mut Groundwork::none());
+    let is_so = found.sweeps == 1 && have_met(&four);
     (found.harvest.again(), is_so)
 }
 
