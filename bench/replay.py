@@ -9,7 +9,8 @@ them by one lifter or several, commit, look, read by watches, and hand tokens, h
 Each tells its calls, with their answers and their places in the log. Here the calls of all are put in the order of
 these places, one for each place, and made again, one after another, on a book that copies whole pages. It has to give
 each answer, refusals and their numbers too. A harvest has to lie below the least tables of its decisions. What a watch
-reads has to be true of the page after so many calls, and its reads never go back. No token is missing at the end.
+reads has to be true of the page after so many calls; its reads never go back, and have each change of the session
+itself. No token is missing at the end.
 
 The closure and the lifts are those of oracle.py; the book is its own. Prints what differs and exits with 1 where
 anything does.
@@ -277,14 +278,15 @@ def replay(family, output):
 
 
 def look(lines, pages, published):
-    """What watches read is so, and fronts that meet become the longer one. A new watch has a sheet of the whole log."""
+    """What watches read is so, and fronts that meet become the longer one. A new watch has a sheet of the whole log, and
+    after a change that a session made its watch has that or a later one."""
     seen = {}
     anew = min((place for _, words, place in lines if words[0] == "watches"), default=len(pages))
     for session, words, place in lines:
         if words[0] == "meets" and place != max(int(words[1]), int(words[2])):
             raise Differs(f"fronts of {words[1]} and {words[2]} met, and that of session {session} has {place}")
-        if words[0] == "watches":
-            seen[session] = place
+        if words[0] == "watches" or words[0] in CHANGES and "refused" not in words:
+            seen[session] = max(place, seen.get(session, 0))
         if words[0] != "reads":
             continue
         if place < seen.get(session, 0) or place not in published and place < anew:
