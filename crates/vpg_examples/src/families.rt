@@ -20,13 +20,19 @@ const PLAIN: Manner = Manner {
     goes_on: false,
 };
 
-/// The folders of the families.
-const FAMILIES: [&str; 5] = [
-    "mine_pump",
-    "vending_machine",
-    "elevator",
-    "body_comfort",
-    "sessions",
+/// A script of a family: the line that stands before its answers, the folder, and the file.
+type Script = (&'static str, &'static str, &'static str);
+
+/// The scripts of the families, and those about each vertex and each product.
+const SCRIPTS: [Script; 8] = [
+    ("mine_pump", "mine_pump", "script"),
+    ("vending_machine", "vending_machine", "script"),
+    ("elevator", "elevator", "script"),
+    ("body_comfort", "body_comfort", "script"),
+    ("sessions", "sessions", "script"),
+    ("mine_pump, each product", "mine_pump", "each"),
+    ("vending_machine, each product", "vending_machine", "each"),
+    ("elevator, each product", "elevator", "each"),
 ];
 
 /// The folders of the families that are systems with requirements.
@@ -48,8 +54,8 @@ fn text_of(rt: &HostRuntime, alloc: Global, family: &str, file: &str) -> Result<
     Ok(fs::read(rt, path.as_str())?)
 }
 
-fn script_of(rt: &HostRuntime, alloc: Global, family: &str) -> Result<File> {
-    let path = path_of(alloc, family, "script")?;
+fn script_of(rt: &HostRuntime, alloc: Global, family: &str, file: &str) -> Result<File> {
+    let path = path_of(alloc, family, file)?;
     Ok(File::open(rt, path.as_str())?)
 }
 
@@ -77,16 +83,16 @@ fn answer<T: Threads + Wait + Sync>(
     }
 }
 
-/// Carries out the script of a family. The runtime is handed in twice: for its files, and for threads.
+/// Carries out a script of a family. The runtime is handed in twice: for its files, and for threads.
 fn carry_out<T: Threads + Wait + Sync>(
     rt: &HostRuntime,
     threads: &T,
     alloc: Global,
-    name: &str,
+    folder: &str,
+    file: &str,
 ) -> Result<()> {
-    println!(rt; "{name}")?;
-    let script = script_of(rt, alloc, name)?;
-    let family = family_in(rt, alloc, name)?;
+    let script = script_of(rt, alloc, folder, file)?;
+    let family = family_in(rt, alloc, folder)?;
     answer(rt, threads, alloc, &family, script)
 }
 
@@ -137,7 +143,7 @@ fn carry_out_system<T: Threads + Wait + Sync>(
         game: GamePaths::Model(files),
         diagram: diagram.as_str(),
     };
-    let script = script_of(rt, alloc, name)?;
+    let script = script_of(rt, alloc, name, "script")?;
     match read_known(rt, alloc, paths) {
         Ok(known) => answer_called(rt, threads, alloc, &known, script),
         Err(fault) => Err(fault.into()),
@@ -156,14 +162,15 @@ fn carry_out_systems<T: Threads + Wait + Sync>(
     Ok(())
 }
 
-/// Carries out the script of each family.
+/// Carries out the scripts of each family.
 pub(crate) fn carry_out_all<T: Threads + Wait + Sync>(
     rt: &HostRuntime,
     threads: &T,
     alloc: Global,
 ) -> Result<()> {
-    for name in FAMILIES {
-        carry_out(rt, threads, alloc, name).context(name)?;
+    for (title, folder, file) in SCRIPTS {
+        println!(rt; "{title}")?;
+        carry_out(rt, threads, alloc, folder, file).context(title)?;
     }
     carry_out_systems(rt, threads, alloc)
 }

@@ -23,8 +23,9 @@ pub(crate) enum Sitting {
 }
 
 /// Returns the board of an order, and its opening seat.
-fn board_of<R: Abort + AllocGlobal>(rt: &R, order: Order) -> (Board, Seat)
-    ensures { result.1.board ≡ result.0 }
+pub(crate) fn board_of<R: Abort + AllocGlobal>(rt: &R, order: Order) -> (Board, Seat)
+    ensures seat { result.1.board ≡ result.0 }
+    ensures order { result.0.order ≡ order }
 {
     match Board::open(rt.alloc(), order) {
         Ok(opened) => opened,

@@ -51,7 +51,7 @@ fn handed_in<R: Abort + AllocGlobal>(rt: &R, order: Order, rounds: u64) -> Harve
 }
 
 /// Returns a number of lifters that a sweep may have.
-fn few(rt: &impl Abort, lifters: u32) -> u32
+pub(crate) fn few(rt: &impl Abort, lifters: u32) -> u32
     ensures { (1 ≤ result) × (result ≤ 64) }
 {
     assert!(rt; 1 <= lifters && lifters <= 64);
