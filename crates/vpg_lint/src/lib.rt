@@ -19,6 +19,7 @@ mod naming;
 mod requirements;
 mod said;
 mod scripts;
+mod spots;
 mod systems;
 mod tokens;
 

@@ -6,10 +6,11 @@ ghost use Rattle.vpg_lint.specs.Messages.{offset_in_requirements, IsPlaceOf};
 use crate::diagrams::NAME_RULE;
 use crate::games::{behind, line_of, put_found_at, word_at};
 use crate::hints::{Kind, put_text_hint};
-use crate::message::{Message, put_hint, put_hint_line, put_hint_with};
+use crate::message::{Message, put_found, put_hint, put_hint_line, put_hint_with};
 use crate::naming::nearest_of;
 use crate::said::Said;
-use crate::tokens::tokens_of;
+use crate::spots::{Spot, spot_of};
+use crate::tokens::{is_one_of, tokens_of, word};
 use std::alloc::{AllocError, Global};
 use vpg_formula::RequirementFault;
 use vpg_places::{Word, place_of};
@@ -17,47 +18,11 @@ use vpg_places::{Word, place_of};
 /// How an entry is written.
 const ENTRY: &[u8] = b"an entry is written `NAME = FORMULA;`";
 
-/// Returns the word of a list at a place, empty if there is none.
-fn word<'t>(words: &[Word<'t>], place: usize) -> &'t [u8] {
-    match words.get(place) {
-        Some(word) => word.bytes,
-        None => b"",
-    }
-}
-
 /// Returns the word this many places before the last.
 fn last<'t>(words: &[Word<'t>], before: usize) -> &'t [u8] {
     match words.len().checked_sub(before.saturating_add(1)) {
         Some(place) => word(words, place),
         None => b"",
-    }
-}
-
-/// Whether the words end between `<` and `>`, or `[` and `]`.
-fn ends_in_path(words: &[Word<'_>]) -> bool {
-    let mut inside = false;
-    for word in words {
-        match word.bytes {
-            [b'<' | b'['] => inside = true,
-            [b'>' | b']'] => inside = false,
-            _ => {}
-        }
-    }
-    inside
-}
-
-/// Whether a word is one of these.
-fn is_one_of(word: &[u8], others: &[&str]) -> bool {
-    others.iter().any(|it| it.as_bytes() == word)
-}
-
-/// Returns what is expected after a word between `<` and `>`, or `[` and `]`.
-fn expected_in_path(before: &[u8]) -> &'static [u8] {
-    match before {
-        [b'<' | b'[' | b'(' | b'!' | b'.' | b'+' | b'&' | b'|'] => {
-            b"an action, `true`, `false`, `!` or `(`"
-        }
-        _ => b"`.`, `+`, `*`, `&&`, `||`, or what closes it",
     }
 }
 
@@ -69,14 +34,24 @@ fn ends_formula(before: &[u8], word: &[u8]) -> bool {
         _
             if is_one_of(
                 word,
-                &["again", "and", "always", "never", "possibly", "inevitably"],
+                &[
+                    "again",
+                    "and",
+                    "always",
+                    "never",
+                    "possibly",
+                    "inevitably",
+                    "deadlock",
+                    "mu",
+                    "nu",
+                ],
             ) => { false }
         [b, ..] => b.is_ascii_alphanumeric() || *b == b'_',
         [] => false,
     }
 }
 
-/// Returns what is expected after the last word outside of paths, if it comes after another.
+/// Returns what is expected after the last word where no actions are open, if it comes after another.
 fn expected_behind(before: &[u8], word: &[u8]) -> &'static [u8] {
     if word.is_empty() {
         return b"a formula, or entries `NAME = FORMULA;`";
@@ -90,7 +65,6 @@ fn expected_behind(before: &[u8], word: &[u8]) -> &'static [u8] {
         b"deadlock" => b"`free`",
         b"again" if before != b"and".as_slice() => b"`and again`",
         b"and" => b"`again`",
-        b"can" | b"will" | b"after" => b"an action, `true`, `!` or `(`",
         _ if ends_formula(before, word) => b"`&&`, `||`, `=>`, or the end of the formula",
         _ => b"a formula",
     }
@@ -98,16 +72,36 @@ fn expected_behind(before: &[u8], word: &[u8]) -> &'static [u8] {
 
 /// Returns what is expected after words.
 fn expected(words: &[Word<'_>]) -> &'static [u8] {
-    if ends_in_path(words) {
-        expected_in_path(last(words, 0))
-    } else {
-        expected_behind(last(words, 1), last(words, 0))
+    match spot_of(words) {
+        Spot::Formula => expected_behind(last(words, 1), last(words, 0)),
+        Spot::After => b"a formula",
+        Spot::Operand => b"an action, `true`, `false`, `!` or `(`",
+        Spot::Action => b"`&&`, `||` or `)`",
+        Spot::Path => b"`.`, `+`, `*`, `&&`, `||`, or what closes it",
+        Spot::Series => b"`.`, `+`, `*`, or what closes it",
+        Spot::Plus => b"an action, `!`, `(`, `.`, `+`, `*`, or what closes it",
+    }
+}
+
+/// Returns a hint on a sign that cannot stand where the words before it end.
+fn hint_of_spot(spot: Spot, found: &[u8]) -> Option<&'static [u8]> {
+    match (spot, found) {
+        (Spot::Action, [b'.' | b'+' | b'*', ..]) => {
+            Some(
+                b"`!`, `&&`, `||`, `can`, `will` and `after` take actions without `.`, `+` and `*`",
+            )
+        }
+        (Spot::Series | Spot::Plus, [b'&', b'&', ..] | [b'|', b'|', ..]) => {
+            Some(b"`&&` and `||` join actions without `.`, `+` and `*`; `+` joins any")
+        }
+        _ => None,
     }
 }
 
 /// Returns a hint on a sign that other formats use and this one does not.
 fn hint_of_sign(found: &[u8]) -> Option<&'static [u8]> {
     match found {
+        [b'&', b'&', ..] | [b'|', b'|', ..] => None,
         [b'#', ..] | [b'/', ..] => Some(b"a comment begins with `%`"),
         [b'&', ..] => Some(b"`&&` stands for and"),
         [b'|', ..] => Some(b"`||` stands for or"),
@@ -142,7 +136,8 @@ fn hint_of_two(words: &[Word<'_>], found: &[u8]) -> Option<&'static [u8]> {
     let begins = found
         .first()
         .is_some_and(|b| b.is_ascii_alphabetic() || *b == b'_');
-    if begins && !ends_in_path(words) && ends_formula(last(words, 1), last(words, 0)) {
+    let is_formula = matches!(spot_of(words), Spot::Formula);
+    if begins && is_formula && ends_formula(last(words, 1), last(words, 0)) {
         Some(b"is `&&`, `||`, or the `;` of an entry missing before it?")
     } else {
         None
@@ -153,6 +148,7 @@ fn hint_of_two(words: &[Word<'_>], found: &[u8]) -> Option<&'static [u8]> {
 fn put_syntax_hint(text: &[u8], at: usize, words: &[Word<'_>], out: &mut Said) {
     let found = behind(text, at);
     let hint = hint_of_word(word_at(text, at))
+        .or(hint_of_spot(spot_of(words), found))
         .or(hint_of_sign(found))
         .or(hint_of_two(words, found));
     if let Some(hint) = hint {
@@ -169,10 +165,20 @@ fn words_before<'a, 't>(words: &'a [Word<'t>], at: usize) -> &'a [Word<'t>] {
     words.get(..count).unwrap_or(words)
 }
 
+/// Returns the word, the sign, or the one byte, at an offset.
+fn found_at(text: &[u8], at: usize) -> &[u8] {
+    match behind(text, at) {
+        [b'&', b'&', ..] => b"&&",
+        [b'|', b'|', ..] => b"||",
+        [b'=', b'>', ..] => b"=>",
+        _ => word_at(text, at),
+    }
+}
+
 /// Appends what stands at an offset where it cannot.
 fn put_syntax(text: &[u8], at: usize, words: &[Word<'_>], out: &mut Said) {
     let before = words_before(words, at);
-    put_found_at(text, at, expected(before), out);
+    put_found(found_at(text, at), b"the text", expected(before), out);
     put_syntax_hint(text, at, before, out)
 }
 
@@ -340,9 +346,9 @@ fn put_placed(
         RequirementFault::Syntax { .. } => put_syntax(text, at, words, out),
         RequirementFault::UnknownVariable { .. } => put_unknown(alloc, text, at, words, out),
         RequirementFault::TooDeep { .. } => {
-            put_found_at(
-                text,
-                at,
+            put_found(
+                found_at(text, at),
+                b"the text",
                 b"at most 64 parts that are open at one place",
                 out,
             )

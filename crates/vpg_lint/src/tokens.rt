@@ -110,3 +110,16 @@ pub(crate) fn tokens_of<'t>(alloc: Global, text: &'t [u8]) -> Result<Vec<Word<'t
     } = tokens;
     Ok(words)
 }
+
+/// Returns the word of a list at a place, empty if there is none.
+pub(crate) fn word<'t>(words: &[Word<'t>], place: usize) -> &'t [u8] {
+    match words.get(place) {
+        Some(word) => word.bytes,
+        None => b"",
+    }
+}
+
+/// Whether a word is one of these.
+pub(crate) fn is_one_of(word: &[u8], others: &[&str]) -> bool {
+    others.iter().any(|it| it.as_bytes() == word)
+}

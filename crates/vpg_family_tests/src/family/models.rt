@@ -43,7 +43,13 @@ a0 = <a>can b && can a; a1 = a0 && a0; a2 = a1 && a1; a3 = a2 && a2; a4 = a3 && 
 a6 = a5 && a5; a7 = a6 && a6; a8 = a7 && a7; a9 = a8 && a8; a10 = a9 && a9; a11 = a10 && a10;\n\
 a12 = a11 && a11; a13 = a12 && a12; a14 = a13 && a13;\n";
 
-static ROWS: [Row; 21] = [
+/// A requirement with more parts open at one place than there may be.
+const DEEP: &str = "!!!!!!!!!!!!!!!!!!!!!!!!!!!!!!!!!!!!!!!!!!!!!!!!!!!!!!!!!!!!!!!!!";
+
+/// A requirement that is cut short where as many parts are open as there may be.
+const CUT: &str = "!!!!!!!!!!!!!!!!!!!!!!!!!!!!!!!!!!!!!!!!!!!!!!!!!!!!!!!!!!!!!!!!&";
+
+static ROWS: [Row; 28] = [
     Row {
         diagram: "root",
         system: "",
@@ -168,6 +174,74 @@ modelled_requirements:2:1: found `safe`; expected `&&`, `||`, `=>`, or the end o
         told: "\
 vpgdesk: requirements Syntax 8
 modelled_requirements:1:9: found `;`; expected `.`, `+`, `*`, `&&`, `||`, or what closes it
+",
+    },
+    Row {
+        diagram: DIAGRAM,
+        system: SYSTEM,
+        requirements: "[!(a . b)]true",
+        told: "\
+vpgdesk: requirements Syntax 5
+modelled_requirements:1:6: found `.`; expected `&&`, `||` or `)`
+  hint: `!`, `&&`, `||`, `can`, `will` and `after` take actions without `.`, `+` and `*`
+",
+    },
+    Row {
+        diagram: DIAGRAM,
+        system: SYSTEM,
+        requirements: "[(a . b) && c]true",
+        told: "\
+vpgdesk: requirements Syntax 9
+modelled_requirements:1:10: found `&&`; expected `.`, `+`, `*`, or what closes it
+  hint: `&&` and `||` join actions without `.`, `+` and `*`; `+` joins any
+",
+    },
+    Row {
+        diagram: DIAGRAM,
+        system: SYSTEM,
+        requirements: "[a && (b*)]true",
+        told: "\
+vpgdesk: requirements Syntax 8
+modelled_requirements:1:9: found `*`; expected `&&`, `||` or `)`
+  hint: `!`, `&&`, `||`, `can`, `will` and `after` take actions without `.`, `+` and `*`
+",
+    },
+    Row {
+        diagram: DIAGRAM,
+        system: SYSTEM,
+        requirements: "can (a || b . c)",
+        told: "\
+vpgdesk: requirements Syntax 12
+modelled_requirements:1:13: found `.`; expected `&&`, `||` or `)`
+  hint: `!`, `&&`, `||`, `can`, `will` and `after` take actions without `.`, `+` and `*`
+",
+    },
+    Row {
+        diagram: DIAGRAM,
+        system: SYSTEM,
+        requirements: "deadlock fret",
+        told: "\
+vpgdesk: requirements Syntax 9
+modelled_requirements:1:10: found `fret`; expected `free`
+",
+    },
+    Row {
+        diagram: DIAGRAM,
+        system: SYSTEM,
+        requirements: DEEP,
+        told: "\
+vpgdesk: requirements TooDeep 64
+modelled_requirements:1:65: found `!`; expected at most 64 parts that are open at one place
+",
+    },
+    Row {
+        diagram: DIAGRAM,
+        system: SYSTEM,
+        requirements: CUT,
+        told: "\
+vpgdesk: requirements Syntax 64
+modelled_requirements:1:65: found `&`; expected a formula
+  hint: `&&` stands for and
 ",
     },
     Row {
