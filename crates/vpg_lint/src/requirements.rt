@@ -88,11 +88,11 @@ fn hint_of_spot(spot: Spot, found: &[u8]) -> Option<&'static [u8]> {
     match (spot, found) {
         (Spot::Action, [b'.' | b'+' | b'*', ..]) => {
             Some(
-                b"`!`, `&&`, `||`, `can`, `will` and `after` take actions without `.`, `+` and `*`",
+                b"`!`, `&&`, `||`, `can`, `will` and `after` take action formulas, without `.`, `+` and `*`",
             )
         }
         (Spot::Series | Spot::Plus, [b'&', b'&', ..] | [b'|', b'|', ..]) => {
-            Some(b"`&&` and `||` join actions without `.`, `+` and `*`; `+` joins any")
+            Some(b"`&&` and `||` join action formulas; `+` joins regular formulas")
         }
         _ => None,
     }

@@ -49,7 +49,7 @@ const DEEP: &str = "!!!!!!!!!!!!!!!!!!!!!!!!!!!!!!!!!!!!!!!!!!!!!!!!!!!!!!!!!!!!
 /// A requirement that is cut short where as many parts are open as there may be.
 const CUT: &str = "!!!!!!!!!!!!!!!!!!!!!!!!!!!!!!!!!!!!!!!!!!!!!!!!!!!!!!!!!!!!!!!!&";
 
-static ROWS: [Row; 28] = [
+static ROWS: [Row; 30] = [
     Row {
         diagram: "root",
         system: "",
@@ -183,7 +183,7 @@ modelled_requirements:1:9: found `;`; expected `.`, `+`, `*`, `&&`, `||`, or wha
         told: "\
 vpgdesk: requirements Syntax 5
 modelled_requirements:1:6: found `.`; expected `&&`, `||` or `)`
-  hint: `!`, `&&`, `||`, `can`, `will` and `after` take actions without `.`, `+` and `*`
+  hint: `!`, `&&`, `||`, `can`, `will` and `after` take action formulas, without `.`, `+` and `*`
 ",
     },
     Row {
@@ -193,7 +193,7 @@ modelled_requirements:1:6: found `.`; expected `&&`, `||` or `)`
         told: "\
 vpgdesk: requirements Syntax 9
 modelled_requirements:1:10: found `&&`; expected `.`, `+`, `*`, or what closes it
-  hint: `&&` and `||` join actions without `.`, `+` and `*`; `+` joins any
+  hint: `&&` and `||` join action formulas; `+` joins regular formulas
 ",
     },
     Row {
@@ -203,7 +203,7 @@ modelled_requirements:1:10: found `&&`; expected `.`, `+`, `*`, or what closes i
         told: "\
 vpgdesk: requirements Syntax 8
 modelled_requirements:1:9: found `*`; expected `&&`, `||` or `)`
-  hint: `!`, `&&`, `||`, `can`, `will` and `after` take actions without `.`, `+` and `*`
+  hint: `!`, `&&`, `||`, `can`, `will` and `after` take action formulas, without `.`, `+` and `*`
 ",
     },
     Row {
@@ -213,7 +213,26 @@ modelled_requirements:1:9: found `*`; expected `&&`, `||` or `)`
         told: "\
 vpgdesk: requirements Syntax 12
 modelled_requirements:1:13: found `.`; expected `&&`, `||` or `)`
-  hint: `!`, `&&`, `||`, `can`, `will` and `after` take actions without `.`, `+` and `*`
+  hint: `!`, `&&`, `||`, `can`, `will` and `after` take action formulas, without `.`, `+` and `*`
+",
+    },
+    Row {
+        diagram: DIAGRAM,
+        system: SYSTEM,
+        requirements: "[a+ && b]true",
+        told: "\
+vpgdesk: requirements Syntax 4
+modelled_requirements:1:5: found `&&`; expected an action, `!`, `(`, `.`, `+`, `*`, or what closes it
+  hint: `&&` and `||` join action formulas; `+` joins regular formulas
+",
+    },
+    Row {
+        diagram: DIAGRAM,
+        system: SYSTEM,
+        requirements: "after (a) && b",
+        told: "\
+vpgdesk: requirements Syntax 10
+modelled_requirements:1:11: found `&&`; expected a formula
 ",
     },
     Row {
