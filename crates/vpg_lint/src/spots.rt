@@ -47,13 +47,18 @@ fn closes(words: &[Word<'_>], place: usize) -> bool {
     }
 }
 
+/// Whether the word at a place opens what another one closes.
+fn opens(words: &[Word<'_>], place: usize) -> bool {
+    matches!(sign(words, place), b'(' | b'[' | b'<')
+}
+
 /// Returns the place of the last word before an end that opens what is not closed there.
 fn opening(words: &[Word<'_>], end: usize) -> Option<usize> {
     let mut closed = 0usize;
     for place in (0..end).rev() {
         if closes(words, place) {
             closed = closed.saturating_add(1);
-        } else if matches!(sign(words, place), b'(' | b'[' | b'<') {
+        } else if opens(words, place) {
             if closed == 0 {
                 return Some(place);
             }
@@ -91,17 +96,19 @@ fn is_of_actions(words: &[Word<'_>], place: usize) -> bool {
 
 /// Whether the words end in a path, or in an action: and if so, whether only actions may stand there.
 fn actions(words: &[Word<'_>]) -> Option<bool> {
-    let mut end = words.len();
+    let mut closed = 0usize;
     let mut only = false;
-    while let Some(place) = opening(words, end) {
-        if sign(words, place) != b'(' {
-            return Some(only);
+    for place in (0..words.len()).rev() {
+        if closes(words, place) {
+            closed = closed.saturating_add(1);
+        } else if closed > 0 && opens(words, place) {
+            closed = closed.saturating_sub(1);
+        } else if opens(words, place) {
+            if sign(words, place) != b'(' || is_behind(words, place, &TAKES) {
+                return Some(only || sign(words, place) == b'(');
+            }
+            only = only || is_of_actions(words, place);
         }
-        if is_behind(words, place, &TAKES) {
-            return Some(true);
-        }
-        only = only || is_of_actions(words, place);
-        end = place;
     }
     None
 }
