@@ -1,3 +1,4 @@
+mod Alike
 pub mod Calling
 pub mod Committing
 pub mod Counting
