@@ -1,4 +1,4 @@
-mod Alike
+mod Agreeing
 pub mod Calling
 pub mod Committing
 pub mod Counting

@@ -96,9 +96,9 @@ fn one_raises_to_top(desk: &Desk, entries: &[Entry]) -> bool
     false
 }
 
-/// Whether a call left the verdicts. The page before it had `before` entries, and `alike` is about that page. If the call
-/// only appended entries, none of them may raise a value to the top. A retraction may remove nothing but its decision,
-/// and an undo or a redo has to return to a page that is known to have these verdicts.
+/// Whether a call left the verdicts. The page before it had `before` entries, and `alike` is about that page. Entries
+/// that it appended may raise no value to the top. A retraction may remove nothing but its decision. An undo or a redo
+/// has to return to a page that is known to have these verdicts.
 fn verdicts_stay(desk: &Desk, alike: Alike, asked: &Asked, before: usize) -> bool
     requires { IsTrue (only_appends asked.now) → before ≤ length desk.now.book.present }
     ensures { IsTrue result → (old : Book) (answer : Answer) →

@@ -5,7 +5,7 @@ use Rattle.vpg_trail.specs.Page.{Which, Entry, Decided, Lifted, same_table, valu
 use Rattle.vpg_trail.proofs.PageLemmas.{value_at-append}
 use Rattle.vpg_desk.specs.Book.{Family, Book, Kept, Call, Decide, Retract, Undo, Redo, Keep, Forget, Order, Commit, Settled, Verdict, Page, Reply, Changed, Undone as UndoneIs, Redone as RedoneIs, Answers, IsReply, Refuses, after, next, is_refusal, in_front_of, refuses_undo, refuses_redo, serials_of, undone, undone_to, redone, redone_to}
 use Rattle.vpg_office.specs.Story.{call_of, reply_of}
-use Rattle.vpg_office.specs.Told.{AgreeOnTops, AreAlike, Leads, NearestAgree}
+use Rattle.vpg_office.specs.Told.{AgreeOnTops, AreAlike, Leads, NearestAgree, only_appends}
 use Rattle.vpg_office.specs.declared.alike.Alike.{Alike}
 use Rattle.vpg_office.specs.declared.asked.Answer.{Answer}
 use Rattle.vpg_office.specs.declared.asked.Asked.{Asked}
@@ -220,16 +220,37 @@ agree_next family old new session call reply is agree = subst (λ (b : Book). Ag
     go true = λ which v. refl
     go false = agree
 
-module _ (family : Family) (old new : Book) (answer : Answer) where
-  pub undo_agrees : (s n : ℕ) → Leads family old (ask.Undo s) answer new → 0 < n → NearestAgree family old.present n old.past → AgreeOnTops family old.present new.present
-  undo_agrees s n (session, (reply, is)) some near = agree_next family old new session (Undo s) (reply_of family old.present answer) is (undone_agrees family old n old.past some near)
+module _ (family : Family) (old new : Book) (answer : Answer) {asked : Asked} where
+  pub undo_agrees : {s : ℕ} → asked ≡ ask.Undo s → (n : ℕ) → Leads family old asked answer new → 0 < n → NearestAgree family old.present n old.past → AgreeOnTops family old.present new.present
+  undo_agrees {s} of n leads some near =
+      let made : Leads family old (ask.Undo s) answer new = subst (λ (a : Asked). Leads family old a answer new) of leads in
+      agree_next family old new made.0 (Undo s) (reply_of family old.present answer) made.1.1 (undone_agrees family old n old.past some near)
 
-  pub redo_agrees : (s n : ℕ) → Leads family old (ask.Redo s) answer new → 0 < n → NearestAgree family old.present n old.future → AgreeOnTops family old.present new.present
-  redo_agrees s n (session, (reply, is)) some near = agree_next family old new session (Redo s) (reply_of family old.present answer) is (redone_agrees family old n old.future some near)
+  pub redo_agrees : {s : ℕ} → asked ≡ ask.Redo s → (n : ℕ) → Leads family old asked answer new → 0 < n → NearestAgree family old.present n old.future → AgreeOnTops family old.present new.present
+  redo_agrees {s} of n leads some near =
+      let made : Leads family old (ask.Redo s) answer new = subst (λ (a : Asked). Leads family old a answer new) of leads in
+      agree_next family old new made.0 (Redo s) (reply_of family old.present answer) made.1.1 (redone_agrees family old n old.future some near)
 
-  pub retract_agrees : (f : ℕ) → Leads family old (ask.Retract f) answer new → length new.present + 1 ≡ length old.present → AgreeOnTops family old.present new.present
-  retract_agrees f (session, (reply, is)) few = subst (λ (b : Book). AgreeOnTops family old.present b.present) (sym is) (go (is_refusal (reply_of family old.present answer)) (ap (λ (b : Book). length b.present + 1) (sym is) ∙ few))
+  pub retract_agrees : {f : ℕ} → asked ≡ ask.Retract f → Leads family old asked answer new → length new.present + 1 ≡ length old.present → AgreeOnTops family old.present new.present
+  retract_agrees {f} of leads few =
+      let made : Leads family old (ask.Retract f) answer new = subst (λ (a : Asked). Leads family old a answer new) of leads in
+      subst (λ (b : Book). AgreeOnTops family old.present b.present) (sym made.1.1)
+      (go made.0 (is_refusal (reply_of family old.present answer)) (ap (λ (b : Book). length b.present + 1) (sym made.1.1) ∙ few))
     where
-      go : (b : Bool) → length (cond b old (after family old session (Retract f))).present + 1 ≡ length old.present → AgreeOnTops family old.present (cond b old (after family old session (Retract f))).present
-      go true e = λ which v. refl
-      go false e = retracted_agrees family f old.present e
+      go : (session : ℕ) (b : Bool) → length (cond b old (after family old session (Retract f))).present + 1 ≡ length old.present → AgreeOnTops family old.present (cond b old (after family old session (Retract f))).present
+      go session true e = λ which v. refl
+      go session false e = retracted_agrees family f old.present e
+
+-- the other calls only append entries
+pub appends_else : (asked : Asked) → ((f : ℕ) → asked ≡ ask.Retract f → ⊥) → ((s : ℕ) → asked ≡ ask.Undo s → ⊥) → ((s : ℕ) → asked ≡ ask.Redo s → ⊥) → only_appends asked ≡ true
+appends_else (ask.Decide f value) retract undo redo = refl
+appends_else (ask.Retract f) retract undo redo = absurd (retract f refl)
+appends_else (ask.Undo s) retract undo redo = absurd (undo s refl)
+appends_else (ask.Redo s) retract undo redo = absurd (redo s refl)
+appends_else (ask.Keep s) retract undo redo = refl
+appends_else (ask.Forget s) retract undo redo = refl
+appends_else ask.Order retract undo redo = refl
+appends_else (ask.Commit harvest) retract undo redo = refl
+appends_else ask.Settled retract undo redo = refl
+appends_else (ask.Verdict v) retract undo redo = refl
+appends_else ask.Page retract undo redo = refl
