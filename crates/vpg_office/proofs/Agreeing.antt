@@ -8,6 +8,7 @@ use Rattle.vpg_office.specs.Story.{call_of, reply_of}
 use Rattle.vpg_office.specs.Told.{AgreeOnTops, AreAlike, Leads, NearestAgree, only_appends}
 use Rattle.vpg_office.specs.declared.alike.Alike.{Alike}
 use Rattle.vpg_office.specs.declared.asked.Answer.{Answer}
+use Rattle.vpg_office.specs.declared.asked.Answer.TheVariants.{Changed as ChangedTo, Undone, Redone, Spent, Ordered, Added, IsSettled, VerdictIs, PageIs, Refused}
 use Rattle.vpg_office.specs.declared.asked.Asked.{Asked}
 use Rattle.vpg_office.specs.declared.asked.Asked.TheVariants as ask
 
@@ -33,11 +34,11 @@ nearest_fewer family page (suc m) (suc n) (kept ∷ pages) less near = (near.0, 
 nearest_in_front : (family : Family) (page : List Entry) (s n : ℕ) (pages : List Kept) → NearestAgree family page n pages → NearestAgree family page n (in_front_of s pages)
 nearest_in_front family page s zero pages near = tt
 nearest_in_front family page s (suc n) [] near = tt
-nearest_in_front family page s (suc n) (kept ∷ pages) near = go (kept.serial == s)
+nearest_in_front family page s (suc n) (kept ∷ pages) near = go (kept.serial == s) (nearest_in_front family page s n pages near.1)
   where
-    go : (b : Bool) → NearestAgree family page (suc n) (cond b [] (kept ∷ in_front_of s pages))
-    go true = tt
-    go false = (near.0, nearest_in_front family page s n pages near.1)
+    go : (b : Bool) → NearestAgree family page n (in_front_of s pages) → NearestAgree family page (suc n) (cond b [] (kept ∷ in_front_of s pages))
+    go true further = tt
+    go false further = (near.0, further)
 
 -- the nearest page takes the place of the present one
 rest : (family : Family) (page other : List Entry) (m n : ℕ) (kept : Kept) (pages : List Kept) → AgreeOnTops family page other → m ≤ n - 1 → NearestAgree family page n (kept ∷ pages) → NearestAgree family other m pages
@@ -52,24 +53,24 @@ one_more family page other m n kept pages agree less is near =
 
 -- ---- the book after each reply
 
-record Undoes (old new : Book) : Type 0 where
-  newest : Kept
-  older : List Kept
-  past : old.past ≡ newest ∷ older
-  is : new ≡ undone_to old newest older
+pub record Undoes (old new : Book) : Type 0 where
+  pub newest : Kept
+  pub older : List Kept
+  pub past : old.past ≡ newest ∷ older
+  pub is : new ≡ undone_to old newest older
 
-record Redoes (old new : Book) : Type 0 where
-  nearest : Kept
-  further : List Kept
-  future : old.future ≡ nearest ∷ further
-  is : new ≡ redone_to old nearest further
+pub record Redoes (old new : Book) : Type 0 where
+  pub nearest : Kept
+  pub further : List Kept
+  pub future : old.future ≡ nearest ∷ further
+  pub is : new ≡ redone_to old nearest further
 
 -- pages that agreed with any page still do
-record Keeps (family : Family) (old new : Book) : Type 0 where
-  past : (page : List Entry) (n : ℕ) → NearestAgree family page n old.past → NearestAgree family page n new.past
-  future : (page : List Entry) (n : ℕ) → NearestAgree family page n old.future → NearestAgree family page n new.future
+pub record Keeps (family : Family) (old new : Book) : Type 0 where
+  pub past : (page : List Entry) (n : ℕ) → NearestAgree family page n old.past → NearestAgree family page n new.past
+  pub future : (page : List Entry) (n : ℕ) → NearestAgree family page n old.future → NearestAgree family page n new.future
 
-abbrev Follows : Family → Book → Reply → Book → Type 0
+abbrev pub Follows : Family → Book → Reply → Book → Type 0
 Follows family old (Changed s) new = new.past ≡ record { serial = old.changes + 1; page = old.present } ∷ old.past
 Follows family old (UndoneIs s) new = Undoes old new
 Follows family old (RedoneIs s) new = Redoes old new
@@ -111,45 +112,60 @@ module _ (family : Family) (b : Book) (session : ℕ) where
   follows call reply (Some r, (refuses, told)) = subst (λ (x : Reply). Follows family b x (next family b session call x)) (sym told) stays
   follows call reply (None, (refuses, told)) = answered call reply refuses told
 
-pub leads_to : (family : Family) (old new : Book) (asked : Asked) (answer : Answer) → Leads family old asked answer new → Follows family old (reply_of family old.present answer) new
-leads_to family old new asked answer (session, (reply, is)) =
-    subst (Follows family old (reply_of family old.present answer)) (sym is) (follows family old session (call_of asked answer) (reply_of family old.present answer) reply)
+leads_to : (family : Family) (old new : Book) (asked : Asked) (answer : Answer) → Leads family old asked answer new → Follows family old (reply_of family old.present answer) new
+leads_to family old new asked answer leads =
+    subst (Follows family old (reply_of family old.present answer)) (sym leads.1.1) (follows family old leads.0 (call_of asked answer) (reply_of family old.present answer) leads.1.0)
 
 -- ---- pages alike after a call
 
-module _ (family : Family) (old new : Book) (alike : Alike) (near : AreAlike family old alike) where
-  pub none_alike : AreAlike family new (record { past = 0; future = 0 })
-  none_alike = record { past = tt; future = tt }
+module _ (family : Family) (old new : Book) (asked : Asked) (answer : Answer) (leads : Leads family old asked answer new) (alike : Alike) (near : AreAlike family old alike) (agree : AgreeOnTops family old.present new.present) where
+  replied : (a : Answer) → answer ≡ a → Follows family old (reply_of family old.present a) new
+  replied a is = subst (λ (x : Answer). Follows family old (reply_of family old.present x) new) is (leads_to family old new asked answer leads)
 
-  module _ (agree : AgreeOnTops family old.present new.present) where
-    pub changed_alike : (s m : ℕ) → Follows family old (Changed s) new → m ≤ alike.past + 1 → AreAlike family new (record { past = m; future = 0 })
-    changed_alike s m is less = record {
-      past = subst (NearestAgree family new.present m) (sym is)
-          (one_more family old.present new.present m alike.past (record { serial = old.changes + 1; page = old.present }) old.past agree less refl near.past);
-      future = tt;
-    }
+  pub changed_alike : {s : ℕ} → answer ≡ ChangedTo s → (m : ℕ) → m ≤ alike.past + 1 → AreAlike family new (record { past = m; future = 0 })
+  changed_alike {s} of m less = record {
+    past = subst (NearestAgree family new.present m) (sym (replied (ChangedTo s) of))
+        (one_more family old.present new.present m alike.past (record { serial = old.changes + 1; page = old.present }) old.past agree less refl near.past);
+    future = tt;
+  }
 
-    pub undone_alike : (s m n : ℕ) → Follows family old (UndoneIs s) new → m ≤ alike.past - 1 → n ≤ alike.future + 1 → AreAlike family new (record { past = m; future = n })
-    undone_alike s m n u less more =
-        let with_newest : AgreeOnTops family old.present u.newest.page = subst (λ (b : Book). AgreeOnTops family old.present b.present) u.is agree in
-        subst (λ (b : Book). AreAlike family b (record { past = m; future = n })) (sym u.is) (record {
-          past = rest family old.present u.newest.page m alike.past u.newest u.older with_newest less (subst (NearestAgree family old.present alike.past) u.past near.past);
-          future = one_more family old.present u.newest.page n alike.future (record { serial = u.newest.serial; page = old.present }) old.future with_newest more refl near.future;
-        })
+  pub undone_alike : {s : ℕ} → answer ≡ Undone s → (m n : ℕ) → m ≤ alike.past - 1 → n ≤ alike.future + 1 → AreAlike family new (record { past = m; future = n })
+  undone_alike {s} of m n less more =
+      let u : Undoes old new = replied (Undone s) of in
+      let with_newest : AgreeOnTops family old.present u.newest.page = subst (λ (b : Book). AgreeOnTops family old.present b.present) u.is agree in
+      subst (λ (b : Book). AreAlike family b (record { past = m; future = n })) (sym u.is) (record {
+        past = rest family old.present u.newest.page m alike.past u.newest u.older with_newest less (subst (NearestAgree family old.present alike.past) u.past near.past);
+        future = one_more family old.present u.newest.page n alike.future (record { serial = u.newest.serial; page = old.present }) old.future with_newest more refl near.future;
+      })
 
-    pub redone_alike : (s m n : ℕ) → Follows family old (RedoneIs s) new → m ≤ alike.past + 1 → n ≤ alike.future - 1 → AreAlike family new (record { past = m; future = n })
-    redone_alike s m n u more less =
-        let with_nearest : AgreeOnTops family old.present u.nearest.page = subst (λ (b : Book). AgreeOnTops family old.present b.present) u.is agree in
-        subst (λ (b : Book). AreAlike family b (record { past = m; future = n })) (sym u.is) (record {
-          past = one_more family old.present u.nearest.page m alike.past (record { serial = u.nearest.serial; page = old.present }) old.past with_nearest more refl near.past;
-          future = rest family old.present u.nearest.page n alike.future u.nearest u.further with_nearest less (subst (NearestAgree family old.present alike.future) u.future near.future);
-        })
+  pub redone_alike : {s : ℕ} → answer ≡ Redone s → (m n : ℕ) → m ≤ alike.past + 1 → n ≤ alike.future - 1 → AreAlike family new (record { past = m; future = n })
+  redone_alike {s} of m n more less =
+      let u : Redoes old new = replied (Redone s) of in
+      let with_nearest : AgreeOnTops family old.present u.nearest.page = subst (λ (b : Book). AgreeOnTops family old.present b.present) u.is agree in
+      subst (λ (b : Book). AreAlike family b (record { past = m; future = n })) (sym u.is) (record {
+        past = one_more family old.present u.nearest.page m alike.past (record { serial = u.nearest.serial; page = old.present }) old.past with_nearest more refl near.past;
+        future = rest family old.present u.nearest.page n alike.future u.nearest u.further with_nearest less (subst (NearestAgree family old.present alike.future) u.future near.future);
+      })
 
-    pub kept_alike : Keeps family old new → AreAlike family new alike
-    kept_alike keeps = record {
-      past = keeps.past new.present alike.past (nearest_moved family old.present new.present alike.past old.past agree near.past);
-      future = keeps.future new.present alike.future (nearest_moved family old.present new.present alike.future old.future agree near.future);
-    }
+  keeps_else : (a : Answer) → ((s : ℕ) → a ≡ ChangedTo s → ⊥) → ((s : ℕ) → a ≡ Undone s → ⊥) → ((s : ℕ) → a ≡ Redone s → ⊥) → Follows family old (reply_of family old.present a) new → Keeps family old new
+  keeps_else (ChangedTo s) changed undone redone f = absurd (changed s refl)
+  keeps_else (Undone s) changed undone redone f = absurd (undone s refl)
+  keeps_else (Redone s) changed undone redone f = absurd (redone s refl)
+  keeps_else Spent changed undone redone f = f
+  keeps_else Ordered changed undone redone f = f
+  keeps_else (Added n) changed undone redone f = f
+  keeps_else (IsSettled b) changed undone redone f = f
+  keeps_else (VerdictIs hopeless sure) changed undone redone f = f
+  keeps_else PageIs changed undone redone f = f
+  keeps_else (Refused cause) changed undone redone f = f
+
+  pub kept_alike : ((s : ℕ) → answer ≡ ChangedTo s → ⊥) → ((s : ℕ) → answer ≡ Undone s → ⊥) → ((s : ℕ) → answer ≡ Redone s → ⊥) → AreAlike family new alike
+  kept_alike changed undone redone =
+      let keeps : Keeps family old new = keeps_else answer changed undone redone (leads_to family old new asked answer leads) in
+      record {
+        past = keeps.past new.present alike.past (nearest_moved family old.present new.present alike.past old.past agree near.past);
+        future = keeps.future new.present alike.future (nearest_moved family old.present new.present alike.future old.future agree near.future);
+      }
 
 -- ---- undo and redo to a page that is alike
 
@@ -167,11 +183,11 @@ redone_agrees family b (suc n) (nearest ∷ further) some near = near.0
 
 whole : {X : Type 0} (p : X → Bool) (xs : List X) → length (filter p xs) ≡ length xs → filter p xs ≡ xs
 whole p [] all = refl
-whole {X} p (x ∷ xs) all = go (p x) all
+whole {X} p (x ∷ xs) all = go (p x) (whole p xs) all
   where
-    go : (b : Bool) → length (cond b (x ∷ filter p xs) (filter p xs)) ≡ length (x ∷ xs) → cond b (x ∷ filter p xs) (filter p xs) ≡ x ∷ xs
-    go true e = ap (λ (l : List X). x ∷ l) (whole p xs (omega (arith, e)))
-    go false e = absurd (omega (arith, e, length-filter_both p (λ y. not (p y)) (λ y. refl) xs))
+    go : (b : Bool) → (length (filter p xs) ≡ length xs → filter p xs ≡ xs) → length (cond b (x ∷ filter p xs) (filter p xs)) ≡ length (x ∷ xs) → cond b (x ∷ filter p xs) (filter p xs) ≡ x ∷ xs
+    go true further e = ap (λ (l : List X). x ∷ l) (further (omega (arith, e)))
+    go false further e = absurd (omega (arith, e, length-filter_both p (λ y. not (p y)) (λ y. refl) xs))
 
 value_at-reset : (which : Which) (v : ℕ) (before later : List Entry) → value_at which v (reset_all before later) ≡ value_at which v later
 value_at-reset which v before [] = refl
@@ -191,12 +207,13 @@ same_values : (f : ℕ) (which : Which) (v : ℕ) (page : List Entry) → length
 same_values f which v [] few = absurd (omega (arith, few))
 same_values f which v (Lifted l ∷ page) few =
     ap (max (cond (same_table which l.table && (v == l.vertex)) l.new 0)) (same_values f which v page (omega (arith, few)))
-same_values f which v (Decided d ∷ page) few = go (d.feature == f) few
+same_values f which v (Decided d ∷ page) few = go (d.feature == f) (same_values f which v page) few
   where
-    go : (b : Bool) → length (cond b [] (Decided d ∷ before_decision f page) ++ filter (λ e. not (assumes f e)) (cond b page (after_decision f page))) + 1 ≡ length (Decided d ∷ page) →
+    go : (b : Bool) → (length (before_decision f page ++ others f page) + 1 ≡ length page → value_at which v (before_decision f page ++ others f page) ≡ value_at which v page) →
+        length (cond b [] (Decided d ∷ before_decision f page) ++ filter (λ e. not (assumes f e)) (cond b page (after_decision f page))) + 1 ≡ length (Decided d ∷ page) →
         value_at which v (cond b [] (Decided d ∷ before_decision f page) ++ filter (λ e. not (assumes f e)) (cond b page (after_decision f page))) ≡ value_at which v (Decided d ∷ page)
-    go true e = ap (value_at which v) (whole (λ e. not (assumes f e)) page (omega (arith, e)))
-    go false e = same_values f which v page (omega (arith, e))
+    go true further e = ap (value_at which v) (whole (λ e. not (assumes f e)) page (omega (arith, e)))
+    go false further e = further (omega (arith, e))
 
 retracted_agrees : (family : Family) (f : ℕ) (page : List Entry) → length (retracted f page) + 1 ≡ length page → AgreeOnTops family page (retracted f page)
 retracted_agrees family f page few = λ which v. ap (λ (n : ℕ). n == family.top which) (sym (values which v))

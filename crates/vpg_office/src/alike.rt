@@ -1,6 +1,8 @@
 //! Past and future pages with the verdicts of the present page.
 ghost use Rattle.std.specs.Prelude.{◌≡◌, IsTrue};
-ghost use Rattle.vpg_desk.specs.Book.{Book, Family};
+ghost use Rattle.vpg_desk.specs.Book.{Book};
+ghost use Rattle.vpg_desk.specs.Desk.{family_of};
+ghost use Rattle.vpg_desk.specs.Setting.{Setting};
 ghost use Rattle.vpg_office.specs.Told.{AgreeOnTops, AreAlike, Leads};
 ghost use Rattle.vpg_office.specs.declared.asked.Asked.{Asked as Call};
 
@@ -16,9 +18,10 @@ pub struct Alike {
 impl Alike {
     /// Returns how many are known after a call with this answer. `stay` says whether the call left the verdicts.
     pub(crate) fn after(self, answer: &Answer, stay: bool) -> Alike
-        ensures { (family : Family) (old new : Book) (asked : Call) → Leads family old asked answer.now new →
-            (IsTrue stay → AgreeOnTops family old.present new.present) → AreAlike family old self →
-            AreAlike family new result }
+        ensures { (setting : Setting) (old new : Book) (asked : Call) →
+            Leads (family_of setting) old asked answer.now new →
+            (IsTrue stay → AgreeOnTops (family_of setting) old.present new.present) →
+            AreAlike (family_of setting) old self → AreAlike (family_of setting) new result }
     {
         if !stay {
             return Alike { past: 0, future: 0 };
