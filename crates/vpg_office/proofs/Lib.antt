@@ -1,3 +1,4 @@
+mod Agreeing
 pub mod Calling
 pub mod Committing
 pub mod Counting

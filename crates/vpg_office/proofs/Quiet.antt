@@ -1,4 +1,4 @@
--- Entries that raise no value to the top change no verdict.
+-- Entries that raise no value to the top change no verdict, and neither does a call after which the pages agree.
 use Rattle.std.proofs.Common.{◌≡◌, ◌⊎◌, ℕ, zero, suc, ◌+◌, ◌<◌, ◌≤◌, ◌==◌, nat_le, max, cond, Bool, true, false, ◌&&◌, ◌||◌, List, [], ◌∷◌, ◌++◌, length, map, take, drop, get_or, None, Some, refl, sym, ap, ◌∙◌, inl, inr, arith, ne_eqb, append-nil, length-append}
 use Rattle.std.specs.List.{list_any}
 use Rattle.std.proofs.Math.Seq.{drop-append_seam}
@@ -20,7 +20,8 @@ use Rattle.vpg_desk.specs.State.{DeskState, setting_of, setting_between}
 use Rattle.vpg_office.specs.Made.{IsMade}
 use Rattle.vpg_office.specs.Sheets.{AreSaid}
 use Rattle.vpg_office.specs.Story.{call_of, is_ours, reply_of}
-use Rattle.vpg_office.specs.Told.{AreVerdictsOf, only_appends, raises_to_top}
+use Rattle.vpg_office.specs.Told.{AgreeOnTops, AreAlike, AreVerdictsOf, Leads, only_appends, raises_to_top}
+use Rattle.vpg_office.specs.declared.alike.Alike.{Alike}
 use Rattle.vpg_office.specs.declared.asked.Answer.{Answer}
 use Rattle.vpg_office.specs.declared.asked.Asked.{Asked}
 use Rattle.vpg_office.specs.declared.asked.Asked.TheVariants as ask
@@ -77,15 +78,16 @@ same_verdict x y top (inr less) = go (cases_lt x y)
 
 -- ---- verdicts
 
-still_said : (family : Family) (old new : Book) (tail : List Entry) (v : ℕ) (said : Said) → new.present ≡ old.present ++ tail → list_any (raises_to_top family) tail ≡ false → IsReply family old (Verdict v) (VerdictIs said.hopeless said.sure) →
+still_said : (family : Family) (old new : Book) (v : ℕ) (said : Said) → AgreeOnTops family old.present new.present → IsReply family old (Verdict v) (VerdictIs said.hopeless said.sure) →
     IsReply family new (Verdict v) (VerdictIs said.hopeless said.sure)
-still_said family old new tail v said is quiet (Some r, (refuses, told)) = absurd (cc refuses)
-still_said family old new tail v said is quiet (None, (refuses, told)) = (None, (refl, told ∙ (λ k. VerdictIs (sym (same Hopeful) k) (sym (same Dual) k))))
-  where
-    same : (which : Which) → (value_at which v new.present == family.top which) ≡ (value_at which v old.present == family.top which)
-    same which =
-        ap (λ (page : List Entry). value_at which v page == family.top which) is ∙ ap (λ (n : ℕ). n == family.top which) (value_at-append which v old.present tail)
-        ∙ same_verdict (value_at which v old.present) (value_at which v tail) (family.top which) (below_top family which v tail quiet)
+still_said family old new v said agree (Some r, (refuses, told)) = absurd (cc refuses)
+still_said family old new v said agree (None, (refuses, told)) = (None, (refl, told ∙ (λ k. VerdictIs (agree Hopeful v k) (agree Dual v k))))
+
+quiet_agrees : (family : Family) (old new tail : List Entry) → new ≡ old ++ tail → list_any (raises_to_top family) tail ≡ false → AgreeOnTops family old new
+quiet_agrees family old new tail is quiet = λ which v. sym (
+    ap (λ (page : List Entry). value_at which v page == family.top which) is ∙ ap (λ (n : ℕ). n == family.top which) (value_at-append which v old tail)
+    ∙ same_verdict (value_at which v old) (value_at which v tail) (family.top which) (below_top family which v tail quiet)
+    )
 
 -- ---- calls
 
@@ -109,28 +111,40 @@ appended family book session asked answer reply is = go (is_refusal reply)
     go true = ([], sym (append-nil book.present))
     go false = puts family book session asked answer is
 
-module _ {game : NamedGame} {diagram : NamedDiagram} {old new : DeskState} {session : ℕ} {asked : Asked} {answer : Answer} (made : IsMade game diagram old session asked answer new) (is : only_appends asked ≡ true) where
-  tail : (tail : List Entry) × (new.book.present ≡ old.book.present ++ tail)
+-- a call that only appends entries
+module _ (family : Family) (old new : Book) (asked : Asked) (answer : Answer) (is : only_appends asked ≡ true) (leads : Leads family old asked answer new) where
+  tail : (tail : List Entry) × (new.present ≡ old.present ++ tail)
   tail =
-      let t = appended (family_of (setting_of old)) old.book session asked answer (reply_of (family_of (setting_of old)) old.book.present answer) is in
-      (t.0, ap (λ (b : Book). b.present) made.step.step.1 ∙ t.1)
+      let t = appended family old leads.0 asked answer (reply_of family old.present answer) is in
+      (t.0, ap (λ (b : Book). b.present) leads.1.1 ∙ t.1)
 
   -- the page has the entries of the page before
-  pub no_shorter : length old.book.present ≤ length new.book.present
-  no_shorter = omega (arith, ap length tail.1, length-append old.book.present tail.0)
+  pub no_shorter : length old.present ≤ length new.present
+  no_shorter = omega (arith, ap length tail.1, length-append old.present tail.0)
 
+  -- and if none of the others raises a value to the top, the same values are the top
+  pub put_agrees : list_any (raises_to_top family) (drop (length old.present) new.present) ≡ false → AgreeOnTops family old.present new.present
+  put_agrees quiet =
+      let others : drop (length old.present) new.present ≡ tail.0 = ap (drop (length old.present)) tail.1 ∙ drop-append_seam old.present tail.0 in
+      quiet_agrees family old.present new.present tail.0 tail.1 (ap (list_any (raises_to_top family)) (sym others) ∙ quiet)
+
+module _ {game : NamedGame} {diagram : NamedDiagram} {old new : DeskState} {session : ℕ} {asked : Asked} {answer : Answer} (made : IsMade game diagram old session asked answer new) where
   family_is : family_of (setting_of new) ≡ family_of (setting_of old)
   family_is = λ k. family_of (setting_between (made.step.game k) (made.step.diagram k))
 
-  -- where none of the others raises a value to the top, each verdict stays
-  pub still : (verdicts : List Said) → list_any (raises_to_top (family_of (setting_of new))) (drop (length old.book.present) new.book.present) ≡ false → AreVerdictsOf old verdicts → AreVerdictsOf new verdicts
-  still verdicts quiet are =
-      let rest : drop (length old.book.present) new.book.present ≡ tail.0 = ap (drop (length old.book.present)) tail.1 ∙ drop-append_seam old.book.present tail.0 in
-      let none : list_any (raises_to_top (family_of (setting_of old))) tail.0 ≡ false = coe 0 1 (k. list_any (raises_to_top (family_is k)) (rest k) ≡ false) quiet in
-      let each : AreSaid (family_of (setting_of old)) new.book verdicts = λ v said at. still_said (family_of (setting_of old)) old.book new.book tail.0 v said tail.1 none (are.each v said at) in
+  pub made_leads : Leads (family_of (setting_of new)) old.book asked answer new.book
+  made_leads = coe 0 1 (k. Leads ((sym family_is) k) old.book asked answer new.book) (session, made.step.step)
+
+  pub alike_before : {alike : Alike} → AreAlike (family_of (setting_of old)) old.book alike → AreAlike (family_of (setting_of new)) old.book alike
+  alike_before {alike} near = coe 0 1 (k. AreAlike ((sym family_is) k) old.book alike) near
+
+  -- where the pages agree, each verdict stays
+  pub still : (verdicts : List Said) → AgreeOnTops (family_of (setting_of new)) old.book.present new.book.present → AreVerdictsOf old verdicts → AreVerdictsOf new verdicts
+  still verdicts agree are =
+      let each : AreSaid (family_of (setting_of new)) old.book verdicts = coe 0 1 (k. AreSaid ((sym family_is) k) old.book verdicts) are.each in
       record {
         size = are.size ∙ ap (λ (g : NamedGame). length g.vertices) (sym made.step.game);
-        each = coe 0 1 (k. AreSaid ((sym family_is) k) new.book verdicts) each;
+        each = λ v said at. still_said (family_of (setting_of new)) old.book new.book v said agree (each v said at);
       }
 
 -- ---- the entries that a desk lends

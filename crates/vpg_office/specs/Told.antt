@@ -1,11 +1,14 @@
 -- Verdicts of a desk's page, and the calls that keep them. This project's own.
-use Rattle.std.specs.Prelude.{◌≡◌, nat_le, Bool, true, false, List, length}
+use Rattle.std.specs.Prelude.{◌≡◌, ◌==◌, ℕ, zero, suc, nat_le, Bool, true, false, List, [], ◌∷◌, length, ⊤}
 use Rattle.vpg_verdict.specs.declared.verdict.Verdict.{Verdict as Said}
-use Rattle.vpg_trail.specs.Page.{Entry, Decided, Lifted}
-use Rattle.vpg_desk.specs.Book.{Family}
+use Rattle.vpg_trail.specs.Page.{Which, Entry, Decided, Lifted, value_at}
+use Rattle.vpg_desk.specs.Book.{Book, Family, Kept, Step}
 use Rattle.vpg_desk.specs.Desk.{family_of}
 use Rattle.vpg_desk.specs.State.{DeskState, setting_of}
 use Rattle.vpg_office.specs.Sheets.{AreSaid}
+use Rattle.vpg_office.specs.Story.{call_of, reply_of}
+use Rattle.vpg_office.specs.declared.alike.Alike.{Alike}
+use Rattle.vpg_office.specs.declared.asked.Answer.{Answer}
 use Rattle.vpg_office.specs.declared.asked.Asked.{Asked}
 use Rattle.vpg_office.specs.declared.asked.Asked.TheVariants.{Retract, Undo, Redo}
 
@@ -25,3 +28,25 @@ only_appends _ = true
 abbrev pub raises_to_top : Family → Entry → Bool
 raises_to_top family (Decided d) = false
 raises_to_top family (Lifted l) = nat_le (family.top l.table) l.new
+
+-- the call, with this answer, leads from one book to the other
+abbrev pub Leads : Family → Book → Asked → Answer → Book → Type 0
+Leads family old asked answer new =
+    (session : ℕ) × Step family old session (call_of asked answer) (reply_of family old.present answer) new
+
+-- The same values are the top on both pages. So their verdicts are the same.
+abbrev pub AgreeOnTops : Family → List Entry → List Entry → Type 0
+AgreeOnTops family one other = (which : Which) (v : ℕ) →
+    (value_at which v one == family.top which) ≡ (value_at which v other == family.top which)
+
+-- the first n of the pages agree with this one, or all if they are fewer
+abbrev pub NearestAgree : Family → List Entry → ℕ → List Kept → Type 0
+NearestAgree family page zero pages = ⊤
+NearestAgree family page (suc n) [] = ⊤
+NearestAgree family page (suc n) (kept ∷ pages) =
+    AgreeOnTops family page kept.page × NearestAgree family page n pages
+
+-- so many of the newest past pages, and of the nearest future pages, agree with the present one
+pub record AreAlike (family : Family) (book : Book) (alike : Alike) : Type 0 where
+  pub past : NearestAgree family book.present alike.past book.past
+  pub future : NearestAgree family book.present alike.future book.future

@@ -9,6 +9,7 @@
 //! `specs/Told.antt`, and the effect of a call on them in `specs/Made.antt`.
 #![tactic(auto)]
 
+mod alike;
 mod asked;
 mod calls;
 mod changes;

@@ -1,14 +1,16 @@
 //! The desk that replays the log, with the verdicts last read of its page.
 ghost use Rattle.std.specs.Arc.{arc_value};
 ghost use Rattle.std.specs.List.{list_any};
-ghost use Rattle.std.specs.Prelude.{◌≡◌, ◌≤◌, length, drop, IfOk, IfErr, IfSome, IsTrue, IsFalse, OnErr};
-ghost use Rattle.vpg_desk.specs.Book.{Settled, IsSettled};
+ghost use Rattle.std.specs.Prelude.{◌≡◌, ◌≤◌, length, IfOk, IfErr, IfSome, IsTrue, OnErr};
+ghost use Rattle.vpg_desk.specs.Book.{Book, Settled, IsSettled};
 ghost use Rattle.vpg_desk.specs.Desk.{family_of};
 ghost use Rattle.vpg_desk.specs.State.{IsOpened, Replies, setting_of};
 ghost use Rattle.vpg_trail.specs.Shown.{entry_of};
 ghost use Rattle.vpg_office.specs.Made.{IsMade, IsRefused};
-ghost use Rattle.vpg_office.specs.Told.{AreVerdictsOf, only_appends, raises_to_top as to_top};
+ghost use Rattle.vpg_office.specs.Told.{AgreeOnTops, AreAlike, AreVerdictsOf, Leads, only_appends, raises_to_top as to_top};
+ghost use Rattle.vpg_office.specs.declared.asked.Answer.{Answer};
 
+use crate::alike::Alike;
 use crate::asked::Asked;
 use crate::calls::{Call, Made, Unmade};
 use crate::purse::Purse;
@@ -26,6 +28,8 @@ pub struct Replay {
     desk: Desk,
     // the verdicts of the present page, while they are still those last read
     told: Option<Arc<Verdicts>>,
+    // how many past and future pages have the same verdicts
+    alike: Alike,
     // a vertex of a table that a lift raised on the last page that was not settled
     raised: Option<(Which, u32)>,
 }
@@ -36,6 +40,7 @@ impl Drop for Replay {
         let Replay {
             desk: _,
             told: _,
+            alike: _,
             raised: _,
         } = self;
     }
@@ -52,11 +57,14 @@ impl Model for Replay {
 
     ghost use Rattle.std.specs.Arc.{arc_value};
     ghost use Rattle.std.specs.Prelude.{IfSome};
-    ghost use Rattle.vpg_office.specs.Told.{AreVerdictsOf};
+    ghost use Rattle.vpg_desk.specs.Desk.{family_of};
+    ghost use Rattle.vpg_desk.specs.State.{setting_of};
+    ghost use Rattle.vpg_office.specs.Told.{AreAlike, AreVerdictsOf};
 
     ghost view = { λ r. r.desk };
 
-    ghost invariant = { λ r. IfSome r.told (λ told. AreVerdictsOf r.desk (arc_value told)) };
+    ghost invariant = { λ r. IfSome r.told (λ told. AreVerdictsOf r.desk (arc_value told)) ×
+        AreAlike (family_of (setting_of r.desk)) r.desk.book r.alike };
 }
 
 /// Returns the desk's verdict of each vertex.
@@ -88,29 +96,25 @@ fn one_raises_to_top(desk: &Desk, entries: &[Entry]) -> bool
     false
 }
 
-/// Whether the desk only appends entries to its page for this call, or leaves it.
-fn only_puts(asked: &Asked) -> bool
-    ensures { result ≡ only_appends asked.now }
-{
-    !matches!(
-        asked,
-        Asked::Retract { .. } | Asked::Undo { .. } | Asked::Redo { .. }
-    )
-}
-
-/// Whether verdicts stay after a call that made the desk's page of one with `before` entries: it only appended entries,
-/// and none of them raises a value to the top.
-fn verdicts_stay(desk: &Desk, asked: &Asked, before: usize) -> bool
+/// Whether a call left the verdicts. The page before it had `before` entries, and `alike` is about that page. Entries
+/// that it appended may raise no value to the top. A retraction may remove nothing but its decision. An undo or a redo
+/// has to return to a page that is known to have these verdicts.
+fn verdicts_stay(desk: &Desk, alike: Alike, asked: &Asked, before: usize) -> bool
     requires { IsTrue (only_appends asked.now) → before ≤ length desk.now.book.present }
-    ensures appends { IsTrue result → IsTrue (only_appends asked.now) }
-    ensures quiet { IsTrue result →
-        IsFalse (list_any (to_top (family_of (setting_of desk.now))) (drop before desk.now.book.present)) }
+    ensures { IsTrue result → (old : Book) (answer : Answer) →
+        Leads (family_of (setting_of desk.now)) old asked.now answer desk.now.book → length old.present ≡ before →
+        AreAlike (family_of (setting_of desk.now)) old alike →
+        AgreeOnTops (family_of (setting_of desk.now)) old.present desk.now.book.present }
 {
-    if !only_puts(asked) {
-        return false;
+    match asked {
+        Asked::Retract { .. } => desk.entries().len() + 1 == before,
+        Asked::Undo { .. } => alike.past > 0,
+        Asked::Redo { .. } => alike.future > 0,
+        _ => {
+            let (_, added) = desk.entries().split_at(before);
+            !one_raises_to_top(desk, added)
+        }
     }
-    let (_, added) = desk.entries().split_at(before);
-    !one_raises_to_top(desk, added)
 }
 
 impl Replay {
@@ -120,6 +124,7 @@ impl Replay {
         Replay {
             desk,
             told: None,
+            alike: Alike { past: 0, future: 0 },
             raised: None,
         }
     }
@@ -136,6 +141,7 @@ impl Replay {
         let Replay {
             desk,
             told: _,
+            alike: _,
             raised: _,
         } = self;
         desk
@@ -181,8 +187,7 @@ impl Replay {
     }
 }
 
-/// Carries a call out. The verdicts that were read stay if it only appends entries to their page, and none of them
-/// raises a value to the top.
+/// Carries a call out. The verdicts that were read stay if the call left them, as far as that is known.
 pub(crate) fn carry_out<L: Terms, C: Call<L>>(
     call: C,
     asked: &Asked,
@@ -209,7 +214,9 @@ pub(crate) fn carry_out<L: Terms, C: Call<L>>(
     let before = desk.desk.entries().len();
     match call.carry_out(&mut desk.desk, purse, session) {
         Ok(made) => {
-            if !verdicts_stay(&desk.desk, asked, before) {
+            let stay = verdicts_stay(&desk.desk, desk.alike, asked, before);
+            desk.alike = desk.alike.after(&made.answer, stay);
+            if !stay {
                 desk.told = None;
             }
             Ok(made)
