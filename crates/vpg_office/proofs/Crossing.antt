@@ -56,7 +56,7 @@ module _ (L : RattleType) (t : terms.Ghosts L.Denot) (l : ledger.Ghosts L.Denot)
   front_syncs = search (front_sync, sendable, crosses) depth 40
 
   calls_fields : AllSend (fields (Made.the_type L t l))
-  calls_fields = (chronicle_field, (search (front_sends, sendable) depth 12, (search sendable depth 12, tt)))
+  calls_fields = (chronicle_field, (search (front_sends, sendable) depth 12, (search sendable depth 12, (search (sendable, crosses) depth 20, tt))))
 
   calls_field : IsSend (Made.the_field L t l).row
   calls_field = struct_send (shape (Made.the_type L t l)) calls_fields

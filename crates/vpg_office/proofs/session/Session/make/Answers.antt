@@ -24,7 +24,7 @@ returns-clause-made g c =
     let log = c.deref_mut.ensures.value in
     ok_both c.make-answer.result (λ r. IsEntered g.L.Terms.game g.L.Terms.diagram c.deref_mut.result.now c.args.front.now c.self.inside.number (g.C.Call.asks c.args.call) (g.C.Call.answers r) c.make-answer.new.front)
     (g.C.Call.Gives c.args.call (book_after (family_between g.L.Terms.game g.L.Terms.diagram) opened c.deref_mut.result.now))
-    (λ r. (l : List Event) × (IsPrefix c.args.front.now l × (IfSome c.args.own (HasOwn l) × (IsEntered g.L.Terms.game g.L.Terms.diagram l c.args.front.now c.args.self.now (g.C.Call.asks c.args.call) (g.C.Call.answers r) c.make-answer.new.front × g.C.Call.Gives c.args.call (book_after (family_between g.L.Terms.game g.L.Terms.diagram) opened l) r))))
+    (λ r. (l : List Event) × (IsPrefix c.args.front.now l × (IfSome c.args.own (HasOwn l) × (IsEntered g.L.Terms.game g.L.Terms.diagram l c.args.front.now c.args.self.now.number (g.C.Call.asks c.args.call) (g.C.Call.answers r) c.make-answer.new.front × g.C.Call.Gives c.args.call (book_after (family_between g.L.Terms.game g.L.Terms.diagram) opened l) r))))
     (λ r entered gives. (
       (mutex_guard_value c.log_with-log.result),
       (
@@ -32,7 +32,7 @@ returns-clause-made g c =
         (
           c.log_with-log.ensures.own,
           (
-            coe 0 1 (k. IsEntered g.L.Terms.game g.L.Terms.diagram (log k) c.args.front.now (c.self.view_is k) (g.C.Call.asks c.args.call) (g.C.Call.answers r) c.make-answer.new.front) entered,
+            coe 0 1 (k. IsEntered g.L.Terms.game g.L.Terms.diagram (log k) c.args.front.now ((c.self.view_is k).number) (g.C.Call.asks c.args.call) (g.C.Call.answers r) c.make-answer.new.front) entered,
             coe 0 1 (k. g.C.Call.Gives c.args.call (book_after (family_between g.L.Terms.game g.L.Terms.diagram) opened (log k)) r) gives,
           ),
         ),
@@ -43,14 +43,14 @@ pub returns-clause-leaves : goal.returns-clause-leaves
 returns-clause-leaves g c =
     let log = c.deref_mut.ensures.value in
     err_then c.make-answer.result (λ b. Leaves g.L.Terms.game g.L.Terms.diagram g.L.Terms.limit g.C.Call.refusal c.deref_mut.result.now c.args.front.now c.self.inside.number (g.C.Call.asks c.args.call) c.make-answer.new.front b.fault)
-    (λ b. (l : List Event) × (IsPrefix c.args.front.now l × (IfSome c.args.own (HasOwn l) × Leaves g.L.Terms.game g.L.Terms.diagram g.L.Terms.limit g.C.Call.refusal l c.args.front.now c.args.self.now (g.C.Call.asks c.args.call) c.make-answer.new.front b.fault)))
+    (λ b. (l : List Event) × (IsPrefix c.args.front.now l × (IfSome c.args.own (HasOwn l) × Leaves g.L.Terms.game g.L.Terms.diagram g.L.Terms.limit g.C.Call.refusal l c.args.front.now c.args.self.now.number (g.C.Call.asks c.args.call) c.make-answer.new.front b.fault)))
     (λ b left. (
       (mutex_guard_value c.log_with-log.result),
       (
         c.log_with-log.ensures.front,
         (
           c.log_with-log.ensures.own,
-          coe 0 1 (k. Leaves g.L.Terms.game g.L.Terms.diagram g.L.Terms.limit g.C.Call.refusal (log k) c.args.front.now (c.self.view_is k) (g.C.Call.asks c.args.call) c.make-answer.new.front b.fault) left,
+          coe 0 1 (k. Leaves g.L.Terms.game g.L.Terms.diagram g.L.Terms.limit g.C.Call.refusal (log k) c.args.front.now ((c.self.view_is k).number) (g.C.Call.asks c.args.call) c.make-answer.new.front b.fault) left,
         ),
       ),
     )) c.make-answer.ensures.leaves

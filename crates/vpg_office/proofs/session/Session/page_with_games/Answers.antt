@@ -15,12 +15,12 @@ use Rattle.vpg_office.proofs.Calling.{page_leaves}
 use Rattle.vpg_office.proofs.session.Session.page_with_games.Goals as goal
 
 pub returns-in-Ok-clause-done : goal.returns-in-Ok-clause-done
-returns-in-Ok-clause-done g c = coe 0 1 (k. Extends (family_between g.L.Terms.game g.L.Terms.diagram) c.args.front.now c.args.self.now book.Page (book.PageIs ((sym c.in-Ok.ensures.made.1.1.1.1.present) k)) c.make.new.front) (entered_extends c.in-Ok.ensures.made.1.0 c.in-Ok.ensures.made.1.1.1.0)
+returns-in-Ok-clause-done g c = coe 0 1 (k. Extends (family_between g.L.Terms.game g.L.Terms.diagram) c.args.front.now c.args.self.now.number book.Page (book.PageIs ((sym c.in-Ok.ensures.made.1.1.1.1.present) k)) c.make.new.front) (entered_extends c.in-Ok.ensures.made.1.0 c.in-Ok.ensures.made.1.1.1.0)
 
 pub returns-in-Err-clause-fault : goal.returns-in-Err-clause-fault
 returns-in-Err-clause-fault g c =
-    coe 0 1 (k. Tells (family_between g.L.Terms.game g.L.Terms.diagram) g.L.Terms.limit never_refused (book.Page) c.args.self.now c.args.front.now c.make.new.front ((sym c.into_fault.ensures) k))
-    (leaves_tells g.L.Terms.game g.L.Terms.diagram g.L.Terms.limit never_refused c.in-Err.ensures.leaves.0 c.args.front.now c.args.self.now (ask.Page) c.make.new.front (book.Page) c.in-Err.back.fault (λ r. refl) c.in-Err.ensures.leaves.1.0 c.in-Err.ensures.leaves.1.1.1)
+    coe 0 1 (k. Tells (family_between g.L.Terms.game g.L.Terms.diagram) g.L.Terms.limit never_refused (book.Page) c.args.self.now.number c.args.front.now c.make.new.front ((sym c.into_fault.ensures) k))
+    (leaves_tells g.L.Terms.game g.L.Terms.diagram g.L.Terms.limit never_refused c.in-Err.ensures.leaves.0 c.args.front.now c.args.self.now.number (ask.Page) c.make.new.front (book.Page) c.in-Err.back.fault (λ r. refl) c.in-Err.ensures.leaves.1.0 c.in-Err.ensures.leaves.1.1.1)
 
 pub returns-in-Ok-clause-decisions : goal.returns-in-Ok-clause-decisions
 returns-in-Ok-clause-decisions g c = c.in-Ok.ensures.made.1.1.1.1.decided ∙ ap decisions_of (sym c.in-Ok.ensures.made.1.1.1.1.present)

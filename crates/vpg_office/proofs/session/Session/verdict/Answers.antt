@@ -18,5 +18,5 @@ returns-in-Ok-clause-means g c =
 
 pub returns-in-Err-clause-fault : goal.returns-in-Err-clause-fault
 returns-in-Err-clause-fault g c =
-    coe 0 1 (k. Tells (family_between g.L.Terms.game g.L.Terms.diagram) g.L.Terms.limit never_refused (book.Verdict c.args.vertex) c.args.self.now c.args.front.now c.make.new.front ((sym c.into_fault.ensures) k))
-    (leaves_tells g.L.Terms.game g.L.Terms.diagram g.L.Terms.limit never_refused c.in-Err.ensures.leaves.0 c.args.front.now c.args.self.now (ask.Verdict c.args.vertex) c.make.new.front (book.Verdict c.args.vertex) c.in-Err.back.fault (λ r. refl) c.in-Err.ensures.leaves.1.0 c.in-Err.ensures.leaves.1.1.1)
+    coe 0 1 (k. Tells (family_between g.L.Terms.game g.L.Terms.diagram) g.L.Terms.limit never_refused (book.Verdict c.args.vertex) c.args.self.now.number c.args.front.now c.make.new.front ((sym c.into_fault.ensures) k))
+    (leaves_tells g.L.Terms.game g.L.Terms.diagram g.L.Terms.limit never_refused c.in-Err.ensures.leaves.0 c.args.front.now c.args.self.now.number (ask.Verdict c.args.vertex) c.make.new.front (book.Verdict c.args.vertex) c.in-Err.back.fault (λ r. refl) c.in-Err.ensures.leaves.1.0 c.in-Err.ensures.leaves.1.1.1)
