@@ -2,7 +2,7 @@
 use Rattle.std.proofs.Common.{◌≡◌, ℕ, ◌+◌, ◌-◌, ◌<◌, ◌≤◌, Bool, true, List, [], ◌∷◌, ◌++◌, length, take, Option, refl, sym, ap, ◌∙◌, subst, arith, length-append, append-nil, inl, inr}
 use mathlib.Core.List.{IsPrefix}
 use Rattle.std.specs.Bool.{Decides}
-use Rattle.std.specs.Prelude.{slice_index, slice_index_or, Result, Ok, Err, IfOk, IfErr, OnOk, MatchResult}
+use Rattle.std.specs.Prelude.{slice_index_or, Result, Ok, Err, IfOk, IfErr, OnOk, MatchResult}
 use Rattle.std.proofs.lemmas.List.{get_or_read}
 use Rattle.std.proofs.lemmas.Result.{IfOk-at_ok}
 use Rattle.vpg_diagram.specs.DiagramText.{NamedDiagram}
@@ -23,7 +23,7 @@ use Rattle.vpg_office.specs.declared.fault.Fault.TheVariants as office
 use Rattle.vpg_office.proofs.Calling.{page_is}
 use Rattle.vpg_office.proofs.Stories.{book_more}
 use Rattle.vpg_report.proofs.Fronts.{none_of, same_front}
-use Rattle.vpg_report.specs.Client.{ClientState, IsLogged, client_after, page_of}
+use Rattle.vpg_report.specs.Client.{ClientState, IsLogged, IsNumbered, IsUnseated, client_after, nobody, page_of}
 use Rattle.vpg_report.specs.Faults.{Tells, CommitTells, HasStrayed, Sorts, IsAbsent, UnlessStray, shown_by, shown_after}
 use Rattle.vpg_report.specs.declared.fault.ClientFault.{ClientFault}
 use Rattle.vpg_report.specs.declared.fault.ClientFault.TheVariants.{LogFull, Refused, Stray, Memory}
@@ -37,12 +37,15 @@ before_more front e =
     let count : length (front ++ e ∷ []) - 1 ≡ length front = omega (arith, length-append front (e ∷ [])) in
     ap (λ (n : ℕ). take n (front ++ e ∷ [])) count ∙ take_front front (e ∷ [])
 
-nobody : Caller
-nobody = record { number = 0; calls = 0 }
-
 -- the session at a place is the one of this number
-pub number_is : (sessions : List Caller) (place : ℕ) (session : Caller) (label : ℕ) → place < length sessions → session ≡ slice_index_or sessions place session → (slice_index sessions place).number ≡ label → session.number ≡ label
+pub number_is : (sessions : List Caller) (place : ℕ) (session : Caller) (label : ℕ) → place < length sessions → session ≡ slice_index_or sessions place session → (slice_index_or sessions place nobody).number ≡ label → session.number ≡ label
 number_is sessions place session label within here is = ap (λ (c : Caller). c.number) (get_or_read sessions place session within here nobody) ∙ is
+
+pub numbered : (sessions : List Caller) (place : ℕ) (session : Caller) (number : ℕ) → place < length sessions → session ≡ slice_index_or sessions place session → session.number ≡ number → IsNumbered sessions place number
+numbered sessions place session number within here is = (within, ap (λ (c : Caller). c.number) (sym (get_or_read sessions place session within here nobody)) ∙ is)
+
+pub not_numbered : (sessions : List Caller) (place : ℕ) (session : Caller) (number : ℕ) → session ≡ slice_index_or sessions place session → ¬ (session.number ≡ number) → ¬ IsNumbered sessions place number
+not_numbered sessions place session number here other = λ is. other (number_is sessions place session number is.0 here is.1)
 
 -- ---- what is said of an answer, of the result that was made of it
 

@@ -1,11 +1,11 @@
 //! The client: an office, the one front that its sessions share, and the sessions by their labels.
 ghost use Rattle.std.specs.Arc.{arc_value};
-ghost use Rattle.std.specs.Prelude.{◌≡◌, ◌+◌, ◌<◌, ◌≤◌, ◌↔◌, ℕ, [], length, slice_index, true, false, IfOk, IfErr, IfSome, OnOk};
+ghost use Rattle.std.specs.Prelude.{◌≡◌, ◌+◌, ◌-◌, ◌<◌, ◌≤◌, ◌↔◌, ℕ, [], length, slice_index_or, true, false, IfOk, IfErr, IfSome, OnOk};
 ghost use Rattle.vpg_diagram.specs.FeatureDiagram.{feature_count};
 ghost use Rattle.vpg_game.specs.Game.{IsAtLimit};
 ghost use Rattle.vpg_partial.specs.KnownLaws.{HasConflictOf};
 ghost use Rattle.vpg_desk.specs.State.{IsOpened};
-ghost use Rattle.vpg_report.specs.Client.{client_of};
+ghost use Rattle.vpg_report.specs.Client.{IsNumbered, client_of, nobody};
 ghost use Rattle.vpg_report.specs.Faults.{IsAbsent};
 
 use crate::fault::ClientFault;
@@ -110,21 +110,32 @@ pub(crate) fn seat<L: Terms, R: Wait, F>(
     label: u32,
 ) -> Result<usize, ClientFault<F>>
     ensures within { IfOk result (λ place. place < length sessions.new.items) }
-    ensures number { IfOk result (λ place. (slice_index sessions.new.items place).number ≡ label) }
+    ensures number { IfOk result (λ place. (slice_index_or sessions.new.items place nobody).number ≡ label) }
     ensures seated { OnOk result (unseated.new ≡ unseated.old) }
     ensures absent { IfErr result (IsAbsent unseated.old unseated.new) }
+    ensures missing { IfErr result
+        (λ fault. fault ≡ ClientFault.Stray → ¬ IsNumbered sessions.new.items (label - 1) label) }
 {
     if join(rt, office, sessions, label).is_err() {
         return Err(ClientFault::Memory);
     }
     let place = label.saturating_sub(1) as usize;
-    match sessions.get(place) {
-        Some(session) if session.number() == label => Ok(place),
-        _ => {
-            *unseated = true;
-            Err(ClientFault::Stray)
-        }
+    if has_number(sessions, place, label) {
+        return Ok(place);
     }
+    *unseated = true;
+    Err(ClientFault::Stray)
+}
+
+/// Whether the session at a place has this number.
+fn has_number<L: Terms>(sessions: &[Session<L>], place: usize, number: u32) -> bool
+    ensures yes { result ≡ true → IsNumbered sessions.now place number }
+    ensures no { result ≡ false → ¬ IsNumbered sessions.now place number }
+{
+    if place >= sessions.len() {
+        return false;
+    }
+    sessions[place].number() == number
 }
 
 /// Joins sessions until there are this many, or the office has no more.

@@ -1,5 +1,6 @@
-use Rattle.std.proofs.Common.{List, sym}
-use Rattle.std.specs.Prelude.{IfSome}
+use Rattle.std.proofs.Common.{◌≡◌, ◌+◌, List, sym}
+use Rattle.std.specs.Prelude.{IfErr, IfSome, OnOk}
+use Rattle.vpg_office.specs.Faults.{logged}
 use Rattle.std.specs.Sync.Mutex.{mutex_guard_value}
 use mathlib.Core.List.{IsPrefix}
 use Rattle.vpg_desk.specs.Book.{opened}
@@ -57,3 +58,12 @@ returns-clause-leaves g c =
 
 pub returns-clause-back : goal.returns-clause-back
 returns-clause-back g c = c.make-answer.ensures.back
+
+pub returns-clause-same : goal.returns-clause-same
+returns-clause-same g c = λ k. (c.self.view_is k).number
+
+pub returns-clause-counted : goal.returns-clause-counted
+returns-clause-counted g c = coe 0 1 (k. OnOk c.make-answer.result (c.make-answer.new.made.parts ≡ (c.self.view_is k).calls + 1)) c.make-answer.ensures.counted
+
+pub returns-clause-fault_counted : goal.returns-clause-fault_counted
+returns-clause-fault_counted g c = coe 0 1 (k. IfErr c.make-answer.result (λ b. c.make-answer.new.made.parts ≡ (c.self.view_is k).calls + logged b.fault)) c.make-answer.ensures.fault_counted

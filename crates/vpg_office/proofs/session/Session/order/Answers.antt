@@ -1,6 +1,6 @@
-use Rattle.std.proofs.Common.{refl, sym}
+use Rattle.std.proofs.Common.{refl, sym, ◌≡◌, ◌+◌}
 use Rattle.vpg_desk.specs.Book as book
-use Rattle.vpg_office.specs.Faults.{Tells, never_refused}
+use Rattle.vpg_office.specs.Faults.{Tells, never_refused, logged}
 use Rattle.vpg_office.specs.Fronts.{Extends, family_between}
 use Rattle.vpg_office.specs.declared.asked.Asked.TheVariants as ask
 use Rattle.vpg_office.proofs.Calling.{entered_extends, leaves_tells}
@@ -18,3 +18,6 @@ returns-in-Err-clause-fault g c =
 
 pub returns-in-Ok-clause-ours : goal.returns-in-Ok-clause-ours
 returns-in-Ok-clause-ours g c = c.in-Ok.ensures.made.1.1.1.1.0
+
+pub returns-in-Err-clause-fault_counted : goal.returns-in-Err-clause-fault_counted
+returns-in-Err-clause-fault_counted g c = coe 0 1 (k. c.make.new.self.calls ≡ c.args.self.now.calls + logged ((sym c.into_fault.ensures) k)) c.in-Err.ensures.fault_counted

@@ -1,6 +1,6 @@
-use Rattle.std.proofs.Common.{refl, sym, ap, ◌∙◌, length}
+use Rattle.std.proofs.Common.{refl, sym, ap, ◌∙◌, length, ◌≡◌, ◌+◌}
 use Rattle.vpg_desk.specs.Book as book
-use Rattle.vpg_office.specs.Faults.{Tells, never_refused}
+use Rattle.vpg_office.specs.Faults.{Tells, never_refused, logged}
 use Rattle.vpg_office.specs.Fronts.{Extends, family_between}
 use Rattle.vpg_office.specs.declared.asked.Asked.TheVariants as ask
 use Rattle.vpg_office.proofs.Calling.{entered_extends, leaves_tells}
@@ -40,3 +40,6 @@ returns-in-Ok-clause-setting g c = c.in-Ok.ensures.made.1.1.1.1.is_setting
 
 pub returns-in-Ok-clause-reached : goal.returns-in-Ok-clause-reached
 returns-in-Ok-clause-reached g c = coe 0 1 (k. IsReached (setting_between g.L.Terms.game g.L.Terms.diagram) ((sym (page_leaves c.in-Ok.ensures.made.1.1.1.0)) k)) c.in-Ok.ensures.made.1.1.1.1.reached
+
+pub returns-in-Err-clause-fault_counted : goal.returns-in-Err-clause-fault_counted
+returns-in-Err-clause-fault_counted g c = coe 0 1 (k. c.make.new.self.calls ≡ c.args.self.now.calls + logged ((sym c.into_fault.ensures) k)) c.in-Err.ensures.fault_counted

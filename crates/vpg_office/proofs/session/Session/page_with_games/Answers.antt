@@ -1,6 +1,6 @@
-use Rattle.std.proofs.Common.{refl, sym, ap, ◌∙◌, length}
+use Rattle.std.proofs.Common.{refl, sym, ap, ◌∙◌, length, ◌≡◌, ◌+◌}
 use Rattle.vpg_desk.specs.Book as book
-use Rattle.vpg_office.specs.Faults.{Tells, never_refused}
+use Rattle.vpg_office.specs.Faults.{Tells, never_refused, logged}
 use Rattle.vpg_office.specs.Fronts.{Extends, family_between}
 use Rattle.vpg_office.specs.declared.asked.Asked.TheVariants as ask
 use Rattle.vpg_office.proofs.Calling.{entered_extends, leaves_tells}
@@ -45,3 +45,6 @@ returns-in-Ok-clause-reached g c = coe 0 1 (k. IsReached (setting_between g.L.Te
 
 pub returns-in-Ok-clause-games : goal.returns-in-Ok-clause-games
 returns-in-Ok-clause-games g c = coe 0 1 (k. ArePageGames g.L.Terms.game g.L.Terms.diagram (choices_of ((sym c.in-Ok.ensures.made.1.1.1.1.present) k)) (arc_value c.in-Ok.both.1)) c.in-Ok.ensures.made.1.1.1.1.are_games
+
+pub returns-in-Err-clause-fault_counted : goal.returns-in-Err-clause-fault_counted
+returns-in-Err-clause-fault_counted g c = coe 0 1 (k. c.make.new.self.calls ≡ c.args.self.now.calls + logged ((sym c.into_fault.ensures) k)) c.in-Err.ensures.fault_counted
