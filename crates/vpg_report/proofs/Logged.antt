@@ -213,45 +213,45 @@ module _ (game : NamedGame) (diagram : NamedDiagram) (room : ℕ) (unseated : Bo
 
       -- ---- what is said of an answer; after it the client's front is the log that it shows
 
-      pub all_told : {U D T E G L : Type 0} (fault_of : E → Fault L G) (answer : Result T E) (last : List Event) → last ≡ shown_after fault_of answer new → (result : Result U D) (told_of : D → ClientFault G) (Back : D → E → Type 0)
+      pub all_told : {U D T E G L : Type 0} (answer : Result T E) (fault_of : E → Fault L G) (last : List Event) → last ≡ shown_after answer fault_of new → (result : Result U D) (told_of : D → ClientFault G) (Back : D → E → Type 0)
           (refusal : G → Option Refusal) (call : Call) → length last ≤ room → OnOk answer (length front < length new) →
           IfErr result (λ d. MatchResult answer (λ _. (told_of d ≡ Stray) × ¬ (length last ≡ calls + 1)) (λ e. Sorts calls (length last) (fault_of e) (told_of d) × Back d e)) →
           IfErr answer (λ e. OfficeTells F room refusal call number front new (fault_of e)) → IfErr result (λ d. Tells room refusal old label call (here last) (told_of d))
-      all_told fault_of answer last last_is (Ok u) told_of Back refusal call fits more is said = tt
-      all_told {G = G} fault_of (Ok t) last last_is (Err d) told_of Back refusal call fits more is said =
+      all_told answer fault_of last last_is (Ok u) told_of Back refusal call fits more is said = tt
+      all_told {U} {D} {T} {E} {G} {L} (Ok t) fault_of last last_is (Err d) told_of Back refusal call fits more is said =
           subst (λ (told : ClientFault G). Tells room refusal old label call (here last) told) (sym is.0) (strayed last (omega (arith, more, ap length last_is)))
-      all_told fault_of (Err e) last last_is (Err d) told_of Back refusal call fits more is said =
+      all_told (Err e) fault_of last last_is (Err d) told_of Back refusal call fits more is said =
           let sorts = subst (λ (l : List Event). Sorts calls (length l) (fault_of e) (told_of d)) last_is is.0 in
           let room_for = subst (λ (l : List Event). length l ≤ room) last_is fits in
           subst (λ (l : List Event). Tells room refusal old label call (here l) (told_of d)) (sym last_is) (tells refusal call (fault_of e) (told_of d) room_for sorts said)
 
-      pub look_told : {U T G L : Type 0} (answer : Result T (Fault L G)) (last : List Event) → last ≡ shown_after (λ e. e) answer new → (result : Result U (ClientFault G)) (refusal : G → Option Refusal) (call : Call) → length last ≤ room →
+      pub look_told : {U T G L : Type 0} (answer : Result T (Fault L G)) (last : List Event) → last ≡ shown_after answer (λ e. e) new → (result : Result U (ClientFault G)) (refusal : G → Option Refusal) (call : Call) → length last ≤ room →
           OnOk answer (length front < length new) →
           IfErr result (λ d. MatchResult answer (λ _. (d ≡ Stray) × ¬ (length last ≡ calls + 1)) (λ e. Sorts calls (length last) e d)) → IfErr answer (OfficeTells F room refusal call number front new) →
           IfErr result (Tells room refusal old label call (here last))
       look_told answer last last_is (Ok u) refusal call fits more is said = tt
-      look_told {G = G} (Ok t) last last_is (Err d) refusal call fits more is said =
+      look_told {U} {T} {G} {L} (Ok t) last last_is (Err d) refusal call fits more is said =
           subst (λ (told : ClientFault G). Tells room refusal old label call (here last) told) (sym is.0) (strayed last (omega (arith, more, ap length last_is)))
       look_told (Err e) last last_is (Err d) refusal call fits more is said =
           let sorts = subst (λ (l : List Event). Sorts calls (length l) e d) last_is is in
           let room_for = subst (λ (l : List Event). length l ≤ room) last_is fits in
           subst (λ (l : List Event). Tells room refusal old label call (here l) d) (sym last_is) (tells refusal call e d room_for sorts said)
 
-      pub all_commit_told : {U D T E L : Type 0} (fault_of : E → Fault L CommitFault) (answer : Result T E) (last : List Event) → last ≡ shown_after fault_of answer new → (result : Result U D) (told_of : D → ClientFault CommitFault)
+      pub all_commit_told : {U D T E L : Type 0} (answer : Result T E) (fault_of : E → Fault L CommitFault) (last : List Event) → last ≡ shown_after answer fault_of new → (result : Result U D) (told_of : D → ClientFault CommitFault)
           (Back : D → E → Type 0) (harvest : HarvestView) → length last ≤ room → OnOk answer (length front < length new) →
           IfErr result (λ d. MatchResult answer (λ _. (told_of d ≡ Stray) × ¬ (length last ≡ calls + 1)) (λ e. Sorts calls (length last) (fault_of e) (told_of d) × Back d e)) →
           IfErr answer (λ e. OfficeCommitTells game diagram room harvest number front new (fault_of e)) → IfErr result (λ d. CommitTells room old label harvest (here last) (told_of d))
-      all_commit_told fault_of answer last last_is (Ok u) told_of Back harvest fits more is said = tt
-      all_commit_told fault_of (Ok t) last last_is (Err d) told_of Back harvest fits more is said =
+      all_commit_told answer fault_of last last_is (Ok u) told_of Back harvest fits more is said = tt
+      all_commit_told (Ok t) fault_of last last_is (Err d) told_of Back harvest fits more is said =
           subst (λ (told : ClientFault CommitFault). CommitTells room old label harvest (here last) told) (sym is.0) (strayed last (omega (arith, more, ap length last_is)))
-      all_commit_told fault_of (Err e) last last_is (Err d) told_of Back harvest fits more is said =
+      all_commit_told (Err e) fault_of last last_is (Err d) told_of Back harvest fits more is said =
           let sorts = subst (λ (l : List Event). Sorts calls (length l) (fault_of e) (told_of d)) last_is is.0 in
           let room_for = subst (λ (l : List Event). length l ≤ room) last_is fits in
           subst (λ (l : List Event). CommitTells room old label harvest (here l) (told_of d)) (sym last_is) (commit_tells harvest (fault_of e) (told_of d) room_for sorts said)
 
-      module _ {T E L G : Type 0} (fault_of : E → Fault L G) (answer : Result T E) (last : List Event) (last_is : last ≡ shown_after fault_of answer new) where
+      module _ {T E L G : Type 0} (answer : Result T E) (fault_of : E → Fault L G) (last : List Event) (last_is : last ≡ shown_after answer fault_of new) where
         at_last : (t : T) → answer ≡ Ok t → last ≡ new
-        at_last t is = last_is ∙ ap (λ (a : Result T E). shown_after fault_of a new) is
+        at_last t is = last_is ∙ ap (λ (a : Result T E). shown_after a fault_of new) is
 
         one_more : (t : T) → answer ≡ Ok t → length last ≡ calls + 1 → length new ≡ length front + 1
         one_more t is more = omega (arith, ap length (at_last t is), more, calls_is)
@@ -279,20 +279,20 @@ module _ (game : NamedGame) (diagram : NamedDiagram) (room : ℕ) (unseated : Bo
             then t (IfOk-at_ok P is p) (page_present (entries_of t) (fits_new t is fits) (one_more t is more) made) (page_stays (entries_of t) (fits_new t is fits) (one_more t is more) made)
         of_present (Err d) entries_of P Q is more fits done p then = tt
 
-      module _ {E L G : Type 0} (fault_of : E → Fault L G) (answer : Result Held E) (last : List Event) (last_is : last ≡ shown_after fault_of answer new) where
+      module _ {E L G : Type 0} (answer : Result Held E) (fault_of : E → Fault L G) (last : List Event) (last_is : last ≡ shown_after answer fault_of new) where
         -- the same of a token
         pub token_made : {D : Type 0} (call : Call) (reply : Held → Reply) (result : Result Held D) → IfOk result (λ t. answer ≡ Ok t) → OnOk result (length last ≡ calls + 1) → length last ≤ room →
             IfOk answer (λ t. Extends F front number call (reply t) new × (t.history ≡ new)) → IfOk result (λ t. IsLogged room old label call (reply t) (here last))
         token_made call reply (Ok t) is more fits done =
-            subst (λ (l : List Event). IsLogged room old label call (reply t) (here l)) (sym (at_last fault_of answer last last_is t is))
-            (accepted call (reply t) (fits_new fault_of answer last last_is t is fits) (one_more fault_of answer last last_is t is more) (IfOk-at_ok (λ (x : Held). Extends F front number call (reply x) new × (x.history ≡ new)) is done).0)
+            subst (λ (l : List Event). IsLogged room old label call (reply t) (here l)) (sym (at_last answer fault_of last last_is t is))
+            (accepted call (reply t) (fits_new answer fault_of last last_is t is fits) (one_more answer fault_of last last_is t is more) (IfOk-at_ok (λ (x : Held). Extends F front number call (reply x) new × (x.history ≡ new)) is done).0)
         token_made call reply (Err d) is more fits done = tt
 
         pub token_stands : {D : Type 0} (call : Call) (reply : Held → Reply) (result : Result Held D) → IfOk result (λ t. answer ≡ Ok t) → OnOk result (length last ≡ calls + 1) →
             IfOk answer (λ t. Extends F front number call (reply t) new × (t.history ≡ new)) → IfOk result (λ t. page_of (here last).desk t ≡ old.desk.book.present)
         token_stands call reply (Ok t) is more done =
             let made = IfOk-at_ok (λ (x : Held). Extends F front number call (reply x) new × (x.history ≡ new)) is done in
-            subst (λ (l : List Event). page_of (here l).desk t ≡ old.desk.book.present) (sym (at_last fault_of answer last last_is t is)) (stands_for call (reply t) t (one_more fault_of answer last last_is t is more) made.0 made.1)
+            subst (λ (l : List Event). page_of (here l).desk t ≡ old.desk.book.present) (sym (at_last answer fault_of last last_is t is)) (stands_for call (reply t) t (one_more answer fault_of last last_is t is more) made.0 made.1)
         token_stands call reply (Err d) is more done = tt
 
 -- of a harvest of the desk's game and diagram

@@ -59,9 +59,9 @@ shown_by (office.Refused fault) front = front
 shown_by office.Memory front = front
 
 -- the same after each answer
-abbrev pub shown_after : {T E L F : Type 0} → (E → Fault L F) → Result T E → List Event → List Event
-shown_after fault_of (Ok t) front = front
-shown_after fault_of (Err e) front = shown_by (fault_of e) front
+abbrev pub shown_after : {T E L F : Type 0} → Result T E → (E → Fault L F) → List Event → List Event
+shown_after (Ok t) fault_of front = front
+shown_after (Err e) fault_of front = shown_by (fault_of e) front
 
 -- The client's fault for the office's, if its front had `before` calls before the call and has `now` after it. A stray
 -- stands for a full log of another length, for a call of the session that its front lacks, and for a log that grew by

@@ -49,7 +49,7 @@ fn follow<L: Terms, F>(fault: &Fault<L, F>, front: &mut Front<L>)
 
 /// Sets the front to the log, if the answer has it.
 pub(crate) fn follow_answer<L: Terms, T, F>(answer: &Result<T, Fault<L, F>>, front: &mut Front<L>)
-    ensures { front.new ≡ shown_after (λ fault. fault) answer.now front.old }
+    ensures { front.new ≡ shown_after answer.now (λ fault. fault) front.old }
 {
     match answer {
         Ok(_) => {}
@@ -62,7 +62,7 @@ pub(crate) fn follow_returned<L: Terms, T, F, V>(
     answer: &Result<T, vpg_office::Returned<L, F, V>>,
     front: &mut Front<L>,
 )
-    ensures { front.new ≡ shown_after (λ b. b.fault) answer.now front.old }
+    ensures { front.new ≡ shown_after answer.now (λ b. b.fault) front.old }
 {
     match answer {
         Ok(_) => {}

@@ -17,7 +17,7 @@ returns-clause-accepted g c =
     let new = c.commit-answer.new.front in
     let by = number_is c.seat.new.sessions.items c.in-Ok.place c.index_mut.result.now c.args.label c.in-Ok.ensures.within c.index_mut.ensures.value c.in-Ok.ensures.number in
     let view = (λ k. client_after game diagram (c.in-Ok.ensures.seated k) front) ∙ c.self.view_is in
-    step_made game diagram g.L.Terms.limit c.seat.new.unseated front new c.args.label c.index_mut.result.now.number by c.args.self.now view c.len-calls.result c.len-calls.ensures.length (λ b. b.fault) c.commit-answer.result c.follow_returned.new.front c.follow_returned.ensures c.handed_in.result (book.Commit (handed_in true c.args.harvest)) (λ added. book.Added added) c.handed_in.ensures.made c.handed_in.ensures.more c.handed_in.ensures.fits c.commit-answer.ensures.done
+    step_made game diagram g.L.Terms.limit c.seat.new.unseated front new c.args.label c.index_mut.result.now.number by c.args.self.now view c.len-calls.result c.len-calls.ensures.length c.commit-answer.result (λ b. b.fault) c.follow_returned.new.front c.follow_returned.ensures c.handed_in.result (book.Commit (handed_in true c.args.harvest)) (λ added. book.Added added) c.handed_in.ensures.made c.handed_in.ensures.more c.handed_in.ensures.fits c.commit-answer.ensures.done
 
 pub returns-clause-ours : goal.returns-clause-ours
 returns-clause-ours g c =
@@ -31,7 +31,7 @@ returns-clause-fault g c =
     let new = c.commit-answer.new.front in
     let by = number_is c.seat.new.sessions.items c.in-Ok.place c.index_mut.result.now c.args.label c.in-Ok.ensures.within c.index_mut.ensures.value c.in-Ok.ensures.number in
     let view = (λ k. client_after game diagram (c.in-Ok.ensures.seated k) front) ∙ c.self.view_is in
-    all_commit_told game diagram g.L.Terms.limit c.seat.new.unseated front new c.args.label c.index_mut.result.now.number by c.args.self.now view c.len-calls.result c.len-calls.ensures.length (λ b. b.fault) c.commit-answer.result c.follow_returned.new.front c.follow_returned.ensures c.handed_in.result (λ r. r.fault) (λ r b. r.value ≡ Some b.value) c.args.harvest c.handed_in.ensures.fits (grew (family_between game diagram) front c.index_mut.result.now.number (book.Commit (handed_in true c.args.harvest)) (λ added. book.Added added) new c.commit-answer.result c.commit-answer.ensures.done) c.handed_in.ensures.fault c.commit-answer.ensures.fault
+    all_commit_told game diagram g.L.Terms.limit c.seat.new.unseated front new c.args.label c.index_mut.result.now.number by c.args.self.now view c.len-calls.result c.len-calls.ensures.length c.commit-answer.result (λ b. b.fault) c.follow_returned.new.front c.follow_returned.ensures c.handed_in.result (λ r. r.fault) (λ r b. r.value ≡ Some b.value) c.args.harvest c.handed_in.ensures.fits (grew (family_between game diagram) front c.index_mut.result.now.number (book.Commit (handed_in true c.args.harvest)) (λ added. book.Added added) new c.commit-answer.result c.commit-answer.ensures.done) c.handed_in.ensures.fault c.commit-answer.ensures.fault
 
 pub returns-clause-back : goal.returns-clause-back
 returns-clause-back g c =

@@ -16,7 +16,7 @@ returns-clause-accepted g c =
     let new = c.commit_own-answer.new.front in
     let by = number_is c.seat.new.sessions.items c.in-Ok.place c.index_mut.result.now c.args.label c.in-Ok.ensures.within c.index_mut.ensures.value c.in-Ok.ensures.number in
     let view = (λ k. client_after game diagram (c.in-Ok.ensures.seated k) front) ∙ c.self.view_is in
-    step_made game diagram g.L.Terms.limit c.seat.new.unseated front new c.args.label c.index_mut.result.now.number by c.args.self.now view c.len-calls.result c.len-calls.ensures.length (λ b. b.fault) c.commit_own-answer.result c.follow_returned.new.front c.follow_returned.ensures c.handed_in.result (book.Commit (handed_in true c.args.harvest)) (λ added. book.Added added) c.handed_in.ensures.made c.handed_in.ensures.more c.handed_in.ensures.fits c.commit_own-answer.ensures.done
+    step_made game diagram g.L.Terms.limit c.seat.new.unseated front new c.args.label c.index_mut.result.now.number by c.args.self.now view c.len-calls.result c.len-calls.ensures.length c.commit_own-answer.result (λ b. b.fault) c.follow_returned.new.front c.follow_returned.ensures c.handed_in.result (book.Commit (handed_in true c.args.harvest)) (λ added. book.Added added) c.handed_in.ensures.made c.handed_in.ensures.more c.handed_in.ensures.fits c.commit_own-answer.ensures.done
 
 pub returns-clause-fault : goal.returns-clause-fault
 returns-clause-fault g c =
@@ -26,7 +26,7 @@ returns-clause-fault g c =
     let new = c.commit_own-answer.new.front in
     let by = number_is c.seat.new.sessions.items c.in-Ok.place c.index_mut.result.now c.args.label c.in-Ok.ensures.within c.index_mut.ensures.value c.in-Ok.ensures.number in
     let view = (λ k. client_after game diagram (c.in-Ok.ensures.seated k) front) ∙ c.self.view_is in
-    all_own_told c.handed_in.result g.L.Terms.limit c.args.self.now (client_after game diagram c.seat.new.unseated c.follow_returned.new.front) c.args.label c.args.harvest (λ r. r.fault) c.requires.ours (all_commit_told game diagram g.L.Terms.limit c.seat.new.unseated front new c.args.label c.index_mut.result.now.number by c.args.self.now view c.len-calls.result c.len-calls.ensures.length (λ b. b.fault) c.commit_own-answer.result c.follow_returned.new.front c.follow_returned.ensures c.handed_in.result (λ r. r.fault) (λ r b. r.value ≡ Some b.value) c.args.harvest c.handed_in.ensures.fits (grew (family_between game diagram) front c.index_mut.result.now.number (book.Commit (handed_in true c.args.harvest)) (λ added. book.Added added) new c.commit_own-answer.result c.commit_own-answer.ensures.done) c.handed_in.ensures.fault c.commit_own-answer.ensures.fault)
+    all_own_told c.handed_in.result g.L.Terms.limit c.args.self.now (client_after game diagram c.seat.new.unseated c.follow_returned.new.front) c.args.label c.args.harvest (λ r. r.fault) c.requires.ours (all_commit_told game diagram g.L.Terms.limit c.seat.new.unseated front new c.args.label c.index_mut.result.now.number by c.args.self.now view c.len-calls.result c.len-calls.ensures.length c.commit_own-answer.result (λ b. b.fault) c.follow_returned.new.front c.follow_returned.ensures c.handed_in.result (λ r. r.fault) (λ r b. r.value ≡ Some b.value) c.args.harvest c.handed_in.ensures.fits (grew (family_between game diagram) front c.index_mut.result.now.number (book.Commit (handed_in true c.args.harvest)) (λ added. book.Added added) new c.commit_own-answer.result c.commit_own-answer.ensures.done) c.handed_in.ensures.fault c.commit_own-answer.ensures.fault)
 
 pub returns-clause-back : goal.returns-clause-back
 returns-clause-back g c =

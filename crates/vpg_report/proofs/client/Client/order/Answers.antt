@@ -26,7 +26,7 @@ returns-clause-accepted g c =
     let new = c.order-answer.new.front in
     let by = number_is c.seat.new.sessions.items c.in-Ok.place c.index_mut.result.now c.args.label c.in-Ok.ensures.within c.index_mut.ensures.value c.in-Ok.ensures.number in
     let view = (λ k. client_after game diagram (c.in-Ok.ensures.seated k) front) ∙ c.self.view_is in
-    step_made game diagram g.L.Terms.limit c.seat.new.unseated front new c.args.label c.index_mut.result.now.number by c.args.self.now view c.len-calls.result c.len-calls.ensures.length (λ e. e) c.order-answer.result c.follow_answer.new.front c.follow_answer.ensures (seen c.in-Ok-looked.order) book.Order (λ r. book.Ordered r.decisions r.hopeful r.dual) c.in-Ok-looked.ensures.made c.in-Ok-looked.ensures.more c.looked.ensures.fits c.order-answer.ensures.done
+    step_made game diagram g.L.Terms.limit c.seat.new.unseated front new c.args.label c.index_mut.result.now.number by c.args.self.now view c.len-calls.result c.len-calls.ensures.length c.order-answer.result (λ e. e) c.follow_answer.new.front c.follow_answer.ensures (seen c.in-Ok-looked.order) book.Order (λ r. book.Ordered r.decisions r.hopeful r.dual) c.in-Ok-looked.ensures.made c.in-Ok-looked.ensures.more c.looked.ensures.fits c.order-answer.ensures.done
 
 pub returns-clause-ours : goal.returns-clause-ours
 returns-clause-ours g c =

@@ -16,7 +16,7 @@ returns-clause-accepted g c =
     let new = c.redo-answer.new.front in
     let by = number_is c.seat.new.sessions.items c.in-Ok.place c.index_mut.result.now c.args.label c.in-Ok.ensures.within c.index_mut.ensures.value c.in-Ok.ensures.number in
     let view = (λ k. client_after game diagram (c.in-Ok.ensures.seated k) front) ∙ c.self.view_is in
-    token_made game diagram g.L.Terms.limit c.seat.new.unseated front new c.args.label c.index_mut.result.now.number by c.args.self.now view c.len-calls.result c.len-calls.ensures.length (λ b. b.fault) c.redo-answer.result c.follow_returned.new.front c.follow_returned.ensures (book.Redo c.args.token.serial) (λ t. book.Redone t.serial) c.redone.result c.redone.ensures.made c.redone.ensures.more c.redone.ensures.fits c.redo-answer.ensures.done
+    token_made game diagram g.L.Terms.limit c.seat.new.unseated front new c.args.label c.index_mut.result.now.number by c.args.self.now view c.len-calls.result c.len-calls.ensures.length c.redo-answer.result (λ b. b.fault) c.follow_returned.new.front c.follow_returned.ensures (book.Redo c.args.token.serial) (λ t. book.Redone t.serial) c.redone.result c.redone.ensures.made c.redone.ensures.more c.redone.ensures.fits c.redo-answer.ensures.done
 
 pub returns-clause-restores : goal.returns-clause-restores
 returns-clause-restores g c =
@@ -26,7 +26,7 @@ returns-clause-restores g c =
     let new = c.redo-answer.new.front in
     let by = number_is c.seat.new.sessions.items c.in-Ok.place c.index_mut.result.now c.args.label c.in-Ok.ensures.within c.index_mut.ensures.value c.in-Ok.ensures.number in
     let view = (λ k. client_after game diagram (c.in-Ok.ensures.seated k) front) ∙ c.self.view_is in
-    page_restored game diagram g.L.Terms.limit c.seat.new.unseated front new c.args.label c.index_mut.result.now.number by c.args.self.now view c.len-calls.result c.len-calls.ensures.length (λ b. b.fault) c.redo-answer.result c.follow_returned.new.front c.follow_returned.ensures c.args.token c.redone.result c.redone.ensures.made c.redo-answer.ensures.goes_back
+    page_restored game diagram g.L.Terms.limit c.seat.new.unseated front new c.args.label c.index_mut.result.now.number by c.args.self.now view c.len-calls.result c.len-calls.ensures.length c.redo-answer.result (λ b. b.fault) c.follow_returned.new.front c.follow_returned.ensures c.args.token c.redone.result c.redone.ensures.made c.redo-answer.ensures.goes_back
 
 pub returns-clause-token : goal.returns-clause-token
 returns-clause-token g c =
@@ -36,7 +36,7 @@ returns-clause-token g c =
     let new = c.redo-answer.new.front in
     let by = number_is c.seat.new.sessions.items c.in-Ok.place c.index_mut.result.now c.args.label c.in-Ok.ensures.within c.index_mut.ensures.value c.in-Ok.ensures.number in
     let view = (λ k. client_after game diagram (c.in-Ok.ensures.seated k) front) ∙ c.self.view_is in
-    token_stands game diagram g.L.Terms.limit c.seat.new.unseated front new c.args.label c.index_mut.result.now.number by c.args.self.now view c.len-calls.result c.len-calls.ensures.length (λ b. b.fault) c.redo-answer.result c.follow_returned.new.front c.follow_returned.ensures (book.Redo c.args.token.serial) (λ t. book.Redone t.serial) c.redone.result c.redone.ensures.made c.redone.ensures.more c.redo-answer.ensures.done
+    token_stands game diagram g.L.Terms.limit c.seat.new.unseated front new c.args.label c.index_mut.result.now.number by c.args.self.now view c.len-calls.result c.len-calls.ensures.length c.redo-answer.result (λ b. b.fault) c.follow_returned.new.front c.follow_returned.ensures (book.Redo c.args.token.serial) (λ t. book.Redone t.serial) c.redone.result c.redone.ensures.made c.redone.ensures.more c.redo-answer.ensures.done
 
 pub returns-clause-fault : goal.returns-clause-fault
 returns-clause-fault g c =
@@ -46,7 +46,7 @@ returns-clause-fault g c =
     let new = c.redo-answer.new.front in
     let by = number_is c.seat.new.sessions.items c.in-Ok.place c.index_mut.result.now c.args.label c.in-Ok.ensures.within c.index_mut.ensures.value c.in-Ok.ensures.number in
     let view = (λ k. client_after game diagram (c.in-Ok.ensures.seated k) front) ∙ c.self.view_is in
-    all_told game diagram g.L.Terms.limit c.seat.new.unseated front new c.args.label c.index_mut.result.now.number by c.args.self.now view c.len-calls.result c.len-calls.ensures.length (λ b. b.fault) c.redo-answer.result c.follow_returned.new.front c.follow_returned.ensures c.redone.result (λ r. r.fault) (λ r b. r.value ≡ token.Redo b.value) redo_refusal (book.Redo c.args.token.serial) c.redone.ensures.fits (token_grew (family_between game diagram) front c.index_mut.result.now.number (book.Redo c.args.token.serial) (λ t. book.Redone t.serial) new c.redo-answer.result c.redo-answer.ensures.done) c.redone.ensures.fault c.redo-answer.ensures.fault
+    all_told game diagram g.L.Terms.limit c.seat.new.unseated front new c.args.label c.index_mut.result.now.number by c.args.self.now view c.len-calls.result c.len-calls.ensures.length c.redo-answer.result (λ b. b.fault) c.follow_returned.new.front c.follow_returned.ensures c.redone.result (λ r. r.fault) (λ r b. r.value ≡ token.Redo b.value) redo_refusal (book.Redo c.args.token.serial) c.redone.ensures.fits (token_grew (family_between game diagram) front c.index_mut.result.now.number (book.Redo c.args.token.serial) (λ t. book.Redone t.serial) new c.redo-answer.result c.redo-answer.ensures.done) c.redone.ensures.fault c.redo-answer.ensures.fault
 
 pub returns-clause-back : goal.returns-clause-back
 returns-clause-back g c =

@@ -16,7 +16,7 @@ returns-clause-accepted g c =
     let new = c.retract-answer.new.front in
     let by = number_is c.seat.new.sessions.items c.in-Ok.place c.index_mut.result.now c.args.label c.in-Ok.ensures.within c.index_mut.ensures.value c.in-Ok.ensures.number in
     let view = (λ k. client_after game diagram (c.in-Ok.ensures.seated k) front) ∙ c.self.view_is in
-    token_made game diagram g.L.Terms.limit c.seat.new.unseated front new c.args.label c.index_mut.result.now.number by c.args.self.now view c.len-calls.result c.len-calls.ensures.length (λ e. e) c.retract-answer.result c.follow_answer.new.front c.follow_answer.ensures (book.Retract c.args.feature) (λ t. book.Changed t.serial) c.answered.result c.answered.ensures.made c.answered.ensures.more c.answered.ensures.fits c.retract-answer.ensures.done
+    token_made game diagram g.L.Terms.limit c.seat.new.unseated front new c.args.label c.index_mut.result.now.number by c.args.self.now view c.len-calls.result c.len-calls.ensures.length c.retract-answer.result (λ e. e) c.follow_answer.new.front c.follow_answer.ensures (book.Retract c.args.feature) (λ t. book.Changed t.serial) c.answered.result c.answered.ensures.made c.answered.ensures.more c.answered.ensures.fits c.retract-answer.ensures.done
 
 pub returns-clause-token : goal.returns-clause-token
 returns-clause-token g c =
@@ -26,7 +26,7 @@ returns-clause-token g c =
     let new = c.retract-answer.new.front in
     let by = number_is c.seat.new.sessions.items c.in-Ok.place c.index_mut.result.now c.args.label c.in-Ok.ensures.within c.index_mut.ensures.value c.in-Ok.ensures.number in
     let view = (λ k. client_after game diagram (c.in-Ok.ensures.seated k) front) ∙ c.self.view_is in
-    token_stands game diagram g.L.Terms.limit c.seat.new.unseated front new c.args.label c.index_mut.result.now.number by c.args.self.now view c.len-calls.result c.len-calls.ensures.length (λ e. e) c.retract-answer.result c.follow_answer.new.front c.follow_answer.ensures (book.Retract c.args.feature) (λ t. book.Changed t.serial) c.answered.result c.answered.ensures.made c.answered.ensures.more c.retract-answer.ensures.done
+    token_stands game diagram g.L.Terms.limit c.seat.new.unseated front new c.args.label c.index_mut.result.now.number by c.args.self.now view c.len-calls.result c.len-calls.ensures.length c.retract-answer.result (λ e. e) c.follow_answer.new.front c.follow_answer.ensures (book.Retract c.args.feature) (λ t. book.Changed t.serial) c.answered.result c.answered.ensures.made c.answered.ensures.more c.retract-answer.ensures.done
 
 pub returns-clause-fault : goal.returns-clause-fault
 returns-clause-fault g c =
@@ -36,7 +36,7 @@ returns-clause-fault g c =
     let new = c.retract-answer.new.front in
     let by = number_is c.seat.new.sessions.items c.in-Ok.place c.index_mut.result.now c.args.label c.in-Ok.ensures.within c.index_mut.ensures.value c.in-Ok.ensures.number in
     let view = (λ k. client_after game diagram (c.in-Ok.ensures.seated k) front) ∙ c.self.view_is in
-    all_told game diagram g.L.Terms.limit c.seat.new.unseated front new c.args.label c.index_mut.result.now.number by c.args.self.now view c.len-calls.result c.len-calls.ensures.length (λ e. e) c.retract-answer.result c.follow_answer.new.front c.follow_answer.ensures c.answered.result (λ r. r.fault) (λ r e. r.value ≡ None) retract_refusal (book.Retract c.args.feature) c.answered.ensures.fits (token_grew (family_between game diagram) front c.index_mut.result.now.number (book.Retract c.args.feature) (λ t. book.Changed t.serial) new c.retract-answer.result c.retract-answer.ensures.done) c.answered.ensures.fault c.retract-answer.ensures.fault
+    all_told game diagram g.L.Terms.limit c.seat.new.unseated front new c.args.label c.index_mut.result.now.number by c.args.self.now view c.len-calls.result c.len-calls.ensures.length c.retract-answer.result (λ e. e) c.follow_answer.new.front c.follow_answer.ensures c.answered.result (λ r. r.fault) (λ r e. r.value ≡ None) retract_refusal (book.Retract c.args.feature) c.answered.ensures.fits (token_grew (family_between game diagram) front c.index_mut.result.now.number (book.Retract c.args.feature) (λ t. book.Changed t.serial) new c.retract-answer.result c.retract-answer.ensures.done) c.answered.ensures.fault c.retract-answer.ensures.fault
 
 pub returns-clause-back : goal.returns-clause-back
 returns-clause-back g c =

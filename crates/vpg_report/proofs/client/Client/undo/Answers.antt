@@ -16,7 +16,7 @@ returns-clause-accepted g c =
     let new = c.undo-answer.new.front in
     let by = number_is c.seat.new.sessions.items c.in-Ok.place c.index_mut.result.now c.args.label c.in-Ok.ensures.within c.index_mut.ensures.value c.in-Ok.ensures.number in
     let view = (λ k. client_after game diagram (c.in-Ok.ensures.seated k) front) ∙ c.self.view_is in
-    token_made game diagram g.L.Terms.limit c.seat.new.unseated front new c.args.label c.index_mut.result.now.number by c.args.self.now view c.len-calls.result c.len-calls.ensures.length (λ b. b.fault) c.undo-answer.result c.follow_returned.new.front c.follow_returned.ensures (book.Undo c.args.token.serial) (λ t. book.Undone t.serial) c.undone.result c.undone.ensures.made c.undone.ensures.more c.undone.ensures.fits c.undo-answer.ensures.done
+    token_made game diagram g.L.Terms.limit c.seat.new.unseated front new c.args.label c.index_mut.result.now.number by c.args.self.now view c.len-calls.result c.len-calls.ensures.length c.undo-answer.result (λ b. b.fault) c.follow_returned.new.front c.follow_returned.ensures (book.Undo c.args.token.serial) (λ t. book.Undone t.serial) c.undone.result c.undone.ensures.made c.undone.ensures.more c.undone.ensures.fits c.undo-answer.ensures.done
 
 pub returns-clause-restores : goal.returns-clause-restores
 returns-clause-restores g c =
@@ -26,7 +26,7 @@ returns-clause-restores g c =
     let new = c.undo-answer.new.front in
     let by = number_is c.seat.new.sessions.items c.in-Ok.place c.index_mut.result.now c.args.label c.in-Ok.ensures.within c.index_mut.ensures.value c.in-Ok.ensures.number in
     let view = (λ k. client_after game diagram (c.in-Ok.ensures.seated k) front) ∙ c.self.view_is in
-    page_restored game diagram g.L.Terms.limit c.seat.new.unseated front new c.args.label c.index_mut.result.now.number by c.args.self.now view c.len-calls.result c.len-calls.ensures.length (λ b. b.fault) c.undo-answer.result c.follow_returned.new.front c.follow_returned.ensures c.args.token c.undone.result c.undone.ensures.made c.undo-answer.ensures.goes_back
+    page_restored game diagram g.L.Terms.limit c.seat.new.unseated front new c.args.label c.index_mut.result.now.number by c.args.self.now view c.len-calls.result c.len-calls.ensures.length c.undo-answer.result (λ b. b.fault) c.follow_returned.new.front c.follow_returned.ensures c.args.token c.undone.result c.undone.ensures.made c.undo-answer.ensures.goes_back
 
 pub returns-clause-token : goal.returns-clause-token
 returns-clause-token g c =
@@ -36,7 +36,7 @@ returns-clause-token g c =
     let new = c.undo-answer.new.front in
     let by = number_is c.seat.new.sessions.items c.in-Ok.place c.index_mut.result.now c.args.label c.in-Ok.ensures.within c.index_mut.ensures.value c.in-Ok.ensures.number in
     let view = (λ k. client_after game diagram (c.in-Ok.ensures.seated k) front) ∙ c.self.view_is in
-    token_stands game diagram g.L.Terms.limit c.seat.new.unseated front new c.args.label c.index_mut.result.now.number by c.args.self.now view c.len-calls.result c.len-calls.ensures.length (λ b. b.fault) c.undo-answer.result c.follow_returned.new.front c.follow_returned.ensures (book.Undo c.args.token.serial) (λ t. book.Undone t.serial) c.undone.result c.undone.ensures.made c.undone.ensures.more c.undo-answer.ensures.done
+    token_stands game diagram g.L.Terms.limit c.seat.new.unseated front new c.args.label c.index_mut.result.now.number by c.args.self.now view c.len-calls.result c.len-calls.ensures.length c.undo-answer.result (λ b. b.fault) c.follow_returned.new.front c.follow_returned.ensures (book.Undo c.args.token.serial) (λ t. book.Undone t.serial) c.undone.result c.undone.ensures.made c.undone.ensures.more c.undo-answer.ensures.done
 
 pub returns-clause-fault : goal.returns-clause-fault
 returns-clause-fault g c =
@@ -46,7 +46,7 @@ returns-clause-fault g c =
     let new = c.undo-answer.new.front in
     let by = number_is c.seat.new.sessions.items c.in-Ok.place c.index_mut.result.now c.args.label c.in-Ok.ensures.within c.index_mut.ensures.value c.in-Ok.ensures.number in
     let view = (λ k. client_after game diagram (c.in-Ok.ensures.seated k) front) ∙ c.self.view_is in
-    all_told game diagram g.L.Terms.limit c.seat.new.unseated front new c.args.label c.index_mut.result.now.number by c.args.self.now view c.len-calls.result c.len-calls.ensures.length (λ b. b.fault) c.undo-answer.result c.follow_returned.new.front c.follow_returned.ensures c.undone.result (λ r. r.fault) (λ r b. r.value ≡ token.Undo b.value) undo_refusal (book.Undo c.args.token.serial) c.undone.ensures.fits (token_grew (family_between game diagram) front c.index_mut.result.now.number (book.Undo c.args.token.serial) (λ t. book.Undone t.serial) new c.undo-answer.result c.undo-answer.ensures.done) c.undone.ensures.fault c.undo-answer.ensures.fault
+    all_told game diagram g.L.Terms.limit c.seat.new.unseated front new c.args.label c.index_mut.result.now.number by c.args.self.now view c.len-calls.result c.len-calls.ensures.length c.undo-answer.result (λ b. b.fault) c.follow_returned.new.front c.follow_returned.ensures c.undone.result (λ r. r.fault) (λ r b. r.value ≡ token.Undo b.value) undo_refusal (book.Undo c.args.token.serial) c.undone.ensures.fits (token_grew (family_between game diagram) front c.index_mut.result.now.number (book.Undo c.args.token.serial) (λ t. book.Undone t.serial) new c.undo-answer.result c.undo-answer.ensures.done) c.undone.ensures.fault c.undo-answer.ensures.fault
 
 pub returns-clause-back : goal.returns-clause-back
 returns-clause-back g c =
