@@ -620,16 +620,9 @@ impl<L: Terms> Session<L> {
         ensures counted { OnOk result (self.new.calls ≡ self.old.calls + 1) }
         ensures fault_counted { IfErr result (λ b. self.new.calls ≡ self.old.calls + logged b.fault) }
     {
+        let number = self.number;
         let mut log = office.log_with(rt, front, &own);
-        let answer = log.make(
-            rt,
-            &office.row,
-            self.number,
-            &mut self.made,
-            front,
-            asked,
-            call,
-        );
+        let answer = log.make(rt, &office.row, number, &mut self.made, front, asked, call);
         log.publish(rt, sheet, answer.is_ok());
         MutexGuard::unlock(log);
         answer
