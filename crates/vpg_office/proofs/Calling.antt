@@ -1,5 +1,5 @@
 -- What a call of the desk means for the log.
-use Rattle.std.proofs.Common.{Result, Ok, Err, IfOk, IfErr, ◌≡◌, ℕ, ◌<◌, ◌≤◌, Bool, List, [], ◌∷◌, ◌++◌, length, drop, Option, Some, None, IfSome, refl, sym, ap, ◌∙◌, subst, arith, append_assoc, append-nil, option_map}
+use Rattle.std.proofs.Common.{Result, Ok, Err, IfOk, IfErr, ◌≡◌, ℕ, ◌+◌, ◌<◌, ◌≤◌, Bool, List, [], ◌∷◌, ◌++◌, length, drop, Option, Some, None, IfSome, refl, sym, ap, ◌∙◌, subst, arith, append_assoc, append-nil, length-append, option_map}
 use Rattle.std.specs.Prelude.{IfNone, OnOk}
 use mathlib.Core.List.{IsPrefix}
 use Rattle.boxcar.specs.Table.{Shelves}
@@ -15,7 +15,7 @@ use Rattle.vpg_desk.specs.State.{DeskState, IsStep, Replies, setting_of}
 use Rattle.vpg_desk.proofs.Tokens.{counts_are_limited}
 use Rattle.vpg_measure.specs.Orders.{HarvestView}
 use Rattle.vpg_faults.specs.declared.fault.CommitFault.{CommitFault}
-use Rattle.vpg_office.specs.Faults.{Stops, Tells, CommitTells, Begins}
+use Rattle.vpg_office.specs.Faults.{Stops, Tells, CommitTells, Begins, logged}
 use Rattle.vpg_office.specs.Fronts.{IsHistory, Extends, calls_by, event, family_between}
 use Rattle.vpg_office.specs.Kept.{IsChronicle}
 use Rattle.vpg_office.specs.Locked.{IsLog}
@@ -131,8 +131,8 @@ stops_tell family limit refusal call session front newest (Doubled g) p h s =
 stops_tell family limit refusal call session front newest (DeskRefuses fault) p h s = absurd s
 stops_tell family limit refusal call session front newest Memory p h s = refl
 
-module _ {row : Shelves} {game : NamedGame} {diagram : NamedDiagram} {limit : ℕ} {chronicle : Chronicle} {newest : List Event} {desk : DeskState} {room total : ℕ} {shown : List Event}
-    (i : IsLog row game diagram limit chronicle newest desk room total shown) where
+module _ {row : Shelves} {game : NamedGame} {diagram : NamedDiagram} {limit : ℕ} {chronicle : Chronicle} {newest : List Event} {desk : DeskState} {room total left : ℕ} {shown : List Event}
+    (i : IsLog row game diagram limit chronicle newest desk room total left shown) where
   abbrev F : Family
   F = family_between game diagram
 
@@ -161,9 +161,9 @@ module _ {row : Shelves} {game : NamedGame} {diagram : NamedDiagram} {limit : �
       omega (arith, i.counted, ap (λ (b : Book). b.tokens) i.replay.book, h.0, h.1)
 
   -- a call was taken in
-  pub admitted : {after : Chronicle} {new : List Event} {room_after : ℕ} → new ≡ newest → room_after ≡ room → IsChronicle row game diagram after new →
-      IsLog row game diagram limit after new desk room_after total shown
-  admitted same fits kept = record {
+  pub admitted : {after : Chronicle} {new : List Event} {room_after left_after : ℕ} → new ≡ newest → room_after ≡ room → left_after ≡ left → IsChronicle row game diagram after new →
+      IsLog row game diagram limit after new desk room_after total left_after shown
+  admitted same fits all kept = record {
     replay = record {
       kept = kept;
       of_game = i.replay.of_game;
@@ -173,13 +173,18 @@ module _ {row : Shelves} {game : NamedGame} {diagram : NamedDiagram} {limit : �
       few = subst (λ n. n ≤ 1048576) (sym fits) i.replay.few;
     };
     counted = i.counted;
+    untaken = omega (arith, i.untaken, all, ap length same);
     published = subst (λ (l : List Event). IsPrefix shown l) (sym same) i.published;
   }
 
-  pub log_after : (after : Chronicle) (new : List Event) (room_after : ℕ) (desk_after : DeskState) (total_after : ℕ) (session : ℕ) (call : Call) (reply : Reply) → IsChronicle row game diagram after new →
+  -- a log that takes a call has a part for it, beside the one that is always left
+  pub more_left : {new : List Event} {left_after : ℕ} → new ≡ newest → left_after ≡ left → length new < limit → 1 < left_after
+  more_left same all fits = omega (arith, i.untaken, i.replay.most, i.replay.few, all, ap length same, fits)
+
+  pub log_after : (after : Chronicle) (new : List Event) (room_after : ℕ) (desk_after : DeskState) (total_after left_after : ℕ) (session : ℕ) (call : Call) (reply : Reply) → IsChronicle row game diagram after new →
       new ≡ newest ++ event session call reply ∷ [] → room_after ≡ room → desk_after.game ≡ desk.game → desk_after.diagram ≡ desk.diagram → desk_after.book ≡ next (family_of (setting_of desk)) desk.book session call reply →
-      total_after ≡ desk_after.book.tokens → IsLog row game diagram limit after new desk_after room_after total_after shown
-  log_after after new room_after desk_after total_after session call reply kept is fits g d b t = record {
+      total_after ≡ desk_after.book.tokens → left_after + 1 ≡ left → IsLog row game diagram limit after new desk_after room_after total_after left_after shown
+  log_after after new room_after desk_after total_after left_after session call reply kept is fits g d b t one = record {
     replay = record {
       kept = kept;
       of_game = g ∙ i.replay.of_game;
@@ -189,31 +194,34 @@ module _ {row : Shelves} {game : NamedGame} {diagram : NamedDiagram} {limit : �
       few = subst (λ n. n ≤ 1048576) (sym fits) i.replay.few;
     };
     counted = t;
+    untaken = omega (arith, i.untaken, one, ap length is, length-append newest (event session call reply ∷ []));
     published = prefix_more shown newest new (event session call reply) i.published is;
   }
 
   -- after a call that the desk made
-  pub log_made : (after : Chronicle) (new : List Event) (room_after : ℕ) (desk_after : DeskState) (total_after session : ℕ) (asked : Asked) (answer : Answer) → IsChronicle row game diagram after new →
+  pub log_made : (after : Chronicle) (new : List Event) (room_after : ℕ) (desk_after : DeskState) (total_after left_after session : ℕ) (asked : Asked) (answer : Answer) → IsChronicle row game diagram after new →
       new ≡ newest ++ event session (call_of asked answer) (reply_of F (book_after F opened newest).present answer) ∷ [] → room_after ≡ room →
-      IsStep desk session (call_of asked answer) (reply_of (family_of (setting_of desk)) desk.book.present answer) desk_after → total_after ≡ desk_after.book.tokens →
-      IsLog row game diagram limit after new desk_after room_after total_after shown
-  log_made after new room_after desk_after total_after session asked answer kept is fits step t =
+      IsStep desk session (call_of asked answer) (reply_of (family_of (setting_of desk)) desk.book.present answer) desk_after → total_after ≡ desk_after.book.tokens → left_after + 1 ≡ left →
+      IsLog row game diagram limit after new desk_after room_after total_after left_after shown
+  log_made after new room_after desk_after total_after left_after session asked answer kept is fits step t one =
       let same : reply_of (family_of (setting_of desk)) desk.book.present answer ≡ reply_of F (book_after F opened newest).present answer = λ k. reply_of (family_between (i.replay.of_game k) (i.replay.of_diagram k)) (i.replay.book k).present answer in
-      log_after after new room_after desk_after total_after session (call_of asked answer) (reply_of F (book_after F opened newest).present answer) kept is fits step.game step.diagram
-      (step.step.1 ∙ ap (next (family_of (setting_of desk)) desk.book session (call_of asked answer)) same) t
+      log_after after new room_after desk_after total_after left_after session (call_of asked answer) (reply_of F (book_after F opened newest).present answer) kept is fits step.game step.diagram
+      (step.step.1 ∙ ap (next (family_of (setting_of desk)) desk.book session (call_of asked answer)) same) t one
 
   -- after the desk's refusal, or where the desk was out of memory
-  pub log_refused : {L F : Type 0} (why : Option (Because F)) (session : ℕ) (asked : Asked) (told : Fault L F) (front front_after : List Event) (after : Chronicle) (new : List Event) (room_after : ℕ) (desk_after : DeskState) (total_after : ℕ) →
-      desk_after ≡ desk → total_after ≡ desk_after.book.tokens → room_after ≡ room → IsChronicle row game diagram after new →
+  pub log_refused : {L F : Type 0} (why : Option (Because F)) (session : ℕ) (asked : Asked) (told : Fault L F) (front front_after : List Event) (after : Chronicle) (new : List Event) (room_after : ℕ) (desk_after : DeskState) (total_after left_after : ℕ) →
+      left_after + logged told ≡ left → desk_after ≡ desk → total_after ≡ desk_after.book.tokens → room_after ≡ room → IsChronicle row game diagram after new →
       IfNone why ((told ≡ Memory) × (front_after ≡ front) × (new ≡ newest)) →
       IfSome why (λ w. (told ≡ DeskRefuses w.fault) × (front_after ≡ new) × (new ≡ newest ++ event session (call_of asked (Refused w.cause)) (book.Refused (refusal_of w.cause)) ∷ [])) →
-      IsLog row game diagram limit after new desk_after room_after total_after shown
-  log_refused None session asked told front front_after after new room_after desk_after total_after same t fits kept none some =
+      IsLog row game diagram limit after new desk_after room_after total_after left_after shown
+  log_refused {L} {F} None session asked told front front_after after new room_after desk_after total_after left_after untaken same t fits kept none some =
       let count : total_after ≡ total = t ∙ (λ k. (same k).book.tokens) ∙ sym i.counted in
-      coe 0 1 (k. IsLog row game diagram limit after new ((sym same) k) room_after ((sym count) k) shown) (admitted none.2 fits kept)
-  log_refused (Some w) session asked told front front_after after new room_after desk_after total_after same t fits kept none some =
-      log_after after new room_after desk_after total_after session (call_of asked (Refused w.cause)) (book.Refused (refusal_of w.cause)) kept some.2 fits
-      (λ k. (same k).game) (λ k. (same k).diagram) (λ k. (same k).book) t
+      let all : left_after + logged {L = L} {F = F} Memory ≡ left = subst (λ (f : Fault L F). left_after + logged f ≡ left) none.0 untaken in
+      coe 0 1 (k. IsLog row game diagram limit after new ((sym same) k) room_after ((sym count) k) left_after shown) (admitted none.2 fits (omega (arith, all)) kept)
+  log_refused {L} {F} (Some w) session asked told front front_after after new room_after desk_after total_after left_after untaken same t fits kept none some =
+      let one : left_after + logged {L = L} {F = F} (DeskRefuses w.fault) ≡ left = subst (λ (f : Fault L F). left_after + logged f ≡ left) some.0 untaken in
+      log_after after new room_after desk_after total_after left_after session (call_of asked (Refused w.cause)) (book.Refused (refusal_of w.cause)) kept some.2 fits
+      (λ k. (same k).game) (λ k. (same k).diagram) (λ k. (same k).book) t one
 
 -- a page has the entries of the desk's present page
 pub page_is : (state : DeskState) (entries : List Step) → Replies state Page (PageIs entries) → entries ≡ state.book.present

@@ -2,6 +2,7 @@
 use denote.RattleType.{RattleType}
 use denote.Param.Send.{IsSend, IsSync, AllSend, struct_send, recorded_send, struct_sync, recorded_sync, sendable}
 use denote.Struct.Declared.{shape, fields}
+use Rattle.std.proofs.sync.ledger.Share.TheSendSync.{the_send as share_send}
 use Rattle.std.proofs.Crossing.{crosses}
 use Rattle.std.specs.declared.sync.ledger.Ledger as ledger
 use Rattle.boxcar.proofs.table.Placed.TheSendSync.{the_send as placed_send}
@@ -56,7 +57,7 @@ module _ (L : RattleType) (t : terms.Ghosts L.Denot) (l : ledger.Ghosts L.Denot)
   front_syncs = search (front_sync, sendable, crosses) depth 40
 
   calls_fields : AllSend (fields (Made.the_type L t l))
-  calls_fields = (chronicle_field, (search (front_sends, sendable) depth 12, (search sendable depth 12, tt)))
+  calls_fields = (chronicle_field, (search (front_sends, sendable) depth 12, (search sendable depth 12, (search (share_send, sendable, crosses) depth 20, tt))))
 
   calls_field : IsSend (Made.the_field L t l).row
   calls_field = struct_send (shape (Made.the_type L t l)) calls_fields

@@ -1,5 +1,5 @@
 -- The log of an office that was just opened.
-use Rattle.std.proofs.Common.{◌≡◌, ◌↔◌, ℕ, ◌≤◌, Bool, true, false, true≢false, List, [], length, sym, ap, ◌∙◌, subst}
+use Rattle.std.proofs.Common.{◌≡◌, ◌↔◌, ℕ, ◌≤◌, Bool, true, false, true≢false, List, [], length, sym, ap, ◌∙◌, subst, arith}
 use Rattle.std.specs.Bool.{Decides}
 use Rattle.boxcar.specs.Table.{Shelves}
 use Rattle.vpg_diagram.specs.DiagramText.{NamedDiagram}
@@ -34,10 +34,10 @@ no_calls row game diagram c newest places told given none opens = record {
   counted = ap length given ∙ ap (λ (l : List Event). (book_after (family_between game diagram) opened l).changes) (sym none);
 }
 
-pub first_log : {row : Shelves} {game : NamedGame} {diagram : NamedDiagram} {limit : ℕ} (c : Chronicle) (newest : List Event) (desk : DeskState) (room total : ℕ) (shown : List Event) → c.places.items ≡ [] → c.told.items ≡ [] →
-    c.given.items ≡ [] → newest ≡ [] → IsOpened game diagram → desk.game ≡ game → desk.diagram ≡ diagram → desk.book ≡ opened → room ≡ limit → room ≤ 1048576 → total ≡ 0 → shown ≡ [] →
-    IsLog row game diagram limit c newest desk room total shown
-first_log {row} {game} {diagram} {limit} c newest desk room total shown places told given none opens g d b most few t empty = record {
+pub first_log : {row : Shelves} {game : NamedGame} {diagram : NamedDiagram} {limit : ℕ} (c : Chronicle) (newest : List Event) (desk : DeskState) (room total left : ℕ) (shown : List Event) → c.places.items ≡ [] → c.told.items ≡ [] →
+    c.given.items ≡ [] → newest ≡ [] → IsOpened game diagram → desk.game ≡ game → desk.diagram ≡ diagram → desk.book ≡ opened → room ≡ limit → room ≤ 1048576 → total ≡ 0 → left ≡ 1048577 → shown ≡ [] →
+    IsLog row game diagram limit c newest desk room total left shown
+first_log {row} {game} {diagram} {limit} c newest desk room total left shown places told given none opens g d b most few t all empty = record {
   replay = record {
     kept = no_calls row game diagram c newest places told given none opens;
     of_game = g;
@@ -47,6 +47,7 @@ first_log {row} {game} {diagram} {limit} c newest desk room total shown places t
     few = few;
   };
   counted = t ∙ ap (λ (x : Book). x.tokens) (sym b);
+  untaken = omega (arith, all, ap length none);
   published = prefix_none shown newest empty;
 }
 

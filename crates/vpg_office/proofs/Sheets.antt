@@ -32,9 +32,9 @@ pub history_begins : (family : Family) (f log : List Event) → IsPrefix f log �
 history_begins family f log p h =
     subst (IsHistory family) (ap (take (length f)) (sym p.1) ∙ take_front f p.0) (history_take family (length f) log h)
 
-pub shown_history : {row : Shelves} {game : NamedGame} {diagram : NamedDiagram} {limit : ℕ} {chronicle : Chronicle} {newest : List Event} {desk : DeskState} {room total : ℕ} {shown : List Event} →
-    IsLog row game diagram limit chronicle newest desk room total shown → IsHistory (family_between game diagram) shown
-shown_history {row} {game} {diagram} {limit} {chronicle} {newest} {desk} {room} {total} {shown} i = history_begins (family_between game diagram) shown newest i.published (log_history i)
+pub shown_history : {row : Shelves} {game : NamedGame} {diagram : NamedDiagram} {limit : ℕ} {chronicle : Chronicle} {newest : List Event} {desk : DeskState} {room total left : ℕ} {shown : List Event} →
+    IsLog row game diagram limit chronicle newest desk room total left shown → IsHistory (family_between game diagram) shown
+shown_history {row} {game} {diagram} {limit} {chronicle} {newest} {desk} {room} {total} {left} {shown} i = history_begins (family_between game diagram) shown newest i.published (log_history i)
 
 -- ---- the sheet of a desk
 

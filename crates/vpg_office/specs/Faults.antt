@@ -34,6 +34,11 @@ Tells family limit refusal call session front new (DeskRefuses fault) =
     (r : Refusal) × ((refusal fault ≡ Some r) × Extends family front session call (Refused r) new)
 Tells family limit refusal call session front new Memory = new ≡ front
 
+-- how many calls of the log a call with this fault is: one if the desk refused it, else none
+abbrev pub logged : {L F : Type 0} → Fault L F → ℕ
+logged (DeskRefuses fault) = 1
+logged _ = 0
+
 -- after a refusal of the desk, the new front begins with the token's
 abbrev pub Begins : {L F : Type 0} → List Event → List Event → Fault L F → Type 0
 Begins history new (DeskRefuses fault) = IsPrefix history new

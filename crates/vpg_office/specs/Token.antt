@@ -16,6 +16,11 @@ pub record EndsWith (gives : Reply → Type 0) (history : List Event) : Type 0 w
   pub is : history ≡ before ++ own ∷ []
   pub gave : gives own.reply
 
+-- a session: its number, and how many calls of the log are its own
+pub record Caller : Type 0 where
+  pub number : ℕ
+  pub calls : ℕ
+
 -- the base of an office: the name of its row, and its ledger's name and parts
 pub record Named : Type 0 where
   pub row : Shelves

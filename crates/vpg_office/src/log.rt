@@ -7,7 +7,7 @@ ghost use Rattle.vpg_desk.specs.Book as book;
 ghost use Rattle.vpg_desk.specs.Book.{opened, IsReply};
 ghost use Rattle.vpg_desk.specs.History.{book_after};
 ghost use Rattle.vpg_desk.specs.Lawful.{HandsIn, IsLawful};
-ghost use Rattle.vpg_office.specs.Faults.{Stops};
+ghost use Rattle.vpg_office.specs.Faults.{Stops, logged};
 ghost use Rattle.vpg_office.specs.Fronts.{IsHistory, calls_by, event, family_between};
 ghost use Rattle.vpg_office.specs.Kept.{HasRoom, IsChronicle, IsEntryOf, IsLacking, lines_of};
 ghost use Rattle.vpg_office.specs.Made.{IsEntered, Leaves};
@@ -25,6 +25,7 @@ use crate::terms::Terms;
 use std::alloc::Global;
 use std::marker::Model;
 use std::sync::Wait;
+use std::sync::ledger::Share;
 use vpg_watch::Press;
 
 /// The calls that were made, and their history.
@@ -35,6 +36,8 @@ pub struct Calls<L: Terms> {
     pub(crate) newest: Front<L>,
     // how many calls it takes
     pub(crate) room: usize,
+    // a part for each call that comes; a session has those of its calls
+    pub(crate) left: Share<L>,
 }
 
 /// A session's call, and the row that it is pushed to.
@@ -78,7 +81,7 @@ impl<L: Terms> Model for Log<L> {
 
     ghost invariant = { λ g.
         IsLog L.shelves L.game L.diagram L.limit g.calls.chronicle g.calls.newest g.desk g.calls.room g.purse
-        g.press.front };
+        g.calls.left.parts g.press.front };
 }
 
 impl<L: Terms> Calls<L> {
@@ -119,6 +122,7 @@ impl<L: Terms> Calls<L> {
         requires limit { self.old.room ≡ L.limit }
         ensures newest { self.new.newest ≡ self.old.newest }
         ensures limit { self.new.room ≡ self.old.room }
+        ensures left { self.new.left.parts ≡ self.old.left.parts }
         ensures kept { IsChronicle L.shelves L.game L.diagram self.new.chronicle self.new.newest }
         ensures room { OnOk result (HasRoom self.new.chronicle) }
         ensures place { IfOk result
@@ -148,10 +152,11 @@ impl<L: Terms> Calls<L> {
         }
     }
 
-    /// Appends the call and its answer to the log. The front becomes the whole log.
+    /// Appends the call and its answer to the log, and counts it for the session. The front becomes the whole log.
     pub(crate) fn enter(
         &mut self,
         request: &Request<'_>,
+        made: &mut Share<L>,
         front: &mut Front<L>,
         place: Place,
         answer: Answer,
@@ -167,6 +172,7 @@ impl<L: Terms> Calls<L> {
             (reply_of family b.present answer) }
         requires hands { HandsIn (IsLawful (family_between L.game L.diagram)) (call_of request.now.asked answer) }
         requires named { IsNamed L.game L.diagram request.now.asked answer }
+        requires left { 1 < self.old.left.parts }
         ensures kept { IsChronicle L.shelves L.game L.diagram self.new.chronicle self.new.newest }
         ensures limit { self.new.room ≡ self.old.room }
         ensures newest { let family =
@@ -175,18 +181,22 @@ impl<L: Terms> Calls<L> {
             (reply_of family (book_after family opened self.old.newest).present answer) ∷ [] }
         ensures front { front.new ≡ self.new.newest }
         ensures history { IsHistory (family_between L.game L.diagram) front.new }
+        ensures left { self.new.left.parts + 1 ≡ self.old.left.parts }
+        ensures made { made.new.parts ≡ made.old.parts + 1 }
     {
         let count = self.newest.len() + 1;
         self.newest = Front::at(&place, answer, count);
         self.chronicle
             .put(place, request.session, &request.asked, answer);
         *front = self.newest.copy();
+        self.left.give(made, 1, 0);
     }
 
     /// Enters the desk's refusal, if there is one; else the desk was out of memory.
     pub(crate) fn refuse<F: Drop>(
         &mut self,
         request: &Request<'_>,
+        made: &mut Share<L>,
         front: &mut Front<L>,
         place: Place,
         refused: Option<Because<F>>,
@@ -205,6 +215,7 @@ impl<L: Terms> Calls<L> {
             HandsIn (IsLawful (family_between L.game L.diagram))
             (call_of request.now.asked (Answer.Refused w.cause))) }
         requires named { IfSome refused (λ w. IsNamed L.game L.diagram request.now.asked (Answer.Refused w.cause)) }
+        requires left { 1 < self.old.left.parts }
         ensures kept { IsChronicle L.shelves L.game L.diagram self.new.chronicle self.new.newest }
         ensures limit { self.new.room ≡ self.old.room }
         ensures memory { IfNone refused
@@ -214,12 +225,14 @@ impl<L: Terms> Calls<L> {
             (self.new.newest ≡ self.old.newest
             ++ event request.now.session (call_of request.now.asked (Answer.Refused w.cause))
             (book.Refused (refusal_of w.cause)) ∷ [])) }
+        ensures left { self.new.left.parts + logged result ≡ self.old.left.parts }
+        ensures made { made.new.parts ≡ made.old.parts + logged result }
     {
         let Some(because) = refused else {
             return Fault::Memory;
         };
         let Because { cause, fault } = because;
-        self.enter(request, front, place, Answer::Refused { cause });
+        self.enter(request, made, front, place, Answer::Refused { cause });
         Fault::Refused { fault }
     }
 }
@@ -231,6 +244,7 @@ impl<L: Terms> Log<L> {
         alloc: Global,
         desk: Replay,
         purse: Purse<L>,
+        left: Share<L>,
         room: usize,
         press: Press<Front<L>>,
     ) -> Log<L>
@@ -238,6 +252,7 @@ impl<L: Terms> Log<L> {
         requires opened { desk.book ≡ opened }
         requires opens { IsOpened L.game L.diagram }
         requires none { purse ≡ 0 }
+        requires left { left.parts ≡ 1048577 }
         requires room { (room ≡ L.limit) × (room ≤ 1048576) }
         requires press { press.front ≡ [] }
         ensures { result ≡ [] }
@@ -246,6 +261,7 @@ impl<L: Terms> Log<L> {
             chronicle: Chronicle::new(alloc),
             newest: Front::empty(),
             room,
+            left,
         };
         Log {
             calls,
@@ -258,7 +274,8 @@ impl<L: Terms> Log<L> {
     /// Returns a further session, and the log so far.
     pub(crate) fn joined(&mut self) -> Option<(Session<L>, Front<L>)>
         ensures same { self.new ≡ self.old }
-        ensures number { IfSome result (λ r. (1 ≤ r.0) × (r.0 ≤ 1024)) }
+        ensures number { IfSome result (λ r. (1 ≤ r.0.number) × (r.0.number ≤ 1024)) }
+        ensures fresh { IfSome result (λ r. r.0.calls ≡ 0) }
         ensures history { IfSome result (λ r. IsHistory (family_between L.game L.diagram) r.1) }
     {
         let (number, share) = self.purse.seat()?;
@@ -279,6 +296,7 @@ impl<L: Terms> Log<L> {
         rt: &R,
         row: &Row,
         session: u32,
+        made: &mut Share<L>,
         front: &mut Front<L>,
         asked: Asked,
         call: C,
@@ -295,6 +313,8 @@ impl<L: Terms> Log<L> {
             (λ b. Leaves L.game L.diagram L.limit C.refusal self.old front.old session (C.asks call) front.new
             b.fault) }
         ensures back { IfErr result (λ b. b.value ≡ call) }
+        ensures counted { OnOk result (made.new.parts ≡ made.old.parts + 1) }
+        ensures fault_counted { IfErr result (λ b. made.new.parts ≡ made.old.parts + logged b.fault) }
     {
         let request = Request {
             row,
@@ -312,14 +332,14 @@ impl<L: Terms> Log<L> {
             &mut self.purse,
             session,
         ) {
-            Ok(made) => {
-                let Made { given, answer } = made;
-                self.calls.enter(&request, front, place, answer);
+            Ok(done) => {
+                let Made { given, answer } = done;
+                self.calls.enter(&request, made, front, place, answer);
                 Ok(given)
             }
             Err(unmade) => {
                 let Unmade { refused, call } = unmade;
-                let fault = self.calls.refuse(&request, front, place, refused);
+                let fault = self.calls.refuse(&request, made, front, place, refused);
                 Err(Returned { fault, value: call })
             }
         }

@@ -22,7 +22,7 @@ use crate::purse::Purse;
 use crate::redo_token::Redo;
 use crate::replay::Replay;
 use crate::session::Session;
-use crate::site::Site;
+use crate::site::{CALLS, Site};
 use crate::terms::Terms;
 use crate::undo_token::Undo;
 use crate::unshared::Unshared;
@@ -171,9 +171,10 @@ impl<L: Terms> Shared<Row, L, Log<L>> {
         match opened_desk::<L, R>(rt, alloc, game, diagram) {
             Ok((desk, press)) => {
                 let Site { row, blank } = site;
-                let (book, rest) = blank.open::<L>();
+                let (book, mut rest) = blank.open::<L>();
+                let left = rest.split_off(CALLS, 0);
                 let purse = Purse::of(book, rest);
-                let log = Log::open(alloc, desk, purse, room as usize, press);
+                let log = Log::open(alloc, desk, purse, left, room as usize, press);
                 Ok(Shared {
                     row,
                     log: Mutex::new(log),
@@ -192,7 +193,8 @@ impl<L: Terms> Shared<Row, L, Log<L>> {
     /// Returns a further session, with the log so far. Refused if there are 1,024.
     pub fn join<R: Wait>(&self, rt: &R) -> Result<(Session<L>, Front<L>), TooManySessions>
         ensures history { IfOk result (λ r. IsHistory (family_between L.game L.diagram) r.1) }
-        ensures number { IfOk result (λ r. (1 ≤ r.0) × (r.0 ≤ 1024)) }
+        ensures number { IfOk result (λ r. (1 ≤ r.0.number) × (r.0.number ≤ 1024)) }
+        ensures fresh { IfOk result (λ r. r.0.calls ≡ 0) }
     {
         let mut log = self.log.lock(rt);
         let joined = log.joined();

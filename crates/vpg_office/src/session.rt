@@ -1,6 +1,6 @@
 //! Sessions and their calls.
 ghost use Rattle.std.specs.Arc.{arc_value};
-ghost use Rattle.std.specs.Prelude.{◌≡◌, ◌<◌, ◌≤◌, List, true, length, IfOk, IfErr, IfSome, OnOk};
+ghost use Rattle.std.specs.Prelude.{◌≡◌, ◌+◌, ◌<◌, ◌≤◌, List, true, length, IfOk, IfErr, IfSome, OnOk};
 ghost use mathlib.Core.List.{IsPrefix};
 ghost use Rattle.vpg_desk.specs.Book as book;
 ghost use Rattle.vpg_desk.specs.Commit.{handed_in};
@@ -13,7 +13,7 @@ ghost use Rattle.vpg_desk.specs.Lawful.{PageIsBelow};
 ghost use Rattle.vpg_desk.specs.Setting.{IsSetting};
 ghost use Rattle.vpg_desk.specs.State.{IsReached, setting_between};
 ghost use Rattle.vpg_desk.specs.Faults.{decide_refusal, redo_refusal, retract_refusal, undo_refusal};
-ghost use Rattle.vpg_office.specs.Faults.{Begins, CommitTells, Tells, never_refused};
+ghost use Rattle.vpg_office.specs.Faults.{Begins, CommitTells, Tells, logged, never_refused};
 ghost use Rattle.vpg_office.specs.Fronts.{Extends, GoesBackTo, family_between};
 ghost use Rattle.vpg_office.specs.Kept.{HasOwn};
 ghost use Rattle.vpg_office.specs.Made.{IsEntered, Leaves};
@@ -41,20 +41,27 @@ use vpg_measure::{Harvest, Order, PageGames};
 use vpg_trail::Page;
 use vpg_verdict::Verdict;
 
-/// A session of an office. It can't be copied. Contracts see its number, from 1 to 1,024.
+/// A session of an office. It can't be copied. Contracts see its number, from 1 to 1,024, and how many calls of the log
+/// are its own. A call counts if it is done, or refused by the desk; one that answers `LogFull`, `Doubled` or `Memory`
+/// doesn't.
 #[derive(Drop)]
 pub struct Session<L: Terms> {
     number: u32,
     // of as many parts as its number says
     share: Share<L>,
+    // of a part for each of its calls in the log
+    made: Share<L>,
 }
 
 impl<L: Terms> Model for Session<L> {
-    ghost use Rattle.std.specs.Prelude.{ℕ};
+    ghost use Rattle.std.specs.Coded.{codes};
+    ghost use Rattle.vpg_office.specs.Token.{Caller};
 
-    ghost Value = { ℕ };
+    ghost Value = { Caller };
 
-    ghost view = { λ s. s.number };
+    ghost coded = { Prim.hlevel codes };
+
+    ghost view = { λ s. record { number = s.number; calls = s.made.parts } };
 
     ghost use Rattle.std.specs.Prelude.{◌≡◌, ◌≤◌};
 
@@ -66,14 +73,20 @@ impl<L: Terms> Session<L> {
     pub(crate) fn numbered(number: u32, share: Share<L>) -> Session<L>
         requires number { (1 ≤ number) × (number ≤ 1024) }
         requires share { (share.parts ≡ number) × (share.amount ≡ 0) }
-        ensures { result ≡ number }
+        ensures { result ≡ record { number = number; calls = 0 } }
     {
-        Session { number, share }
+        let mut share = share;
+        let made = share.empty();
+        Session {
+            number,
+            share,
+            made,
+        }
     }
 
     /// Returns its number.
     pub fn number(&self) -> u32
-        ensures number { result ≡ self.now }
+        ensures number { result ≡ self.now.number }
         ensures range { (1 ≤ result) × (result ≤ 1024) }
     {
         self.number
@@ -90,12 +103,14 @@ impl<L: Terms> Session<L> {
         value: bool,
     ) -> Result<Undo<L>, Fault<L, DecideFault>>
         ensures done { IfOk result
-            (λ t. Extends (family_between L.game L.diagram) front.old self.old (book.Decide feature value)
+            (λ t. Extends (family_between L.game L.diagram) front.old self.old.number (book.Decide feature value)
             (book.Changed t.serial) front.new × (t.history ≡ front.new)) }
         ensures fault { IfErr result
             (Tells (family_between L.game L.diagram) L.limit decide_refusal
-            (book.Decide feature value) self.old front.old front.new) }
-        ensures same { self.new ≡ self.old }
+            (book.Decide feature value) self.old.number front.old front.new) }
+        ensures same { self.new.number ≡ self.old.number }
+        ensures counted { OnOk result (self.new.calls ≡ self.old.calls + 1) }
+        ensures fault_counted { IfErr result (λ fault. self.new.calls ≡ self.old.calls + logged fault) }
     {
         let asked = Asked::Decide { feature, value };
         let call = DecideCall {
@@ -119,12 +134,14 @@ impl<L: Terms> Session<L> {
         feature: u16,
     ) -> Result<Undo<L>, Fault<L, RetractFault>>
         ensures done { IfOk result
-            (λ t. Extends (family_between L.game L.diagram) front.old self.old (book.Retract feature)
+            (λ t. Extends (family_between L.game L.diagram) front.old self.old.number (book.Retract feature)
             (book.Changed t.serial) front.new × (t.history ≡ front.new)) }
         ensures fault { IfErr result
             (Tells (family_between L.game L.diagram) L.limit retract_refusal
-            (book.Retract feature) self.old front.old front.new) }
-        ensures same { self.new ≡ self.old }
+            (book.Retract feature) self.old.number front.old front.new) }
+        ensures same { self.new.number ≡ self.old.number }
+        ensures counted { OnOk result (self.new.calls ≡ self.old.calls + 1) }
+        ensures fault_counted { IfErr result (λ fault. self.new.calls ≡ self.old.calls + logged fault) }
     {
         let asked = Asked::Retract { feature };
         let call = RetractCall { alloc, feature };
@@ -145,16 +162,18 @@ impl<L: Terms> Session<L> {
         token: Undo<L>,
     ) -> Result<Redo<L>, Returned<L, UndoFault, Undo<L>>>
         ensures done { IfOk result
-            (λ t. Extends (family_between L.game L.diagram) front.old self.old (book.Undo token.serial)
+            (λ t. Extends (family_between L.game L.diagram) front.old self.old.number (book.Undo token.serial)
             (book.Undone t.serial) front.new × (t.history ≡ front.new)) }
         ensures goes_back { OnOk result (GoesBackTo (family_between L.game L.diagram) front.new token.history) }
         ensures begins { OnOk result (IsPrefix token.history front.new) }
         ensures fault { IfErr result
             (λ b. Tells (family_between L.game L.diagram) L.limit undo_refusal
-            (book.Undo token.serial) self.old front.old front.new b.fault) }
+            (book.Undo token.serial) self.old.number front.old front.new b.fault) }
         ensures refused { IfErr result (λ b. Begins token.history front.new b.fault) }
         ensures back { IfErr result (λ b. b.value ≡ token) }
-        ensures same { self.new ≡ self.old }
+        ensures same { self.new.number ≡ self.old.number }
+        ensures counted { OnOk result (self.new.calls ≡ self.old.calls + 1) }
+        ensures fault_counted { IfErr result (λ b. self.new.calls ≡ self.old.calls + logged b.fault) }
     {
         let serial = token.serial();
         let own = Own {
@@ -187,16 +206,18 @@ impl<L: Terms> Session<L> {
         token: Redo<L>,
     ) -> Result<Undo<L>, Returned<L, RedoFault, Redo<L>>>
         ensures done { IfOk result
-            (λ t. Extends (family_between L.game L.diagram) front.old self.old (book.Redo token.serial)
+            (λ t. Extends (family_between L.game L.diagram) front.old self.old.number (book.Redo token.serial)
             (book.Redone t.serial) front.new × (t.history ≡ front.new)) }
         ensures goes_back { OnOk result (GoesBackTo (family_between L.game L.diagram) front.new token.history) }
         ensures begins { OnOk result (IsPrefix token.history front.new) }
         ensures fault { IfErr result
             (λ b. Tells (family_between L.game L.diagram) L.limit redo_refusal
-            (book.Redo token.serial) self.old front.old front.new b.fault) }
+            (book.Redo token.serial) self.old.number front.old front.new b.fault) }
         ensures refused { IfErr result (λ b. Begins token.history front.new b.fault) }
         ensures back { IfErr result (λ b. b.value ≡ token) }
-        ensures same { self.new ≡ self.old }
+        ensures same { self.new.number ≡ self.old.number }
+        ensures counted { OnOk result (self.new.calls ≡ self.old.calls + 1) }
+        ensures fault_counted { IfErr result (λ b. self.new.calls ≡ self.old.calls + logged b.fault) }
     {
         let serial = token.serial();
         let own = Own {
@@ -227,14 +248,16 @@ impl<L: Terms> Session<L> {
         token: Undo<L>,
     ) -> Result<(), Returned<L, Never, Undo<L>>>
         ensures done { OnOk result
-            (Extends (family_between L.game L.diagram) front.old self.old
+            (Extends (family_between L.game L.diagram) front.old self.old.number
             (book.Keep token.serial) book.Spent front.new) }
         ensures begins { OnOk result (IsPrefix token.history front.new) }
         ensures fault { IfErr result
             (λ b. Tells (family_between L.game L.diagram) L.limit never_refused
-            (book.Keep token.serial) self.old front.old front.new b.fault) }
+            (book.Keep token.serial) self.old.number front.old front.new b.fault) }
         ensures back { IfErr result (λ b. b.value ≡ token) }
-        ensures same { self.new ≡ self.old }
+        ensures same { self.new.number ≡ self.old.number }
+        ensures counted { OnOk result (self.new.calls ≡ self.old.calls + 1) }
+        ensures fault_counted { IfErr result (λ b. self.new.calls ≡ self.old.calls + logged b.fault) }
     {
         let own = Own {
             front: token.place.copy(),
@@ -266,14 +289,16 @@ impl<L: Terms> Session<L> {
         token: Redo<L>,
     ) -> Result<(), Returned<L, Never, Redo<L>>>
         ensures done { OnOk result
-            (Extends (family_between L.game L.diagram) front.old self.old
+            (Extends (family_between L.game L.diagram) front.old self.old.number
             (book.Forget token.serial) book.Spent front.new) }
         ensures begins { OnOk result (IsPrefix token.history front.new) }
         ensures fault { IfErr result
             (λ b. Tells (family_between L.game L.diagram) L.limit never_refused
-            (book.Forget token.serial) self.old front.old front.new b.fault) }
+            (book.Forget token.serial) self.old.number front.old front.new b.fault) }
         ensures back { IfErr result (λ b. b.value ≡ token) }
-        ensures same { self.new ≡ self.old }
+        ensures same { self.new.number ≡ self.old.number }
+        ensures counted { OnOk result (self.new.calls ≡ self.old.calls + 1) }
+        ensures fault_counted { IfErr result (λ b. self.new.calls ≡ self.old.calls + logged b.fault) }
     {
         let own = Own {
             front: token.place.copy(),
@@ -304,11 +329,14 @@ impl<L: Terms> Session<L> {
         front: &mut Front<L>,
     ) -> Result<bool, Fault<L, Never>>
         ensures done { IfOk result
-            (λ r. Extends (family_between L.game L.diagram) front.old self.old book.Settled
+            (λ r. Extends (family_between L.game L.diagram) front.old self.old.number book.Settled
             (book.IsSettled r) front.new) }
         ensures fault { IfErr result
-            (Tells (family_between L.game L.diagram) L.limit never_refused book.Settled self.old front.old front.new) }
-        ensures same { self.new ≡ self.old }
+            (Tells (family_between L.game L.diagram) L.limit never_refused
+            book.Settled self.old.number front.old front.new) }
+        ensures same { self.new.number ≡ self.old.number }
+        ensures counted { OnOk result (self.new.calls ≡ self.old.calls + 1) }
+        ensures fault_counted { IfErr result (λ fault. self.new.calls ≡ self.old.calls + logged fault) }
     {
         let asked = Asked::Settled;
         match self.make(rt, office, front, None, asked, SettledCall, None) {
@@ -328,7 +356,7 @@ impl<L: Terms> Session<L> {
     ) -> Result<Verdict, Fault<L, Never>>
         requires { vertex < length L.game.vertices }
         ensures done { IfOk result
-            (λ r. Extends (family_between L.game L.diagram) front.old self.old (book.Verdict vertex)
+            (λ r. Extends (family_between L.game L.diagram) front.old self.old.number (book.Verdict vertex)
             (book.VerdictIs r.hopeless r.sure) front.new) }
         // On the page at the end of that front.
         ensures means { IfOk result
@@ -336,8 +364,10 @@ impl<L: Terms> Session<L> {
             (page_after (family_between L.game L.diagram) front.new) vertex r.hopeless r.sure) }
         ensures fault { IfErr result
             (Tells (family_between L.game L.diagram) L.limit never_refused
-            (book.Verdict vertex) self.old front.old front.new) }
-        ensures same { self.new ≡ self.old }
+            (book.Verdict vertex) self.old.number front.old front.new) }
+        ensures same { self.new.number ≡ self.old.number }
+        ensures counted { OnOk result (self.new.calls ≡ self.old.calls + 1) }
+        ensures fault_counted { IfErr result (λ fault. self.new.calls ≡ self.old.calls + logged fault) }
     {
         let asked = Asked::Verdict { vertex };
         match self.make(rt, office, front, None, asked, VerdictCall { vertex }, None) {
@@ -355,7 +385,7 @@ impl<L: Terms> Session<L> {
         front: &mut Front<L>,
     ) -> Result<Page, Fault<L, Never>>
         ensures done { IfOk result
-            (λ r. Extends (family_between L.game L.diagram) front.old self.old book.Page
+            (λ r. Extends (family_between L.game L.diagram) front.old self.old.number book.Page
             (book.PageIs r.entries) front.new) }
         ensures decisions { IfOk result (λ r. r.decisions ≡ decisions_of r.entries) }
         ensures hopeful { IfOk result (λ r. r.hopeful ≡ table_of Hopeful r.entries (length (graph_of L.game))) }
@@ -367,8 +397,11 @@ impl<L: Terms> Session<L> {
             (IsReached (setting_between L.game L.diagram)
             (book_after (family_between L.game L.diagram) book.opened front.new)) }
         ensures fault { IfErr result
-            (Tells (family_between L.game L.diagram) L.limit never_refused book.Page self.old front.old front.new) }
-        ensures same { self.new ≡ self.old }
+            (Tells (family_between L.game L.diagram) L.limit never_refused
+            book.Page self.old.number front.old front.new) }
+        ensures same { self.new.number ≡ self.old.number }
+        ensures counted { OnOk result (self.new.calls ≡ self.old.calls + 1) }
+        ensures fault_counted { IfErr result (λ fault. self.new.calls ≡ self.old.calls + logged fault) }
     {
         match self.make(
             rt,
@@ -394,7 +427,7 @@ impl<L: Terms> Session<L> {
         front: &mut Front<L>,
     ) -> Result<(Page, Arc<PageGames>), Fault<L, Never>>
         ensures done { IfOk result
-            (λ r. Extends (family_between L.game L.diagram) front.old self.old book.Page
+            (λ r. Extends (family_between L.game L.diagram) front.old self.old.number book.Page
             (book.PageIs r.0.entries) front.new) }
         ensures decisions { IfOk result (λ r. r.0.decisions ≡ decisions_of r.0.entries) }
         ensures hopeful { IfOk result (λ r. r.0.hopeful ≡ table_of Hopeful r.0.entries (length (graph_of L.game))) }
@@ -407,8 +440,11 @@ impl<L: Terms> Session<L> {
             (IsReached (setting_between L.game L.diagram)
             (book_after (family_between L.game L.diagram) book.opened front.new)) }
         ensures fault { IfErr result
-            (Tells (family_between L.game L.diagram) L.limit never_refused book.Page self.old front.old front.new) }
-        ensures same { self.new ≡ self.old }
+            (Tells (family_between L.game L.diagram) L.limit never_refused
+            book.Page self.old.number front.old front.new) }
+        ensures same { self.new.number ≡ self.old.number }
+        ensures counted { OnOk result (self.new.calls ≡ self.old.calls + 1) }
+        ensures fault_counted { IfErr result (λ fault. self.new.calls ≡ self.old.calls + logged fault) }
     {
         match self.make(
             rt,
@@ -433,12 +469,15 @@ impl<L: Terms> Session<L> {
         front: &mut Front<L>,
     ) -> Result<Order, Fault<L, Never>>
         ensures done { IfOk result
-            (λ r. Extends (family_between L.game L.diagram) front.old self.old book.Order
+            (λ r. Extends (family_between L.game L.diagram) front.old self.old.number book.Order
             (book.Ordered r.decisions r.hopeful r.dual) front.new) }
         ensures ours { IfOk result (λ r. IsOf L.game L.diagram r) }
         ensures fault { IfErr result
-            (Tells (family_between L.game L.diagram) L.limit never_refused book.Order self.old front.old front.new) }
-        ensures same { self.new ≡ self.old }
+            (Tells (family_between L.game L.diagram) L.limit never_refused
+            book.Order self.old.number front.old front.new) }
+        ensures same { self.new.number ≡ self.old.number }
+        ensures counted { OnOk result (self.new.calls ≡ self.old.calls + 1) }
+        ensures fault_counted { IfErr result (λ fault. self.new.calls ≡ self.old.calls + logged fault) }
     {
         match self.make(
             rt,
@@ -464,13 +503,15 @@ impl<L: Terms> Session<L> {
         harvest: Harvest,
     ) -> Result<u32, Returned<L, CommitFault, Harvest>>
         ensures done { IfOk result
-            (λ added. Extends (family_between L.game L.diagram) front.old self.old
+            (λ added. Extends (family_between L.game L.diagram) front.old self.old.number
             (book.Commit (handed_in true harvest)) (book.Added added) front.new) }
         ensures ours { OnOk result (IsOf L.game L.diagram harvest.order) }
         ensures fault { IfErr result
-            (λ b. CommitTells L.game L.diagram L.limit harvest self.old front.old front.new b.fault) }
+            (λ b. CommitTells L.game L.diagram L.limit harvest self.old.number front.old front.new b.fault) }
         ensures back { IfErr result (λ b. b.value ≡ harvest) }
-        ensures same { self.new ≡ self.old }
+        ensures same { self.new.number ≡ self.old.number }
+        ensures counted { OnOk result (self.new.calls ≡ self.old.calls + 1) }
+        ensures fault_counted { IfErr result (λ b. self.new.calls ≡ self.old.calls + logged b.fault) }
     {
         self.hand_in(rt, alloc, office, front, harvest, false)
     }
@@ -487,19 +528,21 @@ impl<L: Terms> Session<L> {
     ) -> Result<u32, Returned<L, CommitFault, Harvest>>
         requires ours { IsOf L.game L.diagram harvest.order }
         ensures done { IfOk result
-            (λ added. Extends (family_between L.game L.diagram) front.old self.old
+            (λ added. Extends (family_between L.game L.diagram) front.old self.old.number
             (book.Commit (handed_in true harvest)) (book.Added added) front.new) }
         ensures fault { IfErr result
-            (λ b. CommitTells L.game L.diagram L.limit harvest self.old front.old front.new b.fault) }
+            (λ b. CommitTells L.game L.diagram L.limit harvest self.old.number front.old front.new b.fault) }
         ensures back { IfErr result (λ b. b.value ≡ harvest) }
-        ensures same { self.new ≡ self.old }
+        ensures same { self.new.number ≡ self.old.number }
+        ensures counted { OnOk result (self.new.calls ≡ self.old.calls + 1) }
+        ensures fault_counted { IfErr result (λ b. self.new.calls ≡ self.old.calls + logged b.fault) }
     {
         self.hand_in(rt, alloc, office, front, harvest, true)
     }
 
     /// Commits a harvest; `own` if it is known to be of the office's game and diagram.
     fn hand_in<R: Wait>(
-        &self,
+        &mut self,
         rt: &R,
         alloc: Global,
         office: &Office<L>,
@@ -509,12 +552,15 @@ impl<L: Terms> Session<L> {
     ) -> Result<u32, Returned<L, CommitFault, Harvest>>
         requires { own ≡ true → IsOf L.game L.diagram harvest.order }
         ensures done { IfOk result
-            (λ added. Extends (family_between L.game L.diagram) front.old self.now
+            (λ added. Extends (family_between L.game L.diagram) front.old self.old.number
             (book.Commit (handed_in true harvest)) (book.Added added) front.new) }
         ensures ours { OnOk result (IsOf L.game L.diagram harvest.order) }
         ensures fault { IfErr result
-            (λ b. CommitTells L.game L.diagram L.limit harvest self.now front.old front.new b.fault) }
+            (λ b. CommitTells L.game L.diagram L.limit harvest self.old.number front.old front.new b.fault) }
         ensures back { IfErr result (λ b. b.value ≡ harvest) }
+        ensures same { self.new.number ≡ self.old.number }
+        ensures counted { OnOk result (self.new.calls ≡ self.old.calls + 1) }
+        ensures fault_counted { IfErr result (λ b. self.new.calls ≡ self.old.calls + logged b.fault) }
     {
         let asked = Asked::Commit {
             harvest: Snapshot::of(&harvest),
@@ -547,7 +593,7 @@ impl<L: Terms> Session<L> {
     /// Makes a call on a log that has the front and a token's. With an allocator the sheet of a call that is made is
     /// published.
     fn make<C: Call<L>, R: Wait>(
-        &self,
+        &mut self,
         rt: &R,
         office: &Office<L>,
         front: &mut Front<L>,
@@ -562,17 +608,21 @@ impl<L: Terms> Session<L> {
             (λ g. (log : List Event) ×
             (IsPrefix front.old log ×
             (IfSome own (HasOwn log) ×
-            (IsEntered L.game L.diagram log front.old self.now (C.asks call) (C.answers g) front.new ×
+            (IsEntered L.game L.diagram log front.old self.old.number (C.asks call) (C.answers g) front.new ×
             C.Gives call (book_after (family_between L.game L.diagram) book.opened log) g)))) }
         ensures leaves { IfErr result
             (λ b. (log : List Event) ×
             (IsPrefix front.old log ×
             (IfSome own (HasOwn log) ×
-            Leaves L.game L.diagram L.limit C.refusal log front.old self.now (C.asks call) front.new b.fault))) }
+            Leaves L.game L.diagram L.limit C.refusal log front.old self.old.number (C.asks call) front.new b.fault))) }
         ensures back { IfErr result (λ b. b.value ≡ call) }
+        ensures same { self.new.number ≡ self.old.number }
+        ensures counted { OnOk result (self.new.calls ≡ self.old.calls + 1) }
+        ensures fault_counted { IfErr result (λ b. self.new.calls ≡ self.old.calls + logged b.fault) }
     {
+        let number = self.number;
         let mut log = office.log_with(rt, front, &own);
-        let answer = log.make(rt, &office.row, self.number, front, asked, call);
+        let answer = log.make(rt, &office.row, number, &mut self.made, front, asked, call);
         log.publish(rt, sheet, answer.is_ok());
         MutexGuard::unlock(log);
         answer

@@ -24,7 +24,7 @@ same old new is = (ap (λ (c : ClientState). c.desk.game) is, ap (λ (c : Client
 pub stays : {F : Type 0} (limit : ℕ) (refusal : F → Option Refusal) (old : ClientState) (label : ℕ) (call : Call) (new : ClientState) (fault : ClientFault F) → Tells limit refusal old label call new fault → Stays old new
 stays limit refusal old label call new LogFull told = same old new told.1
 stays limit refusal old label call new (Refused fault) told = (told.1.1.step.game, told.1.1.step.diagram)
-stays limit refusal old label call new Stray told = told
+stays limit refusal old label call new Stray told = told.0
 stays limit refusal old label call new Memory told = same old new told
 
 -- the same of a call that is answered, or isn't
@@ -36,7 +36,7 @@ answered_stays limit refusal old label call reply new (Err fault) logged told = 
 pub commit_stays : (limit : ℕ) (old : ClientState) (label : ℕ) (harvest : HarvestView) (new : ClientState) (fault : ClientFault CommitFault) → CommitTells limit old label harvest new fault → Stays old new
 commit_stays limit old label harvest new (Refused fault) told = (told.1.1.1.1.step.game, told.1.1.1.1.step.diagram)
 commit_stays limit old label harvest new LogFull told = same old new told.1
-commit_stays limit old label harvest new Stray told = told
+commit_stays limit old label harvest new Stray told = told.0
 commit_stays limit old label harvest new Memory told = same old new told
 
 -- what holds unless a call strayed

@@ -1,7 +1,8 @@
 -- What a session's call tells a client: its front has grown by that call alone.
-use Rattle.std.proofs.Common.{◌≡◌, ℕ, ◌+◌, ◌-◌, ◌<◌, ◌≤◌, Bool, true, List, [], ◌∷◌, ◌++◌, length, take, Option, refl, sym, ap, ◌∙◌, subst, arith, length-append, append-nil}
+use Rattle.std.proofs.Common.{◌≡◌, ℕ, ◌+◌, ◌-◌, ◌<◌, ◌≤◌, Bool, true, List, [], ◌∷◌, ◌++◌, length, take, Option, refl, sym, ap, ◌∙◌, subst, arith, length-append, append-nil, inl, inr}
+use mathlib.Core.List.{IsPrefix}
 use Rattle.std.specs.Bool.{Decides}
-use Rattle.std.specs.Prelude.{slice_index, slice_index_or, Result, Ok, Err, IfOk, IfErr, OnOk, MatchResult}
+use Rattle.std.specs.Prelude.{slice_index_or, Result, Ok, Err, IfOk, IfErr, OnOk, MatchResult}
 use Rattle.std.proofs.lemmas.List.{get_or_read}
 use Rattle.std.proofs.lemmas.Result.{IfOk-at_ok}
 use Rattle.vpg_diagram.specs.DiagramText.{NamedDiagram}
@@ -15,14 +16,15 @@ use Rattle.vpg_faults.specs.declared.fault.CommitFault.{CommitFault}
 use Rattle.vpg_desk.specs.History.{Event, IsLegal, book_after, page_after}
 use Rattle.vpg_desk.proofs.UndoRedo.{legal_parts}
 use Rattle.vpg_office.specs.Faults.{Tells as OfficeTells, CommitTells as OfficeCommitTells}
-use Rattle.vpg_office.specs.Fronts.{Extends, GoesBackTo, before_last, event, family_between}
-use Rattle.vpg_office.specs.Token.{Held}
+use Rattle.vpg_office.specs.Fronts.{Extends, GoesBackTo, Overtakes, before_last, calls_by, event, family_between}
+use Rattle.vpg_office.specs.Token.{Caller, Held}
 use Rattle.vpg_office.specs.declared.fault.Fault.{Fault}
+use Rattle.vpg_office.specs.declared.fault.Fault.TheVariants as office
 use Rattle.vpg_office.proofs.Calling.{page_is}
 use Rattle.vpg_office.proofs.Stories.{book_more}
-use Rattle.vpg_report.proofs.Fronts.{none_of}
-use Rattle.vpg_report.specs.Client.{ClientState, IsLogged, client_after, page_of}
-use Rattle.vpg_report.specs.Faults.{Tells, CommitTells, Sorts, IsAbsent, UnlessStray}
+use Rattle.vpg_report.proofs.Fronts.{none_of, same_front}
+use Rattle.vpg_report.specs.Client.{ClientState, IsLogged, IsNumbered, IsUnseated, client_after, nobody, page_of}
+use Rattle.vpg_report.specs.Faults.{Tells, CommitTells, HasStrayed, Sorts, IsAbsent, UnlessStray, shown_by, shown_after}
 use Rattle.vpg_report.specs.declared.fault.ClientFault.{ClientFault}
 use Rattle.vpg_report.specs.declared.fault.ClientFault.TheVariants.{LogFull, Refused, Stray, Memory}
 
@@ -36,8 +38,14 @@ before_more front e =
     ap (λ (n : ℕ). take n (front ++ e ∷ [])) count ∙ take_front front (e ∷ [])
 
 -- the session at a place is the one of this number
-pub number_is : (sessions : List ℕ) (place number label : ℕ) → place < length sessions → number ≡ slice_index_or sessions place number → slice_index sessions place ≡ label → number ≡ label
-number_is sessions place number label within here is = get_or_read sessions place number within here 0 ∙ is
+pub number_is : (sessions : List Caller) (place : ℕ) (session : Caller) (label : ℕ) → place < length sessions → session ≡ slice_index_or sessions place session → (slice_index_or sessions place nobody).number ≡ label → session.number ≡ label
+number_is sessions place session label within here is = ap (λ (c : Caller). c.number) (get_or_read sessions place session within here nobody) ∙ is
+
+pub numbered : (sessions : List Caller) (place : ℕ) (session : Caller) (number : ℕ) → place < length sessions → session ≡ slice_index_or sessions place session → session.number ≡ number → IsNumbered sessions place number
+numbered sessions place session number within here is = (within, ap (λ (c : Caller). c.number) (sym (get_or_read sessions place session within here nobody)) ∙ is)
+
+pub not_numbered : (sessions : List Caller) (place : ℕ) (session : Caller) (number : ℕ) → session ≡ slice_index_or sessions place session → ¬ (session.number ≡ number) → ¬ IsNumbered sessions place number
+not_numbered sessions place session number here other = λ is. other (number_is sessions place session number is.0 here is.1)
 
 -- ---- what is said of an answer, of the result that was made of it
 
@@ -59,29 +67,56 @@ pub said_of_err : {T E : Type 0} (answer : Result T E) (fault : E) (P : T → Ty
 said_of_err {T} {E} answer fault P Q is q = subst (λ (a : Result T E). MatchResult a P Q) (sym is) q
 
 -- the same comes back with each refusal
-pub same_back : {U D T E G X : Type 0} (result : Result U D) (answer : Result T E) (told_of : D → ClientFault G) (value_of : D → X) (Sorted : D → E → Type 0) (value : X) →
-    IfErr result (λ d. MatchResult answer (λ _. told_of d ≡ Stray) (λ e. Sorted d e × (value_of d ≡ value))) → IfErr result (λ d. UnlessStray (told_of d) (value_of d ≡ value))
-same_back (Ok u) answer told_of value_of Sorted value is = tt
-same_back (Err d) (Ok t) told_of value_of Sorted value is = subst (λ told. UnlessStray told (value_of d ≡ value)) (sym is) tt
-same_back (Err d) (Err e) told_of value_of Sorted value is = unless_stray (told_of d) is.1
+pub same_back : {U D T E G X : Type 0} (result : Result U D) (answer : Result T E) (told_of : D → ClientFault G) (value_of : D → X) (Sorted : D → E → Type 0) (value : X) (Longer : Type 0) →
+    IfErr result (λ d. MatchResult answer (λ _. (told_of d ≡ Stray) × Longer) (λ e. Sorted d e × (value_of d ≡ value))) → IfErr result (λ d. UnlessStray (told_of d) (value_of d ≡ value))
+same_back (Ok u) answer told_of value_of Sorted value Longer is = tt
+same_back (Err d) (Ok t) told_of value_of Sorted value Longer is = subst (λ told. UnlessStray told (value_of d ≡ value)) (sym is.0) tt
+same_back (Err d) (Err e) told_of value_of Sorted value Longer is = unless_stray (told_of d) is.1
 
 -- what the answer gives back comes back
-pub comes_back : {U D T E G V X : Type 0} (result : Result U D) (answer : Result T E) (told_of : D → ClientFault G) (value_of : D → X) (Sorted : D → E → Type 0) (wrapped : V → X) (back : E → V) (value : V) →
-    IfErr result (λ d. MatchResult answer (λ _. told_of d ≡ Stray) (λ e. Sorted d e × (value_of d ≡ wrapped (back e)))) → IfErr answer (λ e. back e ≡ value) → IfErr result (λ d. UnlessStray (told_of d) (value_of d ≡ wrapped value))
-comes_back (Ok u) answer told_of value_of Sorted wrapped back value is same = tt
-comes_back (Err d) (Ok t) told_of value_of Sorted wrapped back value is same = subst (λ told. UnlessStray told (value_of d ≡ wrapped value)) (sym is) tt
-comes_back (Err d) (Err e) told_of value_of Sorted wrapped back value is same = unless_stray (told_of d) (is.1 ∙ ap wrapped same)
+pub comes_back : {U D T E G V X : Type 0} (result : Result U D) (answer : Result T E) (told_of : D → ClientFault G) (value_of : D → X) (Sorted : D → E → Type 0) (wrapped : V → X) (back : E → V) (value : V) (Longer : Type 0) →
+    IfErr result (λ d. MatchResult answer (λ _. (told_of d ≡ Stray) × Longer) (λ e. Sorted d e × (value_of d ≡ wrapped (back e)))) → IfErr answer (λ e. back e ≡ value) → IfErr result (λ d. UnlessStray (told_of d) (value_of d ≡ wrapped value))
+comes_back (Ok u) answer told_of value_of Sorted wrapped back value Longer is same = tt
+comes_back (Err d) (Ok t) told_of value_of Sorted wrapped back value Longer is same = subst (λ told. UnlessStray told (value_of d ≡ wrapped value)) (sym is.0) tt
+comes_back (Err d) (Err e) told_of value_of Sorted wrapped back value Longer is same = unless_stray (told_of d) (is.1 ∙ ap wrapped same)
 
 pub on_made : {T D E : Type 0} (result : Result T D) (answer : Result T E) (P Q : Type 0) → IfOk result (λ t. answer ≡ Ok t) → OnOk answer P → (P → Q) → OnOk result Q
 on_made {T} (Ok t) answer P Q is p then = then (IfOk-at_ok (λ (_ : T). P) is p)
 on_made (Err d) answer P Q is p then = tt
 
-module _ (game : NamedGame) (diagram : NamedDiagram) (room : ℕ) (front new : List Event) where
+-- ---- logs that are longer than the front
+
+longer : (front log : List Event) (calls : ℕ) → calls ≡ length front → IsPrefix front log → ¬ (length log ≡ calls) → length front < length log
+longer front log calls calls_is begins other = omega (arith, calls_is, other, ap length begins.1, length-append front begins.0)
+
+some_of : (session : ℕ) (events : List Event) → 0 < calls_by session events → 0 < length events
+some_of session [] some = absurd (omega (arith, some))
+some_of session (e ∷ events) some = omega arith
+
+overtaken : (family : Family) (front : List Event) (session : ℕ) (log : List Event) → Overtakes family front session log → length front < length log
+overtaken family front session log is = omega (arith, ap length is.is, length-append front is.between, some_of session is.between is.some)
+
+pub grows : (family : Family) (front : List Event) (session : ℕ) (call : Call) (reply : Reply) (new : List Event) → Extends family front session call reply new → length front < length new
+grows family front session call reply new is =
+    omega (arith, ap length is.is, length-append (front ++ is.between) (event session call reply ∷ []), length-append front is.between)
+
+-- an answer says that the front has grown
+pub grew : {T E : Type 0} (family : Family) (front : List Event) (session : ℕ) (call : Call) (reply : T → Reply) (new : List Event) (answer : Result T E) → IfOk answer (λ t. Extends family front session call (reply t) new) →
+    OnOk answer (length front < length new)
+grew family front session call reply new (Ok t) done = grows family front session call (reply t) new done
+grew family front session call reply new (Err e) done = tt
+
+pub token_grew : {E : Type 0} (family : Family) (front : List Event) (session : ℕ) (call : Call) (reply : Held → Reply) (new : List Event) (answer : Result Held E) →
+    IfOk answer (λ t. Extends family front session call (reply t) new × (t.history ≡ new)) → OnOk answer (length front < length new)
+token_grew family front session call reply new (Ok t) done = grows family front session call (reply t) new done.0
+token_grew family front session call reply new (Err e) done = tt
+
+module _ (game : NamedGame) (diagram : NamedDiagram) (room : ℕ) (unseated : Bool) (front new : List Event) where
   abbrev F : Family
   F = family_between game diagram
 
   abbrev here : List Event → ClientState
-  here events = client_after game diagram events
+  here events = client_after game diagram unseated events
 
   module _ (label : ℕ) (call : Call) (reply : Reply) (more : length new ≡ length front + 1) (is : Extends F front label call reply new) where
     grown : new ≡ front ++ event label call reply ∷ []
@@ -127,86 +162,138 @@ module _ (game : NamedGame) (diagram : NamedDiagram) (room : ℕ) (front new : L
     page_stays entries fits more is = (accepted Page (PageIs entries) fits more is).step.step.1
 
     module _ (calls : ℕ) (calls_is : calls ≡ length front) where
-      pub tells : {T G : Type 0} (refusal : G → Option Refusal) (call : Call) (fault : Fault T G) (told : ClientFault G) → length new ≤ room → Sorts calls (length new) fault told →
-          OfficeTells F room refusal call number front new fault → Tells room refusal old label call (here new) told
-      tells {T} {G} refusal call fault LogFull fits (log, (is, same)) said =
-          let now = subst (λ (f : Fault T G). OfficeTells F room refusal call number front new f) is said in
-          subst (λ (s : ClientState). (s.calls ≡ room) × (here new ≡ s)) view (sym calls_is ∙ sym same ∙ now.2, ap here now.0)
-      tells {T} {G} refusal call fault (Refused other) fits (is, more) said =
-          let now = subst (λ (f : Fault T G). OfficeTells F room refusal call number front new f) is said in
-          (now.0, (now.1.0, accepted call (book.Refused now.0) fits (more ∙ ap (λ (n : ℕ). n + 1) calls_is) now.1.1))
-      tells refusal call fault Stray fits sorts said = subst (λ (s : ClientState). ((here new).desk.game ≡ s.desk.game) × ((here new).desk.diagram ≡ s.desk.diagram)) view (refl, refl)
-      tells {T} {G} refusal call fault Memory fits is said =
-          ap here (subst (λ (f : Fault T G). OfficeTells F room refusal call number front new f) is said) ∙ view
+      -- the log has a call that the client didn't know of
+      strayed : (last : List Event) → length front < length last → (((here last).desk.game ≡ old.desk.game) × ((here last).desk.diagram ≡ old.desk.diagram)) × HasStrayed old (here last)
+      strayed last more = subst (λ (s : ClientState). (((here last).desk.game ≡ s.desk.game) × ((here last).desk.diagram ≡ s.desk.diagram)) × HasStrayed s (here last)) view ((refl, refl), inl more)
 
-      pub commit_tells : {T : Type 0} (harvest : HarvestView) (fault : Fault T CommitFault) (told : ClientFault CommitFault) → length new ≤ room → Sorts calls (length new) fault told →
-          OfficeCommitTells game diagram room harvest number front new fault → CommitTells room old label harvest (here new) told
-      commit_tells {T} harvest fault LogFull fits (log, (is, same)) said =
-          let now = subst (λ (f : Fault T CommitFault). OfficeCommitTells game diagram room harvest number front new f) is said in
-          subst (λ (s : ClientState). (s.calls ≡ room) × (here new ≡ s)) view (sym calls_is ∙ sym same ∙ now.2, ap here now.0)
-      commit_tells {T} harvest fault (Refused other) fits (is, more) said =
-          let now = subst (λ (f : Fault T CommitFault). OfficeCommitTells game diagram room harvest number front new f) is said in
-          let logs = accepted (Commit (handed_in now.0 harvest)) (book.Refused now.1.1.0) fits (more ∙ ap (λ (n : ℕ). n + 1) calls_is) now.1.1.1.1 in
-          (now.0, (subst (λ (s : ClientState). Decides now.0 (IsOrderOf s.desk harvest.order)) view now.1.0, (now.1.1.0, (now.1.1.1.0, logs))))
-      commit_tells harvest fault Stray fits sorts said = subst (λ (s : ClientState). ((here new).desk.game ≡ s.desk.game) × ((here new).desk.diagram ≡ s.desk.diagram)) view (refl, refl)
-      commit_tells {T} harvest fault Memory fits is said =
-          ap here (subst (λ (f : Fault T CommitFault). OfficeCommitTells game diagram room harvest number front new f) is said) ∙ view
+      stays : (log : List Event) → IsPrefix front log → length log ≡ calls → here log ≡ old
+      stays log begins same = ap here (same_front front log begins (same ∙ calls_is)) ∙ view
 
-      -- what was made is one step of the desk, and is counted
-      pub step_made : {T D E : Type 0} (result : Result T D) (answer : Result T E) (call : Call) (reply : T → Reply) → IfOk result (λ t. answer ≡ Ok t) → OnOk result (length new ≡ calls + 1) → length new ≤ room →
-          IfOk answer (λ t. Extends F front number call (reply t) new) → IfOk result (λ t. IsLogged room old label call (reply t) (here new))
-      step_made {T} (Ok t) answer call reply is more fits done = accepted call (reply t) fits (more ∙ ap (λ (n : ℕ). n + 1) calls_is) (IfOk-at_ok (λ (x : T). Extends F front number call (reply x) new) is done)
-      step_made (Err d) answer call reply is more fits done = tt
+      -- what the client tells of the office's fault
+      pub tells : {T G : Type 0} (refusal : G → Option Refusal) (call : Call) (fault : Fault T G) (told : ClientFault G) → length (shown_by fault new) ≤ room → Sorts calls (length (shown_by fault new)) fault told →
+          OfficeTells F room refusal call number front new fault → Tells room refusal old label call (here (shown_by fault new)) told
+      tells refusal call (office.LogFull log) LogFull fits same said = (subst (λ (s : ClientState). s.calls ≡ room) view (sym calls_is ∙ sym same ∙ said.2), stays log said.1 same)
+      tells refusal call (office.LogFull log) (Refused other) fits sorts said = absurd sorts
+      tells refusal call (office.LogFull log) Stray fits other said = strayed log (longer front log calls calls_is said.1 other)
+      tells refusal call (office.LogFull log) Memory fits sorts said = absurd sorts
+      tells refusal call (office.Doubled log) LogFull fits sorts said = absurd sorts
+      tells refusal call (office.Doubled log) (Refused other) fits sorts said = absurd sorts
+      tells refusal call (office.Doubled log) Stray fits sorts said = strayed log (overtaken F front number log said.2)
+      tells refusal call (office.Doubled log) Memory fits sorts said = absurd sorts
+      tells refusal call (office.Refused fault) LogFull fits sorts said = absurd sorts
+      tells refusal call (office.Refused fault) (Refused other) fits (is, more) said =
+          (said.0, (ap refusal is ∙ said.1.0, accepted call (book.Refused said.0) fits (more ∙ ap (λ (n : ℕ). n + 1) calls_is) said.1.1))
+      tells refusal call (office.Refused fault) Stray fits other said = strayed new (grows F front number call (book.Refused said.0) new said.1.1)
+      tells refusal call (office.Refused fault) Memory fits sorts said = absurd sorts
+      tells refusal call office.Memory LogFull fits sorts said = absurd sorts
+      tells refusal call office.Memory (Refused other) fits sorts said = absurd sorts
+      tells refusal call office.Memory Stray fits sorts said = absurd sorts
+      tells refusal call office.Memory Memory fits sorts said = ap here said ∙ view
 
-      -- the same of a token
-      pub token_made : {D E : Type 0} (call : Call) (reply : Held → Reply) (result : Result Held D) (answer : Result Held E) → IfOk result (λ t. answer ≡ Ok t) → OnOk result (length new ≡ calls + 1) → length new ≤ room →
-          IfOk answer (λ t. Extends F front number call (reply t) new × (t.history ≡ new)) → IfOk result (λ t. IsLogged room old label call (reply t) (here new))
-      token_made call reply (Ok t) answer is more fits done = accepted call (reply t) fits (more ∙ ap (λ (n : ℕ). n + 1) calls_is) (IfOk-at_ok (λ (x : Held). Extends F front number call (reply x) new × (x.history ≡ new)) is done).0
-      token_made call reply (Err d) answer is more fits done = tt
+      pub commit_tells : {T : Type 0} (harvest : HarvestView) (fault : Fault T CommitFault) (told : ClientFault CommitFault) → length (shown_by fault new) ≤ room → Sorts calls (length (shown_by fault new)) fault told →
+          OfficeCommitTells game diagram room harvest number front new fault → CommitTells room old label harvest (here (shown_by fault new)) told
+      commit_tells harvest (office.LogFull log) LogFull fits same said = (subst (λ (s : ClientState). s.calls ≡ room) view (sym calls_is ∙ sym same ∙ said.2), stays log said.1 same)
+      commit_tells harvest (office.LogFull log) (Refused other) fits sorts said = absurd sorts
+      commit_tells harvest (office.LogFull log) Stray fits other said = strayed log (longer front log calls calls_is said.1 other)
+      commit_tells harvest (office.LogFull log) Memory fits sorts said = absurd sorts
+      commit_tells harvest (office.Doubled log) LogFull fits sorts said = absurd sorts
+      commit_tells harvest (office.Doubled log) (Refused other) fits sorts said = absurd sorts
+      commit_tells harvest (office.Doubled log) Stray fits sorts said = strayed log (overtaken F front number log said.2)
+      commit_tells harvest (office.Doubled log) Memory fits sorts said = absurd sorts
+      commit_tells harvest (office.Refused fault) LogFull fits sorts said = absurd sorts
+      commit_tells harvest (office.Refused fault) (Refused other) fits (is, more) said =
+          let logs = accepted (Commit (handed_in said.0 harvest)) (book.Refused said.1.1.0) fits (more ∙ ap (λ (n : ℕ). n + 1) calls_is) said.1.1.1.1 in
+          (said.0, (subst (λ (s : ClientState). Decides said.0 (IsOrderOf s.desk harvest.order)) view said.1.0, (said.1.1.0, (ap commit_refusal is ∙ said.1.1.1.0, logs))))
+      commit_tells harvest (office.Refused fault) Stray fits other said = strayed new (grows F front number (Commit (handed_in said.0 harvest)) (book.Refused said.1.1.0) new said.1.1.1.1)
+      commit_tells harvest (office.Refused fault) Memory fits sorts said = absurd sorts
+      commit_tells harvest office.Memory LogFull fits sorts said = absurd sorts
+      commit_tells harvest office.Memory (Refused other) fits sorts said = absurd sorts
+      commit_tells harvest office.Memory Stray fits sorts said = absurd sorts
+      commit_tells harvest office.Memory Memory fits sorts said = ap here said ∙ view
 
-      pub token_stands : {D E : Type 0} (call : Call) (reply : Held → Reply) (result : Result Held D) (answer : Result Held E) → IfOk result (λ t. answer ≡ Ok t) → OnOk result (length new ≡ calls + 1) →
-          IfOk answer (λ t. Extends F front number call (reply t) new × (t.history ≡ new)) → IfOk result (λ t. page_of (here new).desk t ≡ old.desk.book.present)
-      token_stands call reply (Ok t) answer is more done =
-          let made = IfOk-at_ok (λ (x : Held). Extends F front number call (reply x) new × (x.history ≡ new)) is done in
-          stands_for call (reply t) t (more ∙ ap (λ (n : ℕ). n + 1) calls_is) made.0 made.1
-      token_stands call reply (Err d) answer is more done = tt
+      -- ---- what is said of an answer; after it the client's front is the log that it shows
 
-      pub page_restored : {T D E : Type 0} (token : Held) (result : Result T D) (answer : Result T E) → IfOk result (λ t. answer ≡ Ok t) → OnOk answer (GoesBackTo F new token.history) →
-          OnOk result ((here new).desk.book.present ≡ page_of old.desk token)
-      page_restored {T} token (Ok t) answer is goes = restored token (IfOk-at_ok (λ (_ : T). GoesBackTo F new token.history) is goes)
-      page_restored token (Err d) answer is goes = tt
+      pub all_told : {U D T E G L : Type 0} (answer : Result T E) (fault_of : E → Fault L G) (last : List Event) → last ≡ shown_after answer fault_of new → (result : Result U D) (told_of : D → ClientFault G) (Back : D → E → Type 0)
+          (refusal : G → Option Refusal) (call : Call) → length last ≤ room → OnOk answer (length front < length new) →
+          IfErr result (λ d. MatchResult answer (λ _. (told_of d ≡ Stray) × ¬ (length last ≡ calls + 1)) (λ e. Sorts calls (length last) (fault_of e) (told_of d) × Back d e)) →
+          IfErr answer (λ e. OfficeTells F room refusal call number front new (fault_of e)) → IfErr result (λ d. Tells room refusal old label call (here last) (told_of d))
+      all_told answer fault_of last last_is (Ok u) told_of Back refusal call fits more is said = tt
+      all_told {U} {D} {T} {E} {G} {L} (Ok t) fault_of last last_is (Err d) told_of Back refusal call fits more is said =
+          subst (λ (told : ClientFault G). Tells room refusal old label call (here last) told) (sym is.0) (strayed last (omega (arith, more, ap length last_is)))
+      all_told (Err e) fault_of last last_is (Err d) told_of Back refusal call fits more is said =
+          let sorts = subst (λ (l : List Event). Sorts calls (length l) (fault_of e) (told_of d)) last_is is.0 in
+          let room_for = subst (λ (l : List Event). length l ≤ room) last_is fits in
+          subst (λ (l : List Event). Tells room refusal old label call (here l) (told_of d)) (sym last_is) (tells refusal call (fault_of e) (told_of d) room_for sorts said)
 
-      -- what is said of a page, of the present one
-      pub of_present : {T D E : Type 0} (result : Result T D) (answer : Result T E) (entries_of : T → List Step) (P Q : T → Type 0) → IfOk result (λ t. answer ≡ Ok t) → OnOk result (length new ≡ calls + 1) → length new ≤ room →
-          IfOk answer (λ t. Extends F front number Page (PageIs (entries_of t)) new) → IfOk answer P → ((t : T) → P t → entries_of t ≡ old.desk.book.present → book_after F opened new ≡ old.desk.book → Q t) → IfOk result Q
-      of_present {T} (Ok t) answer entries_of P Q is more fits done p then =
-          let made = IfOk-at_ok (λ (x : T). Extends F front number Page (PageIs (entries_of x)) new) is done in
-          let one = more ∙ ap (λ (n : ℕ). n + 1) calls_is in
-          then t (IfOk-at_ok P is p) (page_present (entries_of t) fits one made) (page_stays (entries_of t) fits one made)
-      of_present (Err d) answer entries_of P Q is more fits done p then = tt
+      pub look_told : {U T G L : Type 0} (answer : Result T (Fault L G)) (last : List Event) → last ≡ shown_after answer (λ e. e) new → (result : Result U (ClientFault G)) (refusal : G → Option Refusal) (call : Call) → length last ≤ room →
+          OnOk answer (length front < length new) →
+          IfErr result (λ d. MatchResult answer (λ _. (d ≡ Stray) × ¬ (length last ≡ calls + 1)) (λ e. Sorts calls (length last) e d)) → IfErr answer (OfficeTells F room refusal call number front new) →
+          IfErr result (Tells room refusal old label call (here last))
+      look_told answer last last_is (Ok u) refusal call fits more is said = tt
+      look_told {U} {T} {G} {L} (Ok t) last last_is (Err d) refusal call fits more is said =
+          subst (λ (told : ClientFault G). Tells room refusal old label call (here last) told) (sym is.0) (strayed last (omega (arith, more, ap length last_is)))
+      look_told (Err e) last last_is (Err d) refusal call fits more is said =
+          let sorts = subst (λ (l : List Event). Sorts calls (length l) e d) last_is is in
+          let room_for = subst (λ (l : List Event). length l ≤ room) last_is fits in
+          subst (λ (l : List Event). Tells room refusal old label call (here l) d) (sym last_is) (tells refusal call e d room_for sorts said)
 
-      strays : ((here new).desk.game ≡ old.desk.game) × ((here new).desk.diagram ≡ old.desk.diagram)
-      strays = subst (λ (s : ClientState). ((here new).desk.game ≡ s.desk.game) × ((here new).desk.diagram ≡ s.desk.diagram)) view (refl, refl)
+      pub all_commit_told : {U D T E L : Type 0} (answer : Result T E) (fault_of : E → Fault L CommitFault) (last : List Event) → last ≡ shown_after answer fault_of new → (result : Result U D) (told_of : D → ClientFault CommitFault)
+          (Back : D → E → Type 0) (harvest : HarvestView) → length last ≤ room → OnOk answer (length front < length new) →
+          IfErr result (λ d. MatchResult answer (λ _. (told_of d ≡ Stray) × ¬ (length last ≡ calls + 1)) (λ e. Sorts calls (length last) (fault_of e) (told_of d) × Back d e)) →
+          IfErr answer (λ e. OfficeCommitTells game diagram room harvest number front new (fault_of e)) → IfErr result (λ d. CommitTells room old label harvest (here last) (told_of d))
+      all_commit_told answer fault_of last last_is (Ok u) told_of Back harvest fits more is said = tt
+      all_commit_told (Ok t) fault_of last last_is (Err d) told_of Back harvest fits more is said =
+          subst (λ (told : ClientFault CommitFault). CommitTells room old label harvest (here last) told) (sym is.0) (strayed last (omega (arith, more, ap length last_is)))
+      all_commit_told (Err e) fault_of last last_is (Err d) told_of Back harvest fits more is said =
+          let sorts = subst (λ (l : List Event). Sorts calls (length l) (fault_of e) (told_of d)) last_is is.0 in
+          let room_for = subst (λ (l : List Event). length l ≤ room) last_is fits in
+          subst (λ (l : List Event). CommitTells room old label harvest (here l) (told_of d)) (sym last_is) (commit_tells harvest (fault_of e) (told_of d) room_for sorts said)
 
-      pub all_told : {U D T E G L : Type 0} (result : Result U D) (answer : Result T E) (fault_of : E → Fault L G) (told_of : D → ClientFault G) (Back : D → E → Type 0) (refusal : G → Option Refusal) (call : Call) → length new ≤ room →
-          IfErr result (λ d. MatchResult answer (λ _. told_of d ≡ Stray) (λ e. Sorts calls (length new) (fault_of e) (told_of d) × Back d e)) → IfErr answer (λ e. OfficeTells F room refusal call number front new (fault_of e)) →
-          IfErr result (λ d. Tells room refusal old label call (here new) (told_of d))
-      all_told (Ok u) answer fault_of told_of Back refusal call fits is said = tt
-      all_told (Err d) (Ok t) fault_of told_of Back refusal call fits is said = subst (λ told. Tells room refusal old label call (here new) told) (sym is) strays
-      all_told (Err d) (Err e) fault_of told_of Back refusal call fits is said = tells refusal call (fault_of e) (told_of d) fits is.0 said
+      module _ {T E L G : Type 0} (answer : Result T E) (fault_of : E → Fault L G) (last : List Event) (last_is : last ≡ shown_after answer fault_of new) where
+        at_last : (t : T) → answer ≡ Ok t → last ≡ new
+        at_last t is = last_is ∙ ap (λ (a : Result T E). shown_after a fault_of new) is
 
-      pub look_told : {U T G L : Type 0} (refusal : G → Option Refusal) (call : Call) (result : Result U (ClientFault G)) (answer : Result T (Fault L G)) → length new ≤ room →
-          IfErr result (λ d. MatchResult answer (λ _. d ≡ Stray) (λ e. Sorts calls (length new) e d)) → IfErr answer (OfficeTells F room refusal call number front new) → IfErr result (Tells room refusal old label call (here new))
-      look_told refusal call (Ok u) answer fits is said = tt
-      look_told refusal call (Err d) (Ok t) fits is said = subst (λ told. Tells room refusal old label call (here new) told) (sym is) strays
-      look_told refusal call (Err d) (Err e) fits is said = tells refusal call e d fits is said
+        one_more : (t : T) → answer ≡ Ok t → length last ≡ calls + 1 → length new ≡ length front + 1
+        one_more t is more = omega (arith, ap length (at_last t is), more, calls_is)
 
-      pub all_commit_told : {U D T E L : Type 0} (result : Result U D) (answer : Result T E) (fault_of : E → Fault L CommitFault) (told_of : D → ClientFault CommitFault) (Back : D → E → Type 0) (harvest : HarvestView) → length new ≤ room →
-          IfErr result (λ d. MatchResult answer (λ _. told_of d ≡ Stray) (λ e. Sorts calls (length new) (fault_of e) (told_of d) × Back d e)) → IfErr answer (λ e. OfficeCommitTells game diagram room harvest number front new (fault_of e)) →
-          IfErr result (λ d. CommitTells room old label harvest (here new) (told_of d))
-      all_commit_told (Ok u) answer fault_of told_of Back harvest fits is said = tt
-      all_commit_told (Err d) (Ok t) fault_of told_of Back harvest fits is said = subst (λ told. CommitTells room old label harvest (here new) told) (sym is) strays
-      all_commit_told (Err d) (Err e) fault_of told_of Back harvest fits is said = commit_tells harvest (fault_of e) (told_of d) fits is.0 said
+        fits_new : (t : T) → answer ≡ Ok t → length last ≤ room → length new ≤ room
+        fits_new t is fits = omega (arith, ap length (at_last t is), fits)
+
+        -- what was made is one step of the desk, and is counted
+        pub step_made : {D : Type 0} (result : Result T D) (call : Call) (reply : T → Reply) → IfOk result (λ t. answer ≡ Ok t) → OnOk result (length last ≡ calls + 1) → length last ≤ room →
+            IfOk answer (λ t. Extends F front number call (reply t) new) → IfOk result (λ t. IsLogged room old label call (reply t) (here last))
+        step_made (Ok t) call reply is more fits done =
+            subst (λ (l : List Event). IsLogged room old label call (reply t) (here l)) (sym (at_last t is)) (accepted call (reply t) (fits_new t is fits) (one_more t is more) (IfOk-at_ok (λ (x : T). Extends F front number call (reply x) new) is done))
+        step_made (Err d) call reply is more fits done = tt
+
+        pub page_restored : {D : Type 0} (token : Held) (result : Result T D) → IfOk result (λ t. answer ≡ Ok t) → OnOk answer (GoesBackTo F new token.history) → OnOk result ((here last).desk.book.present ≡ page_of old.desk token)
+        page_restored token (Ok t) is goes =
+            subst (λ (l : List Event). (here l).desk.book.present ≡ page_of old.desk token) (sym (at_last t is)) (restored token (IfOk-at_ok (λ (_ : T). GoesBackTo F new token.history) is goes))
+        page_restored token (Err d) is goes = tt
+
+        -- what is said of a page, of the present one
+        pub of_present : {D : Type 0} (result : Result T D) (entries_of : T → List Step) (P Q : T → Type 0) → IfOk result (λ t. answer ≡ Ok t) → OnOk result (length last ≡ calls + 1) → length last ≤ room →
+            IfOk answer (λ t. Extends F front number Page (PageIs (entries_of t)) new) → IfOk answer P → ((t : T) → P t → entries_of t ≡ old.desk.book.present → book_after F opened new ≡ old.desk.book → Q t) → IfOk result Q
+        of_present (Ok t) entries_of P Q is more fits done p then =
+            let made = IfOk-at_ok (λ (x : T). Extends F front number Page (PageIs (entries_of x)) new) is done in
+            then t (IfOk-at_ok P is p) (page_present (entries_of t) (fits_new t is fits) (one_more t is more) made) (page_stays (entries_of t) (fits_new t is fits) (one_more t is more) made)
+        of_present (Err d) entries_of P Q is more fits done p then = tt
+
+      module _ {E L G : Type 0} (answer : Result Held E) (fault_of : E → Fault L G) (last : List Event) (last_is : last ≡ shown_after answer fault_of new) where
+        -- the same of a token
+        pub token_made : {D : Type 0} (call : Call) (reply : Held → Reply) (result : Result Held D) → IfOk result (λ t. answer ≡ Ok t) → OnOk result (length last ≡ calls + 1) → length last ≤ room →
+            IfOk answer (λ t. Extends F front number call (reply t) new × (t.history ≡ new)) → IfOk result (λ t. IsLogged room old label call (reply t) (here last))
+        token_made call reply (Ok t) is more fits done =
+            subst (λ (l : List Event). IsLogged room old label call (reply t) (here l)) (sym (at_last answer fault_of last last_is t is))
+            (accepted call (reply t) (fits_new answer fault_of last last_is t is fits) (one_more answer fault_of last last_is t is more) (IfOk-at_ok (λ (x : Held). Extends F front number call (reply x) new × (x.history ≡ new)) is done).0)
+        token_made call reply (Err d) is more fits done = tt
+
+        pub token_stands : {D : Type 0} (call : Call) (reply : Held → Reply) (result : Result Held D) → IfOk result (λ t. answer ≡ Ok t) → OnOk result (length last ≡ calls + 1) →
+            IfOk answer (λ t. Extends F front number call (reply t) new × (t.history ≡ new)) → IfOk result (λ t. page_of (here last).desk t ≡ old.desk.book.present)
+        token_stands call reply (Ok t) is more done =
+            let made = IfOk-at_ok (λ (x : Held). Extends F front number call (reply x) new × (x.history ≡ new)) is done in
+            subst (λ (l : List Event). page_of (here l).desk t ≡ old.desk.book.present) (sym (at_last answer fault_of last last_is t is)) (stands_for call (reply t) t (one_more answer fault_of last last_is t is more) made.0 made.1)
+        token_stands call reply (Err d) is more done = tt
 
 -- of a harvest of the desk's game and diagram
 pub own_tells : (room : ℕ) (old new : ClientState) (label : ℕ) (harvest : HarvestView) (fault : ClientFault CommitFault) → IsOrderOf old.desk harvest.order → CommitTells room old label harvest new fault →
@@ -224,14 +311,24 @@ all_own_told (Ok u) room old new label harvest told_of ours said = tt
 all_own_told (Err d) room old new label harvest told_of ours said = own_tells room old new label harvest (told_of d) ours said
 
 -- a label has no session: nothing was asked of the office
-pub absent_tells : {G : Type 0} (room : ℕ) (refusal : G → Option Refusal) (old new : ClientState) (label : ℕ) (call : Call) (told : ClientFault G) → new ≡ old → IsAbsent told → Tells room refusal old label call new told
-absent_tells room refusal old new label call LogFull same absent = absurd absent
-absent_tells room refusal old new label call (Refused fault) same absent = absurd absent
-absent_tells room refusal old new label call Stray same absent = (ap (λ (s : ClientState). s.desk.game) same, ap (λ (s : ClientState). s.desk.diagram) same)
-absent_tells room refusal old new label call Memory same absent = same
+module _ (game : NamedGame) (diagram : NamedDiagram) (front : List Event) (before after : Bool) (old : ClientState) (view : client_after game diagram before front ≡ old) where
+  unchanged : after ≡ before → client_after game diagram after front ≡ old
+  unchanged same = ap (λ (b : Bool). client_after game diagram b front) same ∙ view
 
-pub absent_commit_tells : (room : ℕ) (old new : ClientState) (label : ℕ) (harvest : HarvestView) (told : ClientFault CommitFault) → new ≡ old → IsAbsent told → CommitTells room old label harvest new told
-absent_commit_tells room old new label harvest LogFull same absent = absurd absent
-absent_commit_tells room old new label harvest (Refused fault) same absent = absurd absent
-absent_commit_tells room old new label harvest Stray same absent = (ap (λ (s : ClientState). s.desk.game) same, ap (λ (s : ClientState). s.desk.diagram) same)
-absent_commit_tells room old new label harvest Memory same absent = same
+  has_none : after ≡ true →
+      (((client_after game diagram after front).desk.game ≡ old.desk.game) × ((client_after game diagram after front).desk.diagram ≡ old.desk.diagram)) × HasStrayed old (client_after game diagram after front)
+  has_none noted =
+      let desk = ap (λ (s : ClientState). s.desk) view in
+      ((ap (λ (s : ClientState). s.desk.game) view, ap (λ (s : ClientState). s.desk.diagram) view), inr (record { desk = desk; calls = ap (λ (s : ClientState). s.calls) view; unseated = noted }))
+
+  pub absent_tells : {G : Type 0} (room : ℕ) (refusal : G → Option Refusal) (label : ℕ) (call : Call) (told : ClientFault G) → IsAbsent before after told → Tells room refusal old label call (client_after game diagram after front) told
+  absent_tells room refusal label call LogFull absent = absurd absent
+  absent_tells room refusal label call (Refused fault) absent = absurd absent
+  absent_tells room refusal label call Stray absent = has_none absent
+  absent_tells room refusal label call Memory absent = unchanged absent
+
+  pub absent_commit_tells : (room : ℕ) (label : ℕ) (harvest : HarvestView) (told : ClientFault CommitFault) → IsAbsent before after told → CommitTells room old label harvest (client_after game diagram after front) told
+  absent_commit_tells room label harvest LogFull absent = absurd absent
+  absent_commit_tells room label harvest (Refused fault) absent = absurd absent
+  absent_commit_tells room label harvest Stray absent = has_none absent
+  absent_commit_tells room label harvest Memory absent = unchanged absent

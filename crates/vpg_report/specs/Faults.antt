@@ -1,5 +1,5 @@
 -- Why a client's calls are not answered. This project's own.
-use Rattle.std.specs.Prelude.{◌≡◌, ℕ, ◌+◌, Bool, true, List, length, Option, Some, ⊤}
+use Rattle.std.specs.Prelude.{◌≡◌, ◌⊎◌, ℕ, ◌+◌, ◌<◌, Bool, true, List, length, Option, Some, Result, Ok, Err, ⊤}
 use Rattle.std.specs.Bool.{Decides}
 use Rattle.vpg_measure.specs.Orders.{HarvestView}
 use Rattle.vpg_desk.specs.Book as book
@@ -9,18 +9,24 @@ use Rattle.vpg_faults.specs.declared.fault.CommitFault.{CommitFault}
 use Rattle.vpg_desk.specs.History.{Event}
 use Rattle.vpg_office.specs.declared.fault.Fault.{Fault}
 use Rattle.vpg_office.specs.declared.fault.Fault.TheVariants as office
-use Rattle.vpg_report.specs.Client.{ClientState, IsLogged}
+use Rattle.vpg_report.specs.Client.{ClientState, IsLogged, IsUnseated}
 use Rattle.vpg_report.specs.declared.fault.ClientFault.{ClientFault}
 use Rattle.vpg_report.specs.declared.fault.ClientFault.TheVariants.{LogFull, Refused, Stray, Memory}
 
+-- the log has a call that the client didn't know of, or the office had no session of the label's number
+abbrev pub HasStrayed : ClientState → ClientState → Type 0
+HasStrayed old new = (old.calls < new.calls) ⊎ IsUnseated old new
+
 -- The log is full exactly if it has as many calls as it takes; then nothing changes. The desk's own refusal is logged.
--- Out of memory, nothing changes. A stray leaves the desk's game and diagram.
+-- Out of memory, nothing changes. A stray shows in the log, which has a call more at least, or the office had no session
+-- of the label's number. It leaves the desk's game and diagram.
 abbrev pub Tells : {F : Type 0} → ℕ → (F → Option Refusal) → ClientState → ℕ → Call → ClientState → ClientFault F →
     Type 0
 Tells room refusal old label call new LogFull = (old.calls ≡ room) × (new ≡ old)
 Tells room refusal old label call new (Refused fault) =
     (r : Refusal) × ((refusal fault ≡ Some r) × IsLogged room old label call (book.Refused r) new)
-Tells room refusal old label call new Stray = (new.desk.game ≡ old.desk.game) × (new.desk.diagram ≡ old.desk.diagram)
+Tells room refusal old label call new Stray =
+    ((new.desk.game ≡ old.desk.game) × (new.desk.diagram ≡ old.desk.diagram)) × HasStrayed old new
 Tells room refusal old label call new Memory = new ≡ old
 
 -- As `Tells`, for a commit of a harvest that may be of another game or diagram.
@@ -39,15 +45,32 @@ UnlessStray fault P = P
 
 -- ---- how the office's faults are sorted
 
--- there is no session of the label: another stands in its place, or it is out of memory
-abbrev pub IsAbsent : {F : Type 0} → ClientFault F → Type 0
-IsAbsent Stray = ⊤
-IsAbsent Memory = ⊤
-IsAbsent _ = ⊥
+-- there is no session of the label: the office had none of its number, or it is out of memory
+abbrev pub IsAbsent : {F : Type 0} → Bool → Bool → ClientFault F → Type 0
+IsAbsent old new Stray = new ≡ true
+IsAbsent old new Memory = new ≡ old
+IsAbsent old new _ = ⊥
 
--- The client's fault for the office's, if its front had `before` calls before the call and has `now` after it.
+-- the client's front after the office's fault: the log, where the fault has it
+abbrev pub shown_by : {L F : Type 0} → Fault L F → List Event → List Event
+shown_by (office.LogFull log) front = log
+shown_by (office.Doubled log) front = log
+shown_by (office.Refused fault) front = front
+shown_by office.Memory front = front
+
+-- the same after each answer
+abbrev pub shown_after : {T E L F : Type 0} → Result T E → (E → Fault L F) → List Event → List Event
+shown_after (Ok t) fault_of front = front
+shown_after (Err e) fault_of front = shown_by (fault_of e) front
+
+-- The client's fault for the office's, if its front had `before` calls before the call and has `now` after it. A stray
+-- stands for a full log of another length, for a call of the session that its front lacks, and for a log that grew by
+-- other calls than this one.
 abbrev pub Sorts : {L F : Type 0} → ℕ → ℕ → Fault L F → ClientFault F → Type 0
-Sorts before now told LogFull = (log : List Event) × ((told ≡ office.LogFull log) × (length log ≡ before))
-Sorts before now told (Refused fault) = (told ≡ office.Refused fault) × (now ≡ before + 1)
-Sorts before now told Stray = ⊤
-Sorts before now told Memory = told ≡ office.Memory
+Sorts before now (office.LogFull log) LogFull = length log ≡ before
+Sorts before now (office.LogFull log) Stray = ¬ (length log ≡ before)
+Sorts before now (office.Doubled log) Stray = ⊤
+Sorts before now (office.Refused told) (Refused fault) = (fault ≡ told) × (now ≡ before + 1)
+Sorts before now (office.Refused told) Stray = ¬ (now ≡ before + 1)
+Sorts before now office.Memory Memory = ⊤
+Sorts before now told fault = ⊥

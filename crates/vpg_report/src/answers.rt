@@ -17,7 +17,7 @@ pub(crate) fn answered<L: Terms, T, F: Drop>(
     ensures made { IfOk result (λ made. answer ≡ Ok made) }
     ensures more { OnOk result (length front.now ≡ calls + 1) }
     ensures fault { IfErr result
-        (λ r. MatchResult answer (λ _. r.fault ≡ ClientFault.Stray)
+        (λ r. MatchResult answer (λ _. (r.fault ≡ ClientFault.Stray) × ¬ (length front.now ≡ calls + 1))
         (λ fault. Sorts calls (length front.now) fault r.fault × (r.value ≡ None))) }
     ensures fits { length front.now ≤ L.limit }
 {
@@ -49,7 +49,7 @@ pub(crate) fn looked<L: Terms, T: Drop, F: Drop>(
     ensures made { IfOk result (λ made. answer ≡ Ok made) }
     ensures more { OnOk result (length front.now ≡ calls + 1) }
     ensures fault { IfErr result
-        (λ told. MatchResult answer (λ _. told ≡ ClientFault.Stray)
+        (λ told. MatchResult answer (λ _. (told ≡ ClientFault.Stray) × ¬ (length front.now ≡ calls + 1))
         (λ fault. Sorts calls (length front.now) fault told)) }
     ensures fits { length front.now ≤ L.limit }
 {
@@ -76,7 +76,7 @@ pub(crate) fn handed_in<L: Terms, T: Drop, F: Drop, V>(
     ensures made { IfOk result (λ made. answer ≡ Ok made) }
     ensures more { OnOk result (length front.now ≡ calls + 1) }
     ensures fault { IfErr result
-        (λ r. MatchResult answer (λ _. r.fault ≡ ClientFault.Stray)
+        (λ r. MatchResult answer (λ _. (r.fault ≡ ClientFault.Stray) × ¬ (length front.now ≡ calls + 1))
         (λ b. Sorts calls (length front.now) b.fault r.fault × (r.value ≡ Some b.value))) }
     ensures fits { length front.now ≤ L.limit }
 {
@@ -109,7 +109,7 @@ pub(crate) fn undone<L: Terms>(
     ensures made { IfOk result (λ made. answer ≡ Ok made) }
     ensures more { OnOk result (length front.now ≡ calls + 1) }
     ensures fault { IfErr result
-        (λ r. MatchResult answer (λ _. r.fault ≡ ClientFault.Stray)
+        (λ r. MatchResult answer (λ _. (r.fault ≡ ClientFault.Stray) × ¬ (length front.now ≡ calls + 1))
         (λ b. Sorts calls (length front.now) b.fault r.fault × (r.value ≡ Token.Undo b.value))) }
     ensures fits { length front.now ≤ L.limit }
 {
@@ -142,7 +142,7 @@ pub(crate) fn redone<L: Terms>(
     ensures made { IfOk result (λ made. answer ≡ Ok made) }
     ensures more { OnOk result (length front.now ≡ calls + 1) }
     ensures fault { IfErr result
-        (λ r. MatchResult answer (λ _. r.fault ≡ ClientFault.Stray)
+        (λ r. MatchResult answer (λ _. (r.fault ≡ ClientFault.Stray) × ¬ (length front.now ≡ calls + 1))
         (λ b. Sorts calls (length front.now) b.fault r.fault × (r.value ≡ Token.Redo b.value))) }
     ensures fits { length front.now ≤ L.limit }
 {

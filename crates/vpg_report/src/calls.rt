@@ -19,7 +19,7 @@ ghost use Rattle.vpg_report.specs.Faults.{CommitTells, Tells, UnlessStray};
 
 use crate::answers::{answered, handed_in, looked, redone, undone};
 use crate::client::{Client, seat};
-use crate::fault::{ClientFault, Returned, Token};
+use crate::fault::{ClientFault, Returned, Token, follow_answer, follow_returned};
 use std::alloc::Global;
 use std::sync::{Arc, Wait};
 use vpg_desk::{CommitFault, DecideFault, RedoFault, RetractFault, UndoFault};
@@ -45,7 +45,13 @@ impl<L: Terms> Client<L> {
             (λ r. Tells L.limit decide_refusal self.old label (book.Decide feature value) self.new r.fault) }
         ensures back { IfErr result (λ r. UnlessStray r.fault (r.value ≡ None)) }
     {
-        let place = match seat(rt, &self.office, &self.front, &mut self.sessions, label) {
+        let place = match seat(
+            rt,
+            &self.office,
+            &mut self.sessions,
+            &mut self.unseated,
+            label,
+        ) {
             Ok(place) => place,
             Err(fault) => return Err(Returned { fault, value: None }),
         };
@@ -58,6 +64,7 @@ impl<L: Terms> Client<L> {
             feature,
             value,
         );
+        follow_answer(&answer, &mut self.front);
         answered(answer, calls, &self.front)
     }
 
@@ -77,7 +84,13 @@ impl<L: Terms> Client<L> {
             (λ r. Tells L.limit retract_refusal self.old label (book.Retract feature) self.new r.fault) }
         ensures back { IfErr result (λ r. UnlessStray r.fault (r.value ≡ None)) }
     {
-        let place = match seat(rt, &self.office, &self.front, &mut self.sessions, label) {
+        let place = match seat(
+            rt,
+            &self.office,
+            &mut self.sessions,
+            &mut self.unseated,
+            label,
+        ) {
             Ok(place) => place,
             Err(fault) => return Err(Returned { fault, value: None }),
         };
@@ -89,6 +102,7 @@ impl<L: Terms> Client<L> {
             &mut self.front,
             feature,
         );
+        follow_answer(&answer, &mut self.front);
         answered(answer, calls, &self.front)
     }
 
@@ -109,7 +123,13 @@ impl<L: Terms> Client<L> {
             (λ r. Tells L.limit undo_refusal self.old label (book.Undo token.serial) self.new r.fault) }
         ensures back { IfErr result (λ r. UnlessStray r.fault (r.value ≡ Token.Undo token)) }
     {
-        let place = match seat(rt, &self.office, &self.front, &mut self.sessions, label) {
+        let place = match seat(
+            rt,
+            &self.office,
+            &mut self.sessions,
+            &mut self.unseated,
+            label,
+        ) {
             Ok(place) => place,
             Err(fault) => return Err(Returned {
                 fault,
@@ -118,6 +138,7 @@ impl<L: Terms> Client<L> {
         };
         let calls = self.front.len();
         let answer = self.sessions[place].undo(rt, alloc, &self.office, &mut self.front, token);
+        follow_returned(&answer, &mut self.front);
         undone(answer, calls, &self.front)
     }
 
@@ -138,7 +159,13 @@ impl<L: Terms> Client<L> {
             (λ r. Tells L.limit redo_refusal self.old label (book.Redo token.serial) self.new r.fault) }
         ensures back { IfErr result (λ r. UnlessStray r.fault (r.value ≡ Token.Redo token)) }
     {
-        let place = match seat(rt, &self.office, &self.front, &mut self.sessions, label) {
+        let place = match seat(
+            rt,
+            &self.office,
+            &mut self.sessions,
+            &mut self.unseated,
+            label,
+        ) {
             Ok(place) => place,
             Err(fault) => return Err(Returned {
                 fault,
@@ -147,6 +174,7 @@ impl<L: Terms> Client<L> {
         };
         let calls = self.front.len();
         let answer = self.sessions[place].redo(rt, alloc, &self.office, &mut self.front, token);
+        follow_returned(&answer, &mut self.front);
         redone(answer, calls, &self.front)
     }
 
@@ -162,7 +190,13 @@ impl<L: Terms> Client<L> {
             (λ r. Tells L.limit never_refused self.old label (book.Keep token.serial) self.new r.fault) }
         ensures back { IfErr result (λ r. UnlessStray r.fault (r.value ≡ Some token)) }
     {
-        let place = match seat(rt, &self.office, &self.front, &mut self.sessions, label) {
+        let place = match seat(
+            rt,
+            &self.office,
+            &mut self.sessions,
+            &mut self.unseated,
+            label,
+        ) {
             Ok(place) => place,
             Err(fault) => return Err(Returned {
                 fault,
@@ -171,6 +205,7 @@ impl<L: Terms> Client<L> {
         };
         let calls = self.front.len();
         let answer = self.sessions[place].keep(rt, &self.office, &mut self.front, token);
+        follow_returned(&answer, &mut self.front);
         handed_in(answer, calls, &self.front)
     }
 
@@ -187,7 +222,13 @@ impl<L: Terms> Client<L> {
             (λ r. Tells L.limit never_refused self.old label (book.Forget token.serial) self.new r.fault) }
         ensures back { IfErr result (λ r. UnlessStray r.fault (r.value ≡ Some token)) }
     {
-        let place = match seat(rt, &self.office, &self.front, &mut self.sessions, label) {
+        let place = match seat(
+            rt,
+            &self.office,
+            &mut self.sessions,
+            &mut self.unseated,
+            label,
+        ) {
             Ok(place) => place,
             Err(fault) => return Err(Returned {
                 fault,
@@ -196,6 +237,7 @@ impl<L: Terms> Client<L> {
         };
         let calls = self.front.len();
         let answer = self.sessions[place].forget(rt, &self.office, &mut self.front, token);
+        follow_returned(&answer, &mut self.front);
         handed_in(answer, calls, &self.front)
     }
 
@@ -213,12 +255,19 @@ impl<L: Terms> Client<L> {
         ensures order { IfOk result IsOrder }
         ensures fault { IfErr result (Tells L.limit never_refused self.old label book.Order self.new) }
     {
-        let place = match seat(rt, &self.office, &self.front, &mut self.sessions, label) {
+        let place = match seat(
+            rt,
+            &self.office,
+            &mut self.sessions,
+            &mut self.unseated,
+            label,
+        ) {
             Ok(place) => place,
             Err(fault) => return Err(fault),
         };
         let calls = self.front.len();
         let answer = self.sessions[place].order(rt, alloc, &self.office, &mut self.front);
+        follow_answer(&answer, &mut self.front);
         let order = match looked(answer, calls, &self.front) {
             Ok(order) => order,
             Err(fault) => return Err(fault),
@@ -242,7 +291,13 @@ impl<L: Terms> Client<L> {
         ensures fault { IfErr result (λ r. CommitTells L.limit self.old label harvest self.new r.fault) }
         ensures back { IfErr result (λ r. UnlessStray r.fault (r.value ≡ Some harvest)) }
     {
-        let place = match seat(rt, &self.office, &self.front, &mut self.sessions, label) {
+        let place = match seat(
+            rt,
+            &self.office,
+            &mut self.sessions,
+            &mut self.unseated,
+            label,
+        ) {
             Ok(place) => place,
             Err(fault) => return Err(Returned {
                 fault,
@@ -251,6 +306,7 @@ impl<L: Terms> Client<L> {
         };
         let calls = self.front.len();
         let answer = self.sessions[place].commit(rt, alloc, &self.office, &mut self.front, harvest);
+        follow_returned(&answer, &mut self.front);
         handed_in(answer, calls, &self.front)
     }
 
@@ -271,7 +327,13 @@ impl<L: Terms> Client<L> {
             (λ r. Tells L.limit commit_refusal self.old label (book.Commit (handed_in true harvest)) self.new r.fault) }
         ensures back { IfErr result (λ r. UnlessStray r.fault (r.value ≡ Some harvest)) }
     {
-        let place = match seat(rt, &self.office, &self.front, &mut self.sessions, label) {
+        let place = match seat(
+            rt,
+            &self.office,
+            &mut self.sessions,
+            &mut self.unseated,
+            label,
+        ) {
             Ok(place) => place,
             Err(fault) => return Err(Returned {
                 fault,
@@ -286,6 +348,7 @@ impl<L: Terms> Client<L> {
             &mut self.front,
             harvest,
         );
+        follow_returned(&answer, &mut self.front);
         handed_in(answer, calls, &self.front)
     }
 
@@ -295,12 +358,19 @@ impl<L: Terms> Client<L> {
             (λ settled. IsLogged L.limit self.old label book.Settled (book.IsSettled settled) self.new) }
         ensures fault { IfErr result (Tells L.limit never_refused self.old label book.Settled self.new) }
     {
-        let place = match seat(rt, &self.office, &self.front, &mut self.sessions, label) {
+        let place = match seat(
+            rt,
+            &self.office,
+            &mut self.sessions,
+            &mut self.unseated,
+            label,
+        ) {
             Ok(place) => place,
             Err(fault) => return Err(fault),
         };
         let calls = self.front.len();
         let answer = self.sessions[place].settled(rt, &self.office, &mut self.front);
+        follow_answer(&answer, &mut self.front);
         looked(answer, calls, &self.front)
     }
 
@@ -328,12 +398,19 @@ impl<L: Terms> Client<L> {
         ensures reached { OnOk result (IsReached (setting_of self.old.desk) self.old.desk.book) }
         ensures fault { IfErr result (Tells L.limit never_refused self.old label book.Page self.new) }
     {
-        let place = match seat(rt, &self.office, &self.front, &mut self.sessions, label) {
+        let place = match seat(
+            rt,
+            &self.office,
+            &mut self.sessions,
+            &mut self.unseated,
+            label,
+        ) {
             Ok(place) => place,
             Err(fault) => return Err(fault),
         };
         let calls = self.front.len();
         let answer = self.sessions[place].page_with_games(rt, alloc, &self.office, &mut self.front);
+        follow_answer(&answer, &mut self.front);
         looked(answer, calls, &self.front)
     }
 }

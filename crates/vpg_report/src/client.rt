@@ -1,15 +1,15 @@
 //! The client: an office, the one front that its sessions share, and the sessions by their labels.
 ghost use Rattle.std.specs.Arc.{arc_value};
-ghost use Rattle.std.specs.Prelude.{◌≡◌, ◌+◌, ◌<◌, ◌≤◌, ◌↔◌, ℕ, [], length, slice_index, true, IfOk, IfErr, IfSome, OnOk};
+ghost use Rattle.std.specs.Prelude.{◌≡◌, ◌+◌, ◌-◌, ◌<◌, ◌≤◌, ◌↔◌, ℕ, [], length, slice_index_or, true, false, IfOk, IfErr, IfSome, OnOk};
 ghost use Rattle.vpg_diagram.specs.FeatureDiagram.{feature_count};
 ghost use Rattle.vpg_game.specs.Game.{IsAtLimit};
 ghost use Rattle.vpg_partial.specs.KnownLaws.{HasConflictOf};
 ghost use Rattle.vpg_desk.specs.State.{IsOpened};
-ghost use Rattle.vpg_report.specs.Client.{client_of};
+ghost use Rattle.vpg_report.specs.Client.{IsNumbered, client_of, nobody};
 ghost use Rattle.vpg_report.specs.Faults.{IsAbsent};
 
 use crate::fault::ClientFault;
-use std::alloc::Global;
+use std::alloc::{AllocError, Global};
 use std::marker::Model;
 use std::sync::{Arc, Wait};
 use vpg_desk::OpenFault;
@@ -17,13 +17,15 @@ use vpg_diagram::Diagram;
 use vpg_game::GuardedGame;
 use vpg_office::{Front, NotOpened, Office, Redo, Session, Site, Terms, Undo};
 
-/// The one caller of an office, for labels from 1 to 1,024. Contracts see the desk that it serves and the number of
-/// calls in the log. A client can't be dropped: `end` ends it.
+/// The one caller of an office, for labels from 1 to 1,024. Contracts see the desk that it serves, the number of calls
+/// in the log, and whether the office had no session of a label's number. A client can't be dropped: `end` ends it.
 pub struct Client<L: Terms> {
     pub(crate) office: Office<L>,
     pub(crate) front: Front<L>,
     // that of label N at place N - 1
     pub(crate) sessions: Vec<Session<L>>,
+    // whether the office had no session of a label's number
+    pub(crate) unseated: bool,
 }
 
 impl<L: Terms> Model for Client<L> {
@@ -37,7 +39,7 @@ impl<L: Terms> Model for Client<L> {
 
     ghost use Rattle.vpg_report.specs.Client.{client_after};
 
-    ghost view = { λ c. client_after L.game L.diagram c.front };
+    ghost view = { λ c. client_after L.game L.diagram c.unseated c.front };
 }
 
 impl<L: Terms> Client<L> {
@@ -70,6 +72,7 @@ impl<L: Terms> Client<L> {
                 office,
                 front: Front::empty(),
                 sessions: Vec::new(alloc),
+                unseated: false,
             }),
             Err(refused) => Err(refused),
         }
@@ -84,6 +87,7 @@ impl<L: Terms> Client<L> {
             office,
             front,
             sessions: _,
+            unseated: _,
         } = self;
         let office = office.unshare();
         let log = office.log();
@@ -96,56 +100,65 @@ impl<L: Terms> Client<L> {
     }
 }
 
-/// Returns the place of a label's session. If the label is new, joins the sessions up to it. `Stray` if no session has
-/// this label.
+/// Returns the place of a label's session. If the label is new, joins the sessions up to it. `Stray` if the office had
+/// none of this number; that is noted.
 pub(crate) fn seat<L: Terms, R: Wait, F>(
     rt: &R,
     office: &Office<L>,
-    front: &Front<L>,
     sessions: &mut Vec<Session<L>>,
+    unseated: &mut bool,
     label: u32,
 ) -> Result<usize, ClientFault<F>>
     ensures within { IfOk result (λ place. place < length sessions.new.items) }
-    ensures number { IfOk result (λ place. slice_index sessions.new.items place ≡ label) }
-    ensures absent { IfErr result IsAbsent }
+    ensures number { IfOk result (λ place. (slice_index_or sessions.new.items place nobody).number ≡ label) }
+    ensures seated { OnOk result (unseated.new ≡ unseated.old) }
+    ensures absent { IfErr result (IsAbsent unseated.old unseated.new) }
+    ensures missing { IfErr result
+        (λ fault. fault ≡ ClientFault.Stray → ¬ IsNumbered sessions.new.items (label - 1) label) }
 {
-    for _ in sessions.len()..label as usize {
-        join(rt, office, front, sessions)?;
-    }
-    let Some(place) = (label as usize).checked_sub(1) else {
-        return Err(ClientFault::Stray);
-    };
-    match sessions.get(place) {
-        Some(session) if session.number() == label => Ok(place),
-        _ => Err(ClientFault::Stray),
-    }
-}
-
-/// Joins one more session, which has to find the log as the client left it.
-fn join<L: Terms, R: Wait, F>(
-    rt: &R,
-    office: &Office<L>,
-    front: &Front<L>,
-    sessions: &mut Vec<Session<L>>,
-) -> Result<(), ClientFault<F>>
-    ensures { IfErr result IsAbsent }
-{
-    if sessions.reserve(1).is_err() {
+    if join(rt, office, sessions, label).is_err() {
         return Err(ClientFault::Memory);
     }
-    let Ok((session, log)) = office.join(rt) else {
-        return Err(ClientFault::Stray);
-    };
-    if log.len() != front.len() {
-        return Err(ClientFault::Stray);
+    let place = label.saturating_sub(1) as usize;
+    if has_number(sessions, place, label) {
+        return Ok(place);
     }
-    sessions.push_reserved(session);
+    *unseated = true;
+    Err(ClientFault::Stray)
+}
+
+/// Whether the session at a place has this number.
+fn has_number<L: Terms>(sessions: &[Session<L>], place: usize, number: u32) -> bool
+    ensures yes { result ≡ true → IsNumbered sessions.now place number }
+    ensures no { result ≡ false → ¬ IsNumbered sessions.now place number }
+{
+    if place >= sessions.len() {
+        return false;
+    }
+    sessions[place].number() == number
+}
+
+/// Joins sessions until there are this many, or the office has no more.
+fn join<L: Terms, R: Wait>(
+    rt: &R,
+    office: &Office<L>,
+    sessions: &mut Vec<Session<L>>,
+    count: u32,
+) -> Result<(), AllocError> {
+    for _ in sessions.len()..count as usize {
+        sessions.reserve(1)?;
+        let Ok((session, _log)) = office.join(rt) else {
+            return Ok(());
+        };
+        sessions.push_reserved(session);
+    }
     Ok(())
 }
 
 /// Whether the front has exactly one call more than `calls`.
 pub(crate) fn has_one_more<L: Terms>(front: &Front<L>, calls: usize) -> bool
     ensures yes { result ≡ true → length front.now ≡ calls + 1 }
+    ensures no { result ≡ false → ¬ (length front.now ≡ calls + 1) }
     ensures fits { length front.now ≤ L.limit }
 {
     calls < front.len() && front.len() - calls == 1

@@ -1,6 +1,6 @@
 //! Why a client's calls are not answered, and the values that come back.
-ghost use Rattle.std.specs.Prelude.{◌≤◌, length};
-ghost use Rattle.vpg_report.specs.Faults.{Sorts};
+ghost use Rattle.std.specs.Prelude.{◌≡◌, ◌≤◌, length};
+ghost use Rattle.vpg_report.specs.Faults.{Sorts, shown_after, shown_by};
 
 use crate::client::has_one_more;
 use std::fmt::Display;
@@ -16,7 +16,7 @@ pub enum ClientFault<F> {
     LogFull,
     #[error("{fault}")]
     Refused { fault: F },
-    /// The log has a call that this client didn't make, or the number of a session isn't its label.
+    /// The log has a call that this client didn't make, or the office has no session of the label's number.
     #[error("Stray")]
     Stray,
     #[error("Memory")]
@@ -33,6 +33,41 @@ pub struct Returned<F, T> {
 pub enum Token<L: Terms> {
     Undo(Undo<L>),
     Redo(Redo<L>),
+}
+
+/// Sets the front to the log, if the office's fault has it.
+fn follow<L: Terms, F>(fault: &Fault<L, F>, front: &mut Front<L>)
+    ensures { front.new ≡ shown_by fault.now front.old }
+{
+    match fault {
+        Fault::LogFull { front: log } => *front = log.copy(),
+        Fault::Doubled { front: log } => *front = log.copy(),
+        Fault::Refused { fault: _ } => {}
+        Fault::Memory => {}
+    }
+}
+
+/// Sets the front to the log, if the answer has it.
+pub(crate) fn follow_answer<L: Terms, T, F>(answer: &Result<T, Fault<L, F>>, front: &mut Front<L>)
+    ensures { front.new ≡ shown_after answer.now (λ fault. fault) front.old }
+{
+    match answer {
+        Ok(_) => {}
+        Err(fault) => follow(fault, front),
+    }
+}
+
+/// Sets the front to the log, if the answer to a value that was handed in has it.
+pub(crate) fn follow_returned<L: Terms, T, F, V>(
+    answer: &Result<T, vpg_office::Returned<L, F, V>>,
+    front: &mut Front<L>,
+)
+    ensures { front.new ≡ shown_after answer.now (λ b. b.fault) front.old }
+{
+    match answer {
+        Ok(_) => {}
+        Err(returned) => follow(&returned.fault, front),
+    }
 }
 
 /// Turns the office's fault into the client's, if its front had `calls` calls before the call.

@@ -7,7 +7,7 @@ use Rattle.vpg_office.specs.Fronts.{family_between}
 use Rattle.vpg_office.specs.Made.{IsEntered, IsMade, IsRefused, Leaves}
 use Rattle.vpg_office.specs.Story.{IsNamed, call_of, refusal_of}
 use Rattle.vpg_office.specs.declared.asked.Answer.TheVariants.{Refused}
-use Rattle.vpg_office.proofs.Calling.{admitted, few_tokens, log_history, log_made, log_refused, refused_leaves, reply_here, seen_here, stops_leave, then_some, told_here}
+use Rattle.vpg_office.proofs.Calling.{admitted, few_tokens, log_history, log_made, log_refused, more_left, refused_leaves, reply_here, seen_here, stops_leave, then_some, told_here}
 use Rattle.vpg_office.proofs.log.Log.make.Goals as goal
 
 pub admit-requires-clause-row : goal.admit-requires-clause-row
@@ -69,26 +69,26 @@ refuse-fault-requires-clause-few g c = omega (arith, c.in-Ok.ensures.fits, c.sel
 
 pub enter-requires-clause-reply : goal.enter-requires-clause-reply
 enter-requires-clause-reply g c =
-    let i = admitted c.self.invariant c.admit.ensures.newest c.admit.ensures.limit c.admit.ensures.kept in
-    let made = coe 0 1 (k. IsMade g.L.Terms.game g.L.Terms.diagram c.self.inside.desk c.args.session ((sym c.requires.asked) k) c.in-Ok-carry_out.made.answer c.carry_out.new.desk) c.in-Ok-carry_out.ensures.made in
-    reply_here i c.args.asked c.in-Ok-carry_out.made.answer made.step.step.0
+    let i = admitted c.self.invariant c.admit.ensures.newest c.admit.ensures.limit c.admit.ensures.left c.admit.ensures.kept in
+    let made = coe 0 1 (k. IsMade g.L.Terms.game g.L.Terms.diagram c.self.inside.desk c.args.session ((sym c.requires.asked) k) c.in-Ok-carry_out.done.answer c.carry_out.new.desk) c.in-Ok-carry_out.ensures.made in
+    reply_here i c.args.asked c.in-Ok-carry_out.done.answer made.step.step.0
 
 pub enter-requires-clause-hands : goal.enter-requires-clause-hands
 enter-requires-clause-hands g c =
-    let made = coe 0 1 (k. IsMade g.L.Terms.game g.L.Terms.diagram c.self.inside.desk c.args.session ((sym c.requires.asked) k) c.in-Ok-carry_out.made.answer c.carry_out.new.desk) c.in-Ok-carry_out.ensures.made in
+    let made = coe 0 1 (k. IsMade g.L.Terms.game g.L.Terms.diagram c.self.inside.desk c.args.session ((sym c.requires.asked) k) c.in-Ok-carry_out.done.answer c.carry_out.new.desk) c.in-Ok-carry_out.ensures.made in
     made.hands
 
 pub enter-requires-clause-named : goal.enter-requires-clause-named
 enter-requires-clause-named g c =
-    let made = coe 0 1 (k. IsMade g.L.Terms.game g.L.Terms.diagram c.self.inside.desk c.args.session ((sym c.requires.asked) k) c.in-Ok-carry_out.made.answer c.carry_out.new.desk) c.in-Ok-carry_out.ensures.made in
+    let made = coe 0 1 (k. IsMade g.L.Terms.game g.L.Terms.diagram c.self.inside.desk c.args.session ((sym c.requires.asked) k) c.in-Ok-carry_out.done.answer c.carry_out.new.desk) c.in-Ok-carry_out.ensures.made in
     made.named
 
 pub invariant_of-self-in-Ok-carry_out : goal.invariant_of-self-in-Ok-carry_out
 invariant_of-self-in-Ok-carry_out g c =
-    let i = admitted c.self.invariant c.admit.ensures.newest c.admit.ensures.limit c.admit.ensures.kept in
-    let made = coe 0 1 (k. IsMade g.L.Terms.game g.L.Terms.diagram c.self.inside.desk c.args.session ((sym c.requires.asked) k) c.in-Ok-carry_out.made.answer c.carry_out.new.desk) c.in-Ok-carry_out.ensures.made in
-    log_made i c.enter.new.self.chronicle c.enter.new.self.newest c.enter.new.self.room c.carry_out.new.desk c.carry_out.new.purse c.args.session c.args.asked c.in-Ok-carry_out.made.answer
-    c.enter.ensures.kept c.enter.ensures.newest c.enter.ensures.limit made.step c.carry_out.ensures.counted
+    let i = admitted c.self.invariant c.admit.ensures.newest c.admit.ensures.limit c.admit.ensures.left c.admit.ensures.kept in
+    let made = coe 0 1 (k. IsMade g.L.Terms.game g.L.Terms.diagram c.self.inside.desk c.args.session ((sym c.requires.asked) k) c.in-Ok-carry_out.done.answer c.carry_out.new.desk) c.in-Ok-carry_out.ensures.made in
+    log_made i c.enter.new.self.chronicle c.enter.new.self.newest c.enter.new.self.room c.carry_out.new.desk c.carry_out.new.purse c.enter.new.self.left.parts c.args.session c.args.asked c.in-Ok-carry_out.done.answer
+    c.enter.ensures.kept c.enter.ensures.newest c.enter.ensures.limit made.step c.carry_out.ensures.counted c.enter.ensures.left
 
 pub returns-in-Ok-carry_out-clause-done : goal.returns-in-Ok-carry_out-clause-done
 returns-in-Ok-carry_out-clause-done g c =
@@ -99,18 +99,18 @@ returns-in-Ok-carry_out-clause-done g c =
 pub returns-in-Ok-carry_out-clause-gives : goal.returns-in-Ok-carry_out-clause-gives
 returns-in-Ok-carry_out-clause-gives g c =
     let now = c.self.invariant.replay.book ∙ ap (book_after (family_between g.L.Terms.game g.L.Terms.diagram) opened) c.self.view_is in
-    coe 0 1 (k. g.C.Call.Gives c.args.call (now k) c.in-Ok-carry_out.made.given) c.in-Ok-carry_out.ensures.gives
+    coe 0 1 (k. g.C.Call.Gives c.args.call (now k) c.in-Ok-carry_out.done.given) c.in-Ok-carry_out.ensures.gives
 
 pub returns-in-Err-clause-leaves : goal.returns-in-Err-clause-leaves
 returns-in-Err-clause-leaves g c =
-    let i = admitted c.self.invariant c.admit.ensures.newest c.admit.ensures.limit c.admit.ensures.kept in
+    let i = admitted c.self.invariant c.admit.ensures.newest c.admit.ensures.limit c.admit.ensures.left c.admit.ensures.kept in
     let log = c.admit.ensures.newest ∙ c.self.view_is in
     coe 0 1 (k. Leaves g.L.Terms.game g.L.Terms.diagram g.L.Terms.limit g.C.Call.refusal (log k) c.args.front.now c.args.session (c.requires.asked k) c.args.front.now c.in-Err.fault)
     (stops_leave g.L.Terms.game g.L.Terms.diagram g.L.Terms.limit g.C.Call.refusal c.admit.new.self.newest c.args.front.now c.args.session c.args.asked c.in-Err.fault (log_history i) c.in-Err.ensures.err)
 
 pub refuse-fault-requires-clause-reply : goal.refuse-fault-requires-clause-reply
 refuse-fault-requires-clause-reply g c =
-    let i = admitted c.self.invariant c.admit.ensures.newest c.admit.ensures.limit c.admit.ensures.kept in
+    let i = admitted c.self.invariant c.admit.ensures.newest c.admit.ensures.limit c.admit.ensures.left c.admit.ensures.kept in
     let refused = coe 0 1 (k. IfSome c.in-Err-carry_out.unmade.refused (λ w. IsRefused g.L.Terms.game g.L.Terms.diagram (g.C.Call.refusal w.fault) c.self.inside.desk ((sym c.requires.asked) k) w.cause)) c.in-Err-carry_out.ensures.refused in
     let F = family_between g.L.Terms.game g.L.Terms.diagram in
     then_some c.in-Err-carry_out.unmade.refused (λ w. IsRefused g.L.Terms.game g.L.Terms.diagram (g.C.Call.refusal w.fault) c.self.inside.desk c.args.asked w.cause)
@@ -131,13 +131,13 @@ refuse-fault-requires-clause-named g c =
 
 pub invariant_of-self-in-Err-carry_out : goal.invariant_of-self-in-Err-carry_out
 invariant_of-self-in-Err-carry_out g c =
-    let i = admitted c.self.invariant c.admit.ensures.newest c.admit.ensures.limit c.admit.ensures.kept in
-    log_refused i c.in-Err-carry_out.unmade.refused c.args.session c.args.asked c.refuse-fault.result c.args.front.now c.refuse-fault.new.front c.refuse-fault.new.self.chronicle c.refuse-fault.new.self.newest c.refuse-fault.new.self.room c.carry_out.new.desk c.carry_out.new.purse
-    c.in-Err-carry_out.ensures.same c.carry_out.ensures.counted c.refuse-fault.ensures.limit c.refuse-fault.ensures.kept c.refuse-fault.ensures.memory c.refuse-fault.ensures.refused
+    let i = admitted c.self.invariant c.admit.ensures.newest c.admit.ensures.limit c.admit.ensures.left c.admit.ensures.kept in
+    log_refused i c.in-Err-carry_out.unmade.refused c.args.session c.args.asked c.refuse-fault.result c.args.front.now c.refuse-fault.new.front c.refuse-fault.new.self.chronicle c.refuse-fault.new.self.newest c.refuse-fault.new.self.room c.carry_out.new.desk c.carry_out.new.purse c.refuse-fault.new.self.left.parts
+    c.refuse-fault.ensures.left c.in-Err-carry_out.ensures.same c.carry_out.ensures.counted c.refuse-fault.ensures.limit c.refuse-fault.ensures.kept c.refuse-fault.ensures.memory c.refuse-fault.ensures.refused
 
 pub returns-clause-leaves : goal.returns-clause-leaves
 returns-clause-leaves g c =
-    let i = admitted c.self.invariant c.admit.ensures.newest c.admit.ensures.limit c.admit.ensures.kept in
+    let i = admitted c.self.invariant c.admit.ensures.newest c.admit.ensures.limit c.admit.ensures.left c.admit.ensures.kept in
     let refused = coe 0 1 (k. IfSome c.in-Err-carry_out.unmade.refused (λ w. IsRefused g.L.Terms.game g.L.Terms.diagram (g.C.Call.refusal w.fault) c.self.inside.desk ((sym c.requires.asked) k) w.cause)) c.in-Err-carry_out.ensures.refused in
     let log = c.admit.ensures.newest ∙ c.self.view_is in
     coe 0 1 (k. Leaves g.L.Terms.game g.L.Terms.diagram g.L.Terms.limit g.C.Call.refusal (log k) c.args.front.now c.args.session (c.requires.asked k) c.refuse-fault.new.front c.refuse-fault.result)
@@ -148,4 +148,10 @@ pub returns-clause-back : goal.returns-clause-back
 returns-clause-back g c = c.in-Err-carry_out.ensures.back
 
 pub invariant_of-self : goal.invariant_of-self
-invariant_of-self g c = admitted c.self.invariant c.admit.ensures.newest c.admit.ensures.limit c.admit.ensures.kept
+invariant_of-self g c = admitted c.self.invariant c.admit.ensures.newest c.admit.ensures.limit c.admit.ensures.left c.admit.ensures.kept
+
+pub enter-requires-clause-left : goal.enter-requires-clause-left
+enter-requires-clause-left g c = more_left c.self.invariant c.admit.ensures.newest c.admit.ensures.left c.in-Ok.ensures.fits
+
+pub refuse-fault-requires-clause-left : goal.refuse-fault-requires-clause-left
+refuse-fault-requires-clause-left g c = more_left c.self.invariant c.admit.ensures.newest c.admit.ensures.left c.in-Ok.ensures.fits

@@ -1,9 +1,9 @@
-use Rattle.std.proofs.Common.{refl, sym, ap, eq-eqb}
+use Rattle.std.proofs.Common.{refl, sym, ap, eq-eqb, ◌≡◌, ◌+◌}
 use Rattle.std.specs.Prelude.{IsTrue}
 use Rattle.vpg_desk.specs.Book as book
 use Rattle.vpg_desk.specs.Faults.{decide_refusal}
 use Rattle.vpg_desk.specs.History.{gives_undo}
-use Rattle.vpg_office.specs.Faults.{Tells}
+use Rattle.vpg_office.specs.Faults.{Tells, logged}
 use Rattle.vpg_office.specs.Fronts.{Extends, family_between}
 use Rattle.vpg_office.specs.Token.{Held}
 use Rattle.vpg_office.specs.declared.asked.Asked.TheVariants as ask
@@ -19,9 +19,12 @@ of-requires-clause-ends g c = entered_ends (λ reply. IsTrue (gives_undo c.in-Ok
 pub returns-in-Ok-clause-done : goal.returns-in-Ok-clause-done
 returns-in-Ok-clause-done g c =
     let F = family_between g.L.Terms.game g.L.Terms.diagram in
-    (coe 0 1 (k. Extends F c.args.front.now c.args.self.now (book.Decide c.args.feature c.args.value) (book.Changed ((sym c.of.ensures) k).serial) c.make.new.front) (entered_extends c.in-Ok.ensures.made.1.0 c.in-Ok.ensures.made.1.1.1.0), ap (λ (t : Held). t.history) c.of.ensures)
+    (coe 0 1 (k. Extends F c.args.front.now c.args.self.now.number (book.Decide c.args.feature c.args.value) (book.Changed ((sym c.of.ensures) k).serial) c.make.new.front) (entered_extends c.in-Ok.ensures.made.1.0 c.in-Ok.ensures.made.1.1.1.0), ap (λ (t : Held). t.history) c.of.ensures)
 
 pub returns-in-Err-clause-fault : goal.returns-in-Err-clause-fault
 returns-in-Err-clause-fault g c =
-    coe 0 1 (k. Tells (family_between g.L.Terms.game g.L.Terms.diagram) g.L.Terms.limit decide_refusal (book.Decide c.args.feature c.args.value) c.args.self.now c.args.front.now c.make.new.front ((sym c.into_fault.ensures) k))
-    (leaves_tells g.L.Terms.game g.L.Terms.diagram g.L.Terms.limit decide_refusal c.in-Err.ensures.leaves.0 c.args.front.now c.args.self.now (ask.Decide c.args.feature c.args.value) c.make.new.front (book.Decide c.args.feature c.args.value) c.in-Err.back.fault (λ r. refl) c.in-Err.ensures.leaves.1.0 c.in-Err.ensures.leaves.1.1.1)
+    coe 0 1 (k. Tells (family_between g.L.Terms.game g.L.Terms.diagram) g.L.Terms.limit decide_refusal (book.Decide c.args.feature c.args.value) c.args.self.now.number c.args.front.now c.make.new.front ((sym c.into_fault.ensures) k))
+    (leaves_tells g.L.Terms.game g.L.Terms.diagram g.L.Terms.limit decide_refusal c.in-Err.ensures.leaves.0 c.args.front.now c.args.self.now.number (ask.Decide c.args.feature c.args.value) c.make.new.front (book.Decide c.args.feature c.args.value) c.in-Err.back.fault (λ r. refl) c.in-Err.ensures.leaves.1.0 c.in-Err.ensures.leaves.1.1.1)
+
+pub returns-in-Err-clause-fault_counted : goal.returns-in-Err-clause-fault_counted
+returns-in-Err-clause-fault_counted g c = coe 0 1 (k. c.make.new.self.calls ≡ c.args.self.now.calls + logged ((sym c.into_fault.ensures) k)) c.in-Err.ensures.fault_counted

@@ -14,12 +14,12 @@ pub returns-in-Ok-clause-done : goal.returns-in-Ok-clause-done
 returns-in-Ok-clause-done g c = entered_extends c.in-Ok.ensures.made.1.0 c.in-Ok.ensures.made.1.1.1.0
 
 pub returns-in-Ok-clause-begins : goal.returns-in-Ok-clause-begins
-returns-in-Ok-clause-begins g c = prefix_more c.args.token.history c.in-Ok.ensures.made.0 c.make.new.front (event c.args.self.now (book.Forget c.args.token.serial) book.Spent)
+returns-in-Ok-clause-begins g c = prefix_more c.args.token.history c.in-Ok.ensures.made.0 c.make.new.front (event c.args.self.now.number (book.Forget c.args.token.serial) book.Spent)
     (coe 0 1 (k. IsPrefix ((c.copy.ensures.same ∙ (λ j. (c.token.view_is j).history)) k) c.in-Ok.ensures.made.0) c.in-Ok.ensures.made.1.1.0.0) c.in-Ok.ensures.made.1.1.1.0.is
 
 pub returns-in-Err-clause-fault : goal.returns-in-Err-clause-fault
 returns-in-Err-clause-fault g c =
-    leaves_tells g.L.Terms.game g.L.Terms.diagram g.L.Terms.limit never_refused c.in-Err.ensures.leaves.0 c.args.front.now c.args.self.now (ask.Forget c.args.token.serial) c.make.new.front (book.Forget c.args.token.serial) c.in-Err.back.fault
+    leaves_tells g.L.Terms.game g.L.Terms.diagram g.L.Terms.limit never_refused c.in-Err.ensures.leaves.0 c.args.front.now c.args.self.now.number (ask.Forget c.args.token.serial) c.make.new.front (book.Forget c.args.token.serial) c.in-Err.back.fault
     (λ r. refl) c.in-Err.ensures.leaves.1.0 c.in-Err.ensures.leaves.1.1.1
 
 pub returns-in-Err-clause-back : goal.returns-in-Err-clause-back

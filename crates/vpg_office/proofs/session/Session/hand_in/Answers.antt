@@ -20,14 +20,14 @@ pub make-requires-clause-takes : goal.make-requires-clause-takes
 make-requires-clause-takes g c = (c.of-shown.ensures, c.requires)
 
 pub returns-in-Ok-clause-done : goal.returns-in-Ok-clause-done
-returns-in-Ok-clause-done g c = coe 0 1 (k. Extends (family_between g.L.Terms.game g.L.Terms.diagram) c.args.front.now c.args.self.now (book.Commit (handed_in true (c.of-shown.ensures k))) (book.Added c.in-Ok.entries) c.make.new.front) (entered_extends c.in-Ok.ensures.made.1.0 c.in-Ok.ensures.made.1.1.1.0)
+returns-in-Ok-clause-done g c = coe 0 1 (k. Extends (family_between g.L.Terms.game g.L.Terms.diagram) c.args.front.now c.args.self.now.number (book.Commit (handed_in true (c.of-shown.ensures k))) (book.Added c.in-Ok.entries) c.make.new.front) (entered_extends c.in-Ok.ensures.made.1.0 c.in-Ok.ensures.made.1.1.1.0)
 
 pub returns-in-Ok-clause-ours : goal.returns-in-Ok-clause-ours
 returns-in-Ok-clause-ours g c = c.in-Ok.ensures.made.1.1.1.1
 
 pub returns-in-Err-clause-fault : goal.returns-in-Err-clause-fault
 returns-in-Err-clause-fault g c =
-    leaves_commit g.L.Terms.game g.L.Terms.diagram g.L.Terms.limit c.args.harvest c.in-Err.ensures.leaves.0 c.args.front.now c.args.self.now (ask.Commit c.of-shown.result) c.make.new.front c.in-Err.back.fault
+    leaves_commit g.L.Terms.game g.L.Terms.diagram g.L.Terms.limit c.args.harvest c.in-Err.ensures.leaves.0 c.args.front.now c.args.self.now.number (ask.Commit c.of-shown.result) c.make.new.front c.in-Err.back.fault
     (λ r k. book.Commit (handed_in (not (tells_other r)) (c.of-shown.ensures k))) (λ r is. subst (λ (h : HarvestView). Decides (not (tells_other r)) (IsOf g.L.Terms.game g.L.Terms.diagram h.order)) c.of-shown.ensures is)
     c.in-Err.ensures.leaves.1.0 c.in-Err.ensures.leaves.1.1.1
 

@@ -1,6 +1,6 @@
-use Rattle.std.proofs.Common.{refl, sym, ap, ◌∙◌, length}
+use Rattle.std.proofs.Common.{refl, sym, ap, ◌∙◌, length, ◌≡◌, ◌+◌}
 use Rattle.vpg_desk.specs.Book as book
-use Rattle.vpg_office.specs.Faults.{Tells, never_refused}
+use Rattle.vpg_office.specs.Faults.{Tells, never_refused, logged}
 use Rattle.vpg_office.specs.Fronts.{Extends, family_between}
 use Rattle.vpg_office.specs.declared.asked.Asked.TheVariants as ask
 use Rattle.vpg_office.proofs.Calling.{entered_extends, leaves_tells}
@@ -15,12 +15,12 @@ use Rattle.vpg_office.proofs.Calling.{page_leaves}
 use Rattle.vpg_office.proofs.session.Session.page_with_games.Goals as goal
 
 pub returns-in-Ok-clause-done : goal.returns-in-Ok-clause-done
-returns-in-Ok-clause-done g c = coe 0 1 (k. Extends (family_between g.L.Terms.game g.L.Terms.diagram) c.args.front.now c.args.self.now book.Page (book.PageIs ((sym c.in-Ok.ensures.made.1.1.1.1.present) k)) c.make.new.front) (entered_extends c.in-Ok.ensures.made.1.0 c.in-Ok.ensures.made.1.1.1.0)
+returns-in-Ok-clause-done g c = coe 0 1 (k. Extends (family_between g.L.Terms.game g.L.Terms.diagram) c.args.front.now c.args.self.now.number book.Page (book.PageIs ((sym c.in-Ok.ensures.made.1.1.1.1.present) k)) c.make.new.front) (entered_extends c.in-Ok.ensures.made.1.0 c.in-Ok.ensures.made.1.1.1.0)
 
 pub returns-in-Err-clause-fault : goal.returns-in-Err-clause-fault
 returns-in-Err-clause-fault g c =
-    coe 0 1 (k. Tells (family_between g.L.Terms.game g.L.Terms.diagram) g.L.Terms.limit never_refused (book.Page) c.args.self.now c.args.front.now c.make.new.front ((sym c.into_fault.ensures) k))
-    (leaves_tells g.L.Terms.game g.L.Terms.diagram g.L.Terms.limit never_refused c.in-Err.ensures.leaves.0 c.args.front.now c.args.self.now (ask.Page) c.make.new.front (book.Page) c.in-Err.back.fault (λ r. refl) c.in-Err.ensures.leaves.1.0 c.in-Err.ensures.leaves.1.1.1)
+    coe 0 1 (k. Tells (family_between g.L.Terms.game g.L.Terms.diagram) g.L.Terms.limit never_refused (book.Page) c.args.self.now.number c.args.front.now c.make.new.front ((sym c.into_fault.ensures) k))
+    (leaves_tells g.L.Terms.game g.L.Terms.diagram g.L.Terms.limit never_refused c.in-Err.ensures.leaves.0 c.args.front.now c.args.self.now.number (ask.Page) c.make.new.front (book.Page) c.in-Err.back.fault (λ r. refl) c.in-Err.ensures.leaves.1.0 c.in-Err.ensures.leaves.1.1.1)
 
 pub returns-in-Ok-clause-decisions : goal.returns-in-Ok-clause-decisions
 returns-in-Ok-clause-decisions g c = c.in-Ok.ensures.made.1.1.1.1.decided ∙ ap decisions_of (sym c.in-Ok.ensures.made.1.1.1.1.present)
@@ -45,3 +45,6 @@ returns-in-Ok-clause-reached g c = coe 0 1 (k. IsReached (setting_between g.L.Te
 
 pub returns-in-Ok-clause-games : goal.returns-in-Ok-clause-games
 returns-in-Ok-clause-games g c = coe 0 1 (k. ArePageGames g.L.Terms.game g.L.Terms.diagram (choices_of ((sym c.in-Ok.ensures.made.1.1.1.1.present) k)) (arc_value c.in-Ok.both.1)) c.in-Ok.ensures.made.1.1.1.1.are_games
+
+pub returns-in-Err-clause-fault_counted : goal.returns-in-Err-clause-fault_counted
+returns-in-Err-clause-fault_counted g c = coe 0 1 (k. c.make.new.self.calls ≡ c.args.self.now.calls + logged ((sym c.into_fault.ensures) k)) c.in-Err.ensures.fault_counted

@@ -24,26 +24,26 @@ of-requires-clause-ends g c = entered_ends (λ reply. IsTrue (gives_undo c.in-Ok
 pub returns-in-Ok-clause-done : goal.returns-in-Ok-clause-done
 returns-in-Ok-clause-done g c =
     let F = family_between g.L.Terms.game g.L.Terms.diagram in
-    (coe 0 1 (k. Extends F c.args.front.now c.args.self.now (book.Redo c.args.token.serial) (book.Redone ((sym c.of.ensures) k).serial) c.make.new.front) (entered_extends c.in-Ok.ensures.made.1.0 c.in-Ok.ensures.made.1.1.1.0), ap (λ (t : Held). t.history) c.of.ensures)
+    (coe 0 1 (k. Extends F c.args.front.now c.args.self.now.number (book.Redo c.args.token.serial) (book.Redone ((sym c.of.ensures) k).serial) c.make.new.front) (entered_extends c.in-Ok.ensures.made.1.0 c.in-Ok.ensures.made.1.1.1.0), ap (λ (t : Held). t.history) c.of.ensures)
 
 pub returns-in-Ok-clause-goes_back : goal.returns-in-Ok-clause-goes_back
 returns-in-Ok-clause-goes_back g c =
     let held = coe 0 1 (k. IsLastGiven c.in-Ok.ensures.made.0 (c.serial-serial.ensures.serial k) ((c.copy.ensures.same ∙ (λ j. (c.token.view_is j).history)) k)) c.in-Ok.ensures.made.1.1.0.1 in
-    redone_back (family_between g.L.Terms.game g.L.Terms.diagram) c.in-Ok.ensures.made.0 c.make.new.front c.args.token.history c.args.self.now c.args.token.serial c.in-Ok.issued.token c.in-Ok.ensures.made.1.1.1.1.1.1.0
+    redone_back (family_between g.L.Terms.game g.L.Terms.diagram) c.in-Ok.ensures.made.0 c.make.new.front c.args.token.history c.args.self.now.number c.args.token.serial c.in-Ok.issued.token c.in-Ok.ensures.made.1.1.1.1.1.1.0
     held c.in-Ok.ensures.made.1.1.1.1.1.1.1 c.in-Ok.ensures.made.1.1.1.0.is c.in-Ok.ensures.made.1.1.1.0.history.legal
 
 pub returns-in-Ok-clause-begins : goal.returns-in-Ok-clause-begins
-returns-in-Ok-clause-begins g c = prefix_more c.args.token.history c.in-Ok.ensures.made.0 c.make.new.front (event c.args.self.now (book.Redo c.args.token.serial) (book.Redone c.in-Ok.issued.token))
+returns-in-Ok-clause-begins g c = prefix_more c.args.token.history c.in-Ok.ensures.made.0 c.make.new.front (event c.args.self.now.number (book.Redo c.args.token.serial) (book.Redone c.in-Ok.issued.token))
     (coe 0 1 (k. IsPrefix ((c.copy.ensures.same ∙ (λ j. (c.token.view_is j).history)) k) c.in-Ok.ensures.made.0) c.in-Ok.ensures.made.1.1.0.0) c.in-Ok.ensures.made.1.1.1.0.is
 
 pub returns-in-Err-clause-fault : goal.returns-in-Err-clause-fault
 returns-in-Err-clause-fault g c =
-    leaves_tells g.L.Terms.game g.L.Terms.diagram g.L.Terms.limit redo_refusal c.in-Err.ensures.leaves.0 c.args.front.now c.args.self.now (ask.Redo c.args.token.serial) c.make.new.front (book.Redo c.args.token.serial) c.in-Err.back.fault
+    leaves_tells g.L.Terms.game g.L.Terms.diagram g.L.Terms.limit redo_refusal c.in-Err.ensures.leaves.0 c.args.front.now c.args.self.now.number (ask.Redo c.args.token.serial) c.make.new.front (book.Redo c.args.token.serial) c.in-Err.back.fault
     (λ r. refl) c.in-Err.ensures.leaves.1.0 c.in-Err.ensures.leaves.1.1.1
 
 pub returns-in-Err-clause-refused : goal.returns-in-Err-clause-refused
 returns-in-Err-clause-refused g c =
-    leaves_begins g.L.Terms.game g.L.Terms.diagram g.L.Terms.limit redo_refusal c.in-Err.ensures.leaves.0 c.args.front.now c.args.self.now (ask.Redo c.args.token.serial) c.make.new.front c.args.token.history c.in-Err.back.fault
+    leaves_begins g.L.Terms.game g.L.Terms.diagram g.L.Terms.limit redo_refusal c.in-Err.ensures.leaves.0 c.args.front.now c.args.self.now.number (ask.Redo c.args.token.serial) c.make.new.front c.args.token.history c.in-Err.back.fault
     (coe 0 1 (k. IsPrefix ((c.copy.ensures.same ∙ (λ j. (c.token.view_is j).history)) k) c.in-Err.ensures.leaves.0) c.in-Err.ensures.leaves.1.1.0.0) c.in-Err.ensures.leaves.1.1.1
 
 pub returns-in-Err-clause-back : goal.returns-in-Err-clause-back

@@ -1,6 +1,6 @@
-use Rattle.std.proofs.Common.{refl, sym}
+use Rattle.std.proofs.Common.{refl, sym, ◌≡◌, ◌+◌}
 use Rattle.vpg_desk.specs.Book as book
-use Rattle.vpg_office.specs.Faults.{Tells, never_refused}
+use Rattle.vpg_office.specs.Faults.{Tells, never_refused, logged}
 use Rattle.vpg_office.specs.Fronts.{family_between}
 use Rattle.vpg_office.specs.declared.asked.Asked.TheVariants as ask
 use Rattle.vpg_office.proofs.Calling.{entered_extends, leaves_tells}
@@ -11,5 +11,8 @@ returns-in-Ok-clause-done g c = entered_extends c.in-Ok.ensures.made.1.0 c.in-Ok
 
 pub returns-in-Err-clause-fault : goal.returns-in-Err-clause-fault
 returns-in-Err-clause-fault g c =
-    coe 0 1 (k. Tells (family_between g.L.Terms.game g.L.Terms.diagram) g.L.Terms.limit never_refused (book.Settled) c.args.self.now c.args.front.now c.make.new.front ((sym c.into_fault.ensures) k))
-    (leaves_tells g.L.Terms.game g.L.Terms.diagram g.L.Terms.limit never_refused c.in-Err.ensures.leaves.0 c.args.front.now c.args.self.now (ask.Settled) c.make.new.front (book.Settled) c.in-Err.back.fault (λ r. refl) c.in-Err.ensures.leaves.1.0 c.in-Err.ensures.leaves.1.1.1)
+    coe 0 1 (k. Tells (family_between g.L.Terms.game g.L.Terms.diagram) g.L.Terms.limit never_refused (book.Settled) c.args.self.now.number c.args.front.now c.make.new.front ((sym c.into_fault.ensures) k))
+    (leaves_tells g.L.Terms.game g.L.Terms.diagram g.L.Terms.limit never_refused c.in-Err.ensures.leaves.0 c.args.front.now c.args.self.now.number (ask.Settled) c.make.new.front (book.Settled) c.in-Err.back.fault (λ r. refl) c.in-Err.ensures.leaves.1.0 c.in-Err.ensures.leaves.1.1.1)
+
+pub returns-in-Err-clause-fault_counted : goal.returns-in-Err-clause-fault_counted
+returns-in-Err-clause-fault_counted g c = coe 0 1 (k. c.make.new.self.calls ≡ c.args.self.now.calls + logged ((sym c.into_fault.ensures) k)) c.in-Err.ensures.fault_counted
