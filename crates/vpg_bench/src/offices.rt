@@ -12,7 +12,7 @@ ghost use Rattle.std.specs.Prelude.{◌≡◌, ◌≤◌};
 ghost use Rattle.vpg_diagram.specs.FeatureDiagram.{feature_count};
 
 use crate::family::{diagram_of, game_of};
-use crate::offices::calls::{Call, Held, joined, made};
+use crate::offices::calls::{HeldToken, OfficeCall, joined, made};
 use crate::offices::day::work_in_two;
 use crate::offices::watcher::follow;
 use crate::offices::working::work_at_once;
@@ -86,7 +86,7 @@ pub(crate) enum Stopped {
 
 /// The result of a task.
 #[derive(Clone, Copy)]
-struct Told {
+struct TaskResult {
     done: Result<Done, Stopped>,
     calls: usize,
     /// The number of tokens that were out at the end and not handed in.
@@ -94,10 +94,10 @@ struct Told {
 }
 
 /// The result of some work, and the token that is left.
-pub(crate) type Left<L> = (Result<Done, Stopped>, Held<L>);
+pub(crate) type Left<L> = (Result<Done, Stopped>, HeldToken<L>);
 
 /// Decides the feature 1 by one more session. Returns the token that it holds, and the call's end.
-fn decided<L: Terms, R: Wait>(rt: &R, alloc: Global, office: &Office<L>) -> (Held<L>, End) {
+fn decided<L: Terms, R: Wait>(rt: &R, alloc: Global, office: &Office<L>) -> (HeldToken<L>, End) {
     match joined(rt, office) {
         Some(mut seat) => {
             made(
@@ -105,11 +105,11 @@ fn decided<L: Terms, R: Wait>(rt: &R, alloc: Global, office: &Office<L>) -> (Hel
                 alloc,
                 office,
                 &mut seat,
-                Held::Nothing,
-                Call::Decide(1, true),
+                HeldToken::Nothing,
+                OfficeCall::Decide(1, true),
             )
         }
-        None => (Held::Nothing, End::Otherwise),
+        None => (HeldToken::Nothing, End::Otherwise),
     }
 }
 
@@ -140,7 +140,7 @@ fn work<L: Terms + Send + Sync, R: Threads + Wait + Sync>(
     office: Office<L>,
     task: Task,
     seen: &AtomicU64,
-) -> Option<Told> {
+) -> Option<TaskResult> {
     let Ok(mut undos) = Vec::with_capacity(alloc, 1) else {
         let _further = office.end(rt, Vec::new(alloc), Vec::new(alloc));
         return None;
@@ -151,14 +151,14 @@ fn work<L: Terms + Send + Sync, R: Threads + Wait + Sync>(
     };
     let (done, held) = carry_out(rt, alloc, &office, task, seen);
     match held {
-        Held::Nothing => {}
-        Held::Undo(token) => undos.push_reserved(token),
-        Held::Redo(token) => redos.push_reserved(token),
+        HeldToken::Nothing => {}
+        HeldToken::Undo(token) => undos.push_reserved(token),
+        HeldToken::Redo(token) => redos.push_reserved(token),
     }
     let office = office.unshare();
     let calls = office.log().len();
     let further = office.end(rt, undos, redos).further();
-    Some(Told {
+    Some(TaskResult {
         done,
         calls,
         further,
@@ -171,17 +171,17 @@ fn work_on<L: Terms + Send + Sync, R: Threads + Wait + Sync>(
     alloc: Global,
     lent: &mut Option<Office<L>>,
     seen: &AtomicU64,
-) -> Option<Told> {
+) -> Option<TaskResult> {
     let office = lent.take()?;
     work(rt, alloc, office, Task::TwoSessions, seen)
 }
 
 /// Returns the result of a task that a watcher followed, if it printed all that it read.
-fn printed(told: Told, is_printed: bool) -> Told {
+fn printed(told: TaskResult, is_printed: bool) -> TaskResult {
     if is_printed {
         return told;
     }
-    Told {
+    TaskResult {
         done: Err(Stopped::Unprinted),
         ..told
     }
@@ -192,7 +192,7 @@ fn work_watched<L: Terms + Send + Sync, R: Threads + Wait + Sync + Print>(
     rt: &R,
     alloc: Global,
     office: Office<L>,
-) -> Option<Told> {
+) -> Option<TaskResult> {
     let Ok(watch) = office.watch(rt) else {
         let _further = office.end(rt, Vec::new(alloc), Vec::new(alloc));
         return None;
@@ -219,7 +219,7 @@ fn open_and_work<L: Terms + Send + Sync, R: Threads + Wait + Sync + Print>(
     diagram: Arc<Diagram>,
     room: u32,
     task: Task,
-) -> Option<Told>
+) -> Option<TaskResult>
     requires features { (arc_value game).features ≡ feature_count (arc_value diagram).lines }
     requires site { (site.row ≡ L.shelves) × (site.name ≡ L.name) × (site.parts ≡ L.parts) }
     requires of { (arc_value game ≡ L.game) × (arc_value diagram ≡ L.diagram) }
@@ -241,7 +241,7 @@ fn told_on<R: Threads + Wait + Sync + Print>(
     game: Arc<GuardedGame>,
     diagram: Arc<Diagram>,
     task: Task,
-) -> Option<Told>
+) -> Option<TaskResult>
     requires { (arc_value game).features ≡ feature_count (arc_value diagram).lines }
 {
     let site = Site::new(alloc).ok()?;
@@ -255,7 +255,7 @@ fn told_of<R: Threads + Wait + Sync + Print>(
     game: &[u8],
     diagram: &[u8],
     task: Task,
-) -> Result<Told> {
+) -> Result<TaskResult> {
     let diagram = diagram_of(alloc, diagram)?;
     let game = game_of(alloc, game, &diagram)?;
     told_on(rt, alloc, game, diagram, task).context("no office, no watch or no room for tokens")
@@ -271,7 +271,7 @@ fn word_of(stopped: Stopped) -> &'static str {
 }
 
 /// Returns the work that was done to its end.
-fn done_of(told: Told) -> Result<Done> {
+fn done_of(told: TaskResult) -> Result<Done> {
     match told.done {
         Ok(done) => Ok(done),
         Err(stopped) => bail!("{}, further {}", word_of(stopped), told.further),
@@ -279,9 +279,9 @@ fn done_of(told: Told) -> Result<Done> {
 }
 
 /// Prints the result of a task, without reads.
-fn tell(rt: &HostRuntime, told: Told) -> Result<()> {
+fn tell(rt: &HostRuntime, told: TaskResult) -> Result<()> {
     let done = done_of(told)?;
-    let Told { calls, further, .. } = told;
+    let TaskResult { calls, further, .. } = told;
     if let Done::TwoSessions { added, undone } = done {
         println!(rt; "added {added}\nundone {undone}\ncalls {calls}\nfurther {further}")?;
         return Ok(());
@@ -352,14 +352,14 @@ fn told_on_files<T: Threads + Wait + Sync + Print>(
     game: &str,
     diagram: &str,
     task: Task,
-) -> Result<Told> {
+) -> Result<TaskResult> {
     let game = fs::read(rt, game)?;
     let diagram = fs::read(rt, diagram)?;
     told_of(threads, rt.alloc(), &game, &diagram, task)
 }
 
 /// Prints how many reads there were, and the result of a task.
-fn tell_reads(rt: &HostRuntime, told: Told) -> Result<()> {
+fn tell_reads(rt: &HostRuntime, told: TaskResult) -> Result<()> {
     if let Ok(Done::Changes { reads }) = told.done {
         println!(rt; "reads {reads}")?;
     }

@@ -47,14 +47,14 @@ use std::sync::{Arc, Wait};
 use std::thread::Threads;
 use vpg_diagram::Diagram;
 use vpg_game::GuardedGame;
-use vpg_scarce::{End, Heap, Report, Told};
+use vpg_scarce::{End, Finding, Heap, Report};
 
 /// Returns the result of calls that were made once, with no memory.
-pub(crate) fn told_of(tells: bool) -> Told {
+pub(crate) fn told_of(tells: bool) -> Finding {
     if tells {
-        Told::TakesNone
+        Finding::TakesNone
     } else {
-        Told::Otherwise
+        Finding::Otherwise
     }
 }
 

@@ -33,9 +33,9 @@ pub(crate) enum Way {
     Seated,
 }
 
-/// The request of the words.
+/// The way of settling, the most sweeps, and the number of lifters.
 #[derive(Clone, Copy)]
-pub(crate) struct Asked {
+pub(crate) struct SettlePlan {
     pub(crate) way: Way,
     pub(crate) most: u64,
     pub(crate) lifters: u32,
@@ -184,12 +184,12 @@ fn reach<T: Threads + Wait + Sync>(
     rt: &T,
     alloc: Global,
     order: Order,
-    asked: Asked,
+    asked: SettlePlan,
     count: &Count,
 ) -> Option<(Harvest, u64)>
     requires { (1 ≤ asked.lifters) × (asked.lifters ≤ 64) }
 {
-    let Asked { way, most, lifters } = asked;
+    let SettlePlan { way, most, lifters } = asked;
     match way {
         Way::Alone => Some((Harvest::alone(order, most), 0)),
         Way::Plain => Some(swept_from(rt, alloc, order, lifters, most, false, &OpenGate)),
@@ -223,7 +223,7 @@ fn measure<T: Threads + Wait + Sync>(
     rt: &HostRuntime,
     threads: &T,
     order: Order,
-    asked: Asked,
+    asked: SettlePlan,
 ) -> Result<()>
     requires { (1 ≤ asked.lifters) × (asked.lifters ≤ 64) }
 {
@@ -242,7 +242,7 @@ pub(crate) fn sweep_built_in<T: Threads + Wait + Sync>(
     threads: &T,
 ) -> Result<()> {
     for lifters in 1..3 {
-        let asked = Asked {
+        let asked = SettlePlan {
             way: Way::Counted,
             most: 1,
             lifters,

@@ -3,7 +3,7 @@
 ghost use Rattle.std.specs.Prelude.{◌≤◌, length, IfOk};
 
 use crate::offices::{How, ROOM, Task};
-use crate::settling::{Asked, Way};
+use crate::settling::{SettlePlan, Way};
 use anyhow::{Result, bail};
 
 /// Returns the number that a word spells, up to a most.
@@ -49,7 +49,7 @@ fn lifters_of(word: &str) -> Result<u32>
 }
 
 /// Returns the request of the words after `settle GAME`.
-pub(crate) fn asked_by(words: &[String]) -> Result<Asked>
+pub(crate) fn asked_by(words: &[String]) -> Result<SettlePlan>
     requires { 5 ≤ length words.now }
     ensures { IfOk result (λ asked. (1 ≤ asked.lifters) × (asked.lifters ≤ 64)) }
 {
@@ -59,7 +59,7 @@ pub(crate) fn asked_by(words: &[String]) -> Result<Asked>
         Some(word) => lifters_of(word.as_str())?,
         None => 1,
     };
-    Ok(Asked { way, most, lifters })
+    Ok(SettlePlan { way, most, lifters })
 }
 
 /// Returns the task that the words after `calls` name.

@@ -5,7 +5,7 @@ use clap::error::ErrorKind;
 use std::alloc::Global;
 use std::test::*;
 use vpg_family::{GamePaths, Subject};
-use vpg_terminal::{Asked, Picture, Task, not_text, read};
+use vpg_terminal::{Invocation, Picture, Task, not_text, read};
 
 /// Words after the program's name, with one blank between them, and after ` = ` the task that they ask for.
 ///
@@ -254,7 +254,7 @@ fn put_options(task: &Task<'_>, said: &mut Said) {
 }
 
 /// Writes the task that words ask for.
-fn put_asked(asked: &Asked<'_>, said: &mut Said) {
+fn put_asked(asked: &Invocation<'_>, said: &mut Said) {
     said.put(command_of(&asked.task));
     put_paths(&asked.task, said);
     put_options(&asked.task, said);

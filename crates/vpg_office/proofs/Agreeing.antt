@@ -9,8 +9,8 @@ use Rattle.vpg_office.specs.Told.{AgreeOnTops, AreAlike, Leads, NearestAgree, on
 use Rattle.vpg_office.specs.declared.alike.Alike.{Alike}
 use Rattle.vpg_office.specs.declared.asked.Answer.{Answer}
 use Rattle.vpg_office.specs.declared.asked.Answer.TheVariants.{Changed as ChangedTo, Undone, Redone, Spent, Ordered, Added, IsSettled, VerdictIs, PageIs, Refused}
-use Rattle.vpg_office.specs.declared.asked.Asked.{Asked}
-use Rattle.vpg_office.specs.declared.asked.Asked.TheVariants as ask
+use Rattle.vpg_office.specs.declared.asked.SessionCall.{SessionCall}
+use Rattle.vpg_office.specs.declared.asked.SessionCall.TheVariants as ask
 
 -- ---- rows of pages that agree
 
@@ -112,13 +112,13 @@ module _ (family : Family) (b : Book) (session : ℕ) where
   follows call reply (Some r, (refuses, told)) = subst (λ (x : Reply). Follows family b x (next family b session call x)) (sym told) stays
   follows call reply (None, (refuses, told)) = answered call reply refuses told
 
-leads_to : (family : Family) (old new : Book) (asked : Asked) (answer : Answer) → Leads family old asked answer new → Follows family old (reply_of family old.present answer) new
+leads_to : (family : Family) (old new : Book) (asked : SessionCall) (answer : Answer) → Leads family old asked answer new → Follows family old (reply_of family old.present answer) new
 leads_to family old new asked answer leads =
     subst (Follows family old (reply_of family old.present answer)) (sym leads.1.1) (follows family old leads.0 (call_of asked answer) (reply_of family old.present answer) leads.1.0)
 
 -- ---- pages alike after a call
 
-module _ (family : Family) (old new : Book) (asked : Asked) (answer : Answer) (leads : Leads family old asked answer new) (alike : Alike) (near : AreAlike family old alike) (agree : AgreeOnTops family old.present new.present) where
+module _ (family : Family) (old new : Book) (asked : SessionCall) (answer : Answer) (leads : Leads family old asked answer new) (alike : Alike) (near : AreAlike family old alike) (agree : AgreeOnTops family old.present new.present) where
   replied : (a : Answer) → answer ≡ a → Follows family old (reply_of family old.present a) new
   replied a is = subst (λ (x : Answer). Follows family old (reply_of family old.present x) new) is (leads_to family old new asked answer leads)
 
@@ -237,20 +237,20 @@ agree_next family old new session call reply is agree = subst (λ (b : Book). Ag
     go true = λ which v. refl
     go false = agree
 
-module _ (family : Family) (old new : Book) (answer : Answer) {asked : Asked} where
+module _ (family : Family) (old new : Book) (answer : Answer) {asked : SessionCall} where
   pub undo_agrees : {s : ℕ} → asked ≡ ask.Undo s → (n : ℕ) → Leads family old asked answer new → 0 < n → NearestAgree family old.present n old.past → AgreeOnTops family old.present new.present
   undo_agrees {s} of n leads some near =
-      let made : Leads family old (ask.Undo s) answer new = subst (λ (a : Asked). Leads family old a answer new) of leads in
+      let made : Leads family old (ask.Undo s) answer new = subst (λ (a : SessionCall). Leads family old a answer new) of leads in
       agree_next family old new made.0 (Undo s) (reply_of family old.present answer) made.1.1 (undone_agrees family old n old.past some near)
 
   pub redo_agrees : {s : ℕ} → asked ≡ ask.Redo s → (n : ℕ) → Leads family old asked answer new → 0 < n → NearestAgree family old.present n old.future → AgreeOnTops family old.present new.present
   redo_agrees {s} of n leads some near =
-      let made : Leads family old (ask.Redo s) answer new = subst (λ (a : Asked). Leads family old a answer new) of leads in
+      let made : Leads family old (ask.Redo s) answer new = subst (λ (a : SessionCall). Leads family old a answer new) of leads in
       agree_next family old new made.0 (Redo s) (reply_of family old.present answer) made.1.1 (redone_agrees family old n old.future some near)
 
   pub retract_agrees : {f : ℕ} → asked ≡ ask.Retract f → Leads family old asked answer new → length new.present + 1 ≡ length old.present → AgreeOnTops family old.present new.present
   retract_agrees {f} of leads few =
-      let made : Leads family old (ask.Retract f) answer new = subst (λ (a : Asked). Leads family old a answer new) of leads in
+      let made : Leads family old (ask.Retract f) answer new = subst (λ (a : SessionCall). Leads family old a answer new) of leads in
       subst (λ (b : Book). AgreeOnTops family old.present b.present) (sym made.1.1)
       (go made.0 (is_refusal (reply_of family old.present answer)) (ap (λ (b : Book). length b.present + 1) (sym made.1.1) ∙ few))
     where
@@ -259,7 +259,7 @@ module _ (family : Family) (old new : Book) (answer : Answer) {asked : Asked} wh
       go session false e = retracted_agrees family f old.present e
 
 -- the other calls only append entries
-pub appends_else : (asked : Asked) → ((f : ℕ) → asked ≡ ask.Retract f → ⊥) → ((s : ℕ) → asked ≡ ask.Undo s → ⊥) → ((s : ℕ) → asked ≡ ask.Redo s → ⊥) → only_appends asked ≡ true
+pub appends_else : (asked : SessionCall) → ((f : ℕ) → asked ≡ ask.Retract f → ⊥) → ((s : ℕ) → asked ≡ ask.Undo s → ⊥) → ((s : ℕ) → asked ≡ ask.Redo s → ⊥) → only_appends asked ≡ true
 appends_else (ask.Decide f value) retract undo redo = refl
 appends_else (ask.Retract f) retract undo redo = absurd (retract f refl)
 appends_else (ask.Undo s) retract undo redo = absurd (undo s refl)

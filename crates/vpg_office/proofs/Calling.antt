@@ -24,8 +24,8 @@ use Rattle.vpg_office.specs.Story.{IsNamed, call_of, refusal_of, reply_of}
 use Rattle.vpg_office.specs.Token.{EndsWith}
 use Rattle.vpg_office.specs.declared.asked.Answer.{Answer}
 use Rattle.vpg_office.specs.declared.asked.Answer.TheVariants.{Refused, PageIs as Paged, VerdictIs as Judged}
-use Rattle.vpg_office.specs.declared.asked.Asked.{Asked}
-use Rattle.vpg_office.specs.declared.asked.Asked.TheVariants as ask
+use Rattle.vpg_office.specs.declared.asked.SessionCall.{SessionCall}
+use Rattle.vpg_office.specs.declared.asked.SessionCall.TheVariants as ask
 use Rattle.vpg_office.specs.declared.asked.Cause.{Cause}
 use Rattle.vpg_office.specs.declared.calls.Because.{Because}
 use Rattle.vpg_office.specs.declared.chronicle.Chronicle.{Chronicle}
@@ -91,7 +91,7 @@ pub kept_history : (row : Shelves) (game : NamedGame) (diagram : NamedDiagram) (
 kept_history row game diagram c newest kept = subst (IsHistory (family_between game diagram)) (sym kept.newest_is) kept.is_story.history
 
 -- a call that was made extends the front
-pub entered_extends : {game : NamedGame} {diagram : NamedDiagram} {log front : List Event} {session : ℕ} {asked : Asked} {answer : Answer} {new : List Event} → IsPrefix front log → IsEntered game diagram log front session asked answer new →
+pub entered_extends : {game : NamedGame} {diagram : NamedDiagram} {log front : List Event} {session : ℕ} {asked : SessionCall} {answer : Answer} {new : List Event} → IsPrefix front log → IsEntered game diagram log front session asked answer new →
     Extends (family_between game diagram) front session (call_of asked answer) (reply_of (family_between game diagram) (book_after (family_between game diagram) opened log).present answer) new
 entered_extends {game} {diagram} {log} {front} {session} {asked} {answer} p e = record {
   between = p.0;
@@ -113,7 +113,7 @@ verdict_leaves {game} {diagram} {log} {front} {session} {v} {hopeless} {sure} e 
     ap (book_after (family_between game diagram) opened) e.is ∙ book_more (family_between game diagram) log (event session (book.Verdict v) (book.VerdictIs hopeless sure))
 
 -- and ends with it
-pub entered_ends : {game : NamedGame} {diagram : NamedDiagram} {log front : List Event} {session : ℕ} {asked : Asked} {answer : Answer} {new : List Event} (gives : Reply → Type 0) → IsEntered game diagram log front session asked answer new →
+pub entered_ends : {game : NamedGame} {diagram : NamedDiagram} {log front : List Event} {session : ℕ} {asked : SessionCall} {answer : Answer} {new : List Event} (gives : Reply → Type 0) → IsEntered game diagram log front session asked answer new →
     gives (reply_of (family_between game diagram) (book_after (family_between game diagram) opened log).present answer) → EndsWith gives new
 entered_ends {game} {diagram} {log} {front} {session} {asked} {answer} gives e gave = record {
   before = log;
@@ -140,7 +140,7 @@ module _ {row : Shelves} {game : NamedGame} {diagram : NamedDiagram} {limit : �
   pub told_here : (call : Call) (reply : Reply) → Replies desk call reply → IsReply F (book_after F opened newest) call reply
   told_here call reply r = coe 0 1 (k. IsReply (family_between (i.replay.of_game k) (i.replay.of_diagram k)) (i.replay.book k) call reply) r
 
-  pub reply_here : (asked : Asked) (answer : Answer) → Replies desk (call_of asked answer) (reply_of (family_of (setting_of desk)) desk.book.present answer) →
+  pub reply_here : (asked : SessionCall) (answer : Answer) → Replies desk (call_of asked answer) (reply_of (family_of (setting_of desk)) desk.book.present answer) →
       IsReply F (book_after F opened newest) (call_of asked answer) (reply_of F (book_after F opened newest).present answer)
   reply_here asked answer r =
       coe 0 1 (k. IsReply (family_between (i.replay.of_game k) (i.replay.of_diagram k)) (i.replay.book k) (call_of asked answer) (reply_of (family_between (i.replay.of_game k) (i.replay.of_diagram k)) (i.replay.book k).present answer)) r
@@ -199,7 +199,7 @@ module _ {row : Shelves} {game : NamedGame} {diagram : NamedDiagram} {limit : �
   }
 
   -- after a call that the desk made
-  pub log_made : (after : Chronicle) (new : List Event) (room_after : ℕ) (desk_after : DeskState) (total_after left_after session : ℕ) (asked : Asked) (answer : Answer) → IsChronicle row game diagram after new →
+  pub log_made : (after : Chronicle) (new : List Event) (room_after : ℕ) (desk_after : DeskState) (total_after left_after session : ℕ) (asked : SessionCall) (answer : Answer) → IsChronicle row game diagram after new →
       new ≡ newest ++ event session (call_of asked answer) (reply_of F (book_after F opened newest).present answer) ∷ [] → room_after ≡ room →
       IsStep desk session (call_of asked answer) (reply_of (family_of (setting_of desk)) desk.book.present answer) desk_after → total_after ≡ desk_after.book.tokens → left_after + 1 ≡ left →
       IsLog row game diagram limit after new desk_after room_after total_after left_after shown
@@ -209,7 +209,7 @@ module _ {row : Shelves} {game : NamedGame} {diagram : NamedDiagram} {limit : �
       (step.step.1 ∙ ap (next (family_of (setting_of desk)) desk.book session (call_of asked answer)) same) t one
 
   -- after the desk's refusal, or where the desk was out of memory
-  pub log_refused : {L F : Type 0} (why : Option (Because F)) (session : ℕ) (asked : Asked) (told : Fault L F) (front front_after : List Event) (after : Chronicle) (new : List Event) (room_after : ℕ) (desk_after : DeskState) (total_after left_after : ℕ) →
+  pub log_refused : {L F : Type 0} (why : Option (Because F)) (session : ℕ) (asked : SessionCall) (told : Fault L F) (front front_after : List Event) (after : Chronicle) (new : List Event) (room_after : ℕ) (desk_after : DeskState) (total_after left_after : ℕ) →
       left_after + logged told ≡ left → desk_after ≡ desk → total_after ≡ desk_after.book.tokens → room_after ≡ room → IsChronicle row game diagram after new →
       IfNone why ((told ≡ Memory) × (front_after ≡ front) × (new ≡ newest)) →
       IfSome why (λ w. (told ≡ DeskRefuses w.fault) × (front_after ≡ new) × (new ≡ newest ++ event session (call_of asked (Refused w.cause)) (book.Refused (refusal_of w.cause)) ∷ [])) →
@@ -239,7 +239,7 @@ commit_stops game diagram limit harvest session front newest Memory p h s = refl
 
 -- what the desk's refusal leaves
 pub refused_leaves : {L F : Type 0} {row : Shelves} {game : NamedGame} {diagram : NamedDiagram} {chronicle : Chronicle} {new : List Event} (kept : IsChronicle row game diagram chronicle new)
-    (asked : Asked) (session : ℕ) (front front_after newest : List Event) (desk : DeskState) (limit : ℕ) (refusal : F → Option Refusal) (told : Fault L F) (why : Option (Because F)) → IsHistory (family_between game diagram) newest →
+    (asked : SessionCall) (session : ℕ) (front front_after newest : List Event) (desk : DeskState) (limit : ℕ) (refusal : F → Option Refusal) (told : Fault L F) (why : Option (Because F)) → IsHistory (family_between game diagram) newest →
     calls_by session (drop (length front) newest) ≡ 0 → IfSome why (λ w. IsRefused game diagram (refusal w.fault) desk asked w.cause) →
     IfNone why ((told ≡ Memory) × (front_after ≡ front) × (new ≡ newest)) →
     IfSome why (λ w. (told ≡ DeskRefuses w.fault) × (front_after ≡ new) × (new ≡ newest ++ event session (call_of asked (Refused w.cause)) (book.Refused (refusal_of w.cause)) ∷ [])) →
@@ -259,7 +259,7 @@ refused_leaves {L} {F} {row} {game} {diagram} {chronicle} {new} kept asked sessi
     )
 
 -- what is left where a call isn't taken in
-pub stops_leave : {L F : Type 0} (game : NamedGame) (diagram : NamedDiagram) (limit : ℕ) (refusal : F → Option Refusal) (log front : List Event) (session : ℕ) (asked : Asked) (f : Fault L F) → IsHistory (family_between game diagram) log →
+pub stops_leave : {L F : Type 0} (game : NamedGame) (diagram : NamedDiagram) (limit : ℕ) (refusal : F → Option Refusal) (log front : List Event) (session : ℕ) (asked : SessionCall) (f : Fault L F) → IsHistory (family_between game diagram) log →
     Stops limit front session log f → Leaves game diagram limit refusal log front session asked front f
 stops_leave game diagram limit refusal log front session asked (LogFull g) h s = (refl, (h, s))
 stops_leave game diagram limit refusal log front session asked (Doubled g) h s = (refl, (h, s))
@@ -267,7 +267,7 @@ stops_leave game diagram limit refusal log front session asked (DeskRefuses faul
 stops_leave game diagram limit refusal log front session asked Memory h s = (refl, (h, s))
 
 -- what a call that gives nothing tells, of calls that the desk's answer doesn't change
-pub leaves_tells : {L F : Type 0} (game : NamedGame) (diagram : NamedDiagram) (limit : ℕ) (refusal : F → Option Refusal) (log front : List Event) (session : ℕ) (asked : Asked) (new : List Event) (call : Call) (f : Fault L F) →
+pub leaves_tells : {L F : Type 0} (game : NamedGame) (diagram : NamedDiagram) (limit : ℕ) (refusal : F → Option Refusal) (log front : List Event) (session : ℕ) (asked : SessionCall) (new : List Event) (call : Call) (f : Fault L F) →
     ((r : Cause) → call_of asked (Refused r) ≡ call) → IsPrefix front log → Leaves game diagram limit refusal log front session asked new f → Tells (family_between game diagram) limit refusal call session front new f
 leaves_tells {L} {F} game diagram limit refusal log front session asked new call (LogFull g) of p l =
     subst (λ (n : List Event). Tells {L = L} (family_between game diagram) limit refusal call session front n (LogFull g)) (sym l.0) (stops_tell {L = L} (family_between game diagram) limit refusal call session front log (LogFull g) p l.1.0 l.1.1)
@@ -278,7 +278,7 @@ leaves_tells game diagram limit refusal log front session asked new call (DeskRe
 leaves_tells game diagram limit refusal log front session asked new call Memory of p l = l.0
 
 -- and of a token's history
-pub leaves_begins : {L F : Type 0} (game : NamedGame) (diagram : NamedDiagram) (limit : ℕ) (refusal : F → Option Refusal) (log front : List Event) (session : ℕ) (asked : Asked) (new history : List Event) (f : Fault L F) → IsPrefix history log →
+pub leaves_begins : {L F : Type 0} (game : NamedGame) (diagram : NamedDiagram) (limit : ℕ) (refusal : F → Option Refusal) (log front : List Event) (session : ℕ) (asked : SessionCall) (new history : List Event) (f : Fault L F) → IsPrefix history log →
     Leaves game diagram limit refusal log front session asked new f → Begins history new f
 leaves_begins game diagram limit refusal log front session asked new history (LogFull g) p l = tt
 leaves_begins game diagram limit refusal log front session asked new history (Doubled g) p l = tt
@@ -291,7 +291,7 @@ pub why_is : {F : Type 0} (refusal : F → Option Refusal) (cause : Option Cause
 why_is refusal cause fault w mapped is = sym mapped ∙ ap (option_map refusal_of) is.0
 
 -- the desk's refusal of a call that its answer doesn't change
-pub refused_is : {F : Type 0} (game : NamedGame) (diagram : NamedDiagram) (desk : DeskState) (asked : Asked) (call : Call) (refusal : F → Option Refusal) (cause : Option Cause) (fault : F) (why : Option (Because F)) →
+pub refused_is : {F : Type 0} (game : NamedGame) (diagram : NamedDiagram) (desk : DeskState) (asked : SessionCall) (call : Call) (refusal : F → Option Refusal) (cause : Option Cause) (fault : F) (why : Option (Because F)) →
     ((r : Cause) → call_of asked (Refused r) ≡ call) → ((r : Cause) → HandsIn (IsLawful (family_between game diagram)) (call_of asked (Refused r)) × IsNamed game diagram asked (Refused r)) → option_map refusal_of cause ≡ refusal fault →
     IfSome why (λ w. (cause ≡ Some w.cause) × (w.fault ≡ fault)) → IfSome (refusal fault) (λ r. Replies desk call (book.Refused r)) → IfSome why (λ w. IsRefused game diagram (refusal w.fault) desk asked w.cause)
 refused_is game diagram desk asked call refusal cause fault None of free mapped is replies = tt

@@ -19,7 +19,7 @@ use Rattle.vpg_watch.proofs.sheet.Verdicts.TheSendSync.{the_send as verdicts_sen
 use Rattle.vpg_office.proofs.front.Front.TheSendSync.{the_send as front_send, the_sync as front_sync}
 use Rattle.vpg_office.proofs.purse.Purse.TheSendSync.{the_send as purse_send}
 use Rattle.vpg_office.specs.contracts.asked.Entry as Entry
-use Rattle.vpg_office.specs.contracts.asked.Told as Told
+use Rattle.vpg_office.specs.contracts.asked.LoggedCall as LoggedCall
 use Rattle.vpg_office.specs.contracts.chronicle.Chronicle as Chronicle
 use Rattle.vpg_office.specs.contracts.front.Front as Front
 use Rattle.vpg_office.specs.contracts.log.Calls as Made
@@ -30,7 +30,7 @@ use Rattle.vpg_office.specs.contracts.office.Shared as Shared
 use Rattle.vpg_office.specs.contracts.replay.Replay as Replay
 use Rattle.vpg_office.specs.declared.terms.Terms as terms
 
-pub told_send : IsSend Told.the_row
+pub told_send : IsSend LoggedCall.the_row
 told_send = search (sendable, crosses) depth 20
 
 pub entry_send : IsSend Entry.the_row

@@ -13,7 +13,7 @@ use Rattle.vpg_office.specs.Fronts.{family_between}
 use Rattle.vpg_office.specs.Kept.{AreGiven, IsChronicle, NoneIsLeftOut, ShowsEach, lines_of}
 use Rattle.vpg_office.specs.Locked.{IsLog}
 use Rattle.vpg_office.specs.Story.{IsStory, events_of}
-use Rattle.vpg_office.specs.declared.asked.Told.{Told}
+use Rattle.vpg_office.specs.declared.asked.LoggedCall.{LoggedCall}
 use Rattle.vpg_office.specs.declared.chronicle.Chronicle.{Chronicle}
 use Rattle.vpg_office.proofs.Given.{given_none}
 use Rattle.vpg_office.proofs.Places.{shows_none}
@@ -27,8 +27,8 @@ no_calls : (row : Shelves) (game : NamedGame) (diagram : NamedDiagram) (c : Chro
     IsChronicle row game diagram c newest
 no_calls row game diagram c newest places told given none opens = record {
   shows = coe 0 1 (k. ShowsEach row ((sym places) k) (lines_of ((sym told) k))) (shows_none row);
-  is_story = subst (λ (ts : List Told). IsStory game diagram (lines_of ts)) (sym told) (no_story game diagram opens);
-  newest_is = none ∙ ap (λ (ts : List Told). events_of (family_between game diagram) (lines_of ts)) (sym told);
+  is_story = subst (λ (ts : List LoggedCall). IsStory game diagram (lines_of ts)) (sym told) (no_story game diagram opens);
+  newest_is = none ∙ ap (λ (ts : List LoggedCall). events_of (family_between game diagram) (lines_of ts)) (sym told);
   are_given = coe 0 1 (k. AreGiven ((sym none) k) ((sym given) k)) given_none;
   none_left = coe 0 1 (k. NoneIsLeftOut ((sym none) k) ((sym given) k)) none_left_at_first;
   counted = ap length given ∙ ap (λ (l : List Event). (book_after (family_between game diagram) opened l).changes) (sym none);

@@ -15,11 +15,11 @@ use Rattle.vpg_office.specs.Kept.{IsEntryOf, IsInRow, IsLacking, ShowsEach, IsFr
 use Rattle.vpg_office.specs.Story.{Line, line_of, lines_by, events_of, IsStory}
 use Rattle.vpg_office.specs.declared.asked.Answer.{Answer}
 use Rattle.vpg_office.specs.declared.asked.Answer.TheVariants.{Spent}
-use Rattle.vpg_office.specs.declared.asked.Asked.TheVariants.{Settled}
+use Rattle.vpg_office.specs.declared.asked.SessionCall.TheVariants.{Settled}
 use Rattle.vpg_office.specs.declared.chronicle.Chronicle.{Chronicle}
 use Rattle.vpg_office.proofs.Stories.{events-length, events-take, same_last, story_take}
 use Rattle.vpg_office.specs.declared.asked.Entry.{Entry}
-use Rattle.vpg_office.specs.declared.asked.Told.{Told}
+use Rattle.vpg_office.specs.declared.asked.LoggedCall.{LoggedCall}
 
 one : (n m : ℕ) → n ≡ m → cond {A = ℕ} (n == m) 1 0 ≡ 1
 one n m e = grind (arith, nat_tests)
@@ -27,20 +27,20 @@ one n m e = grind (arith, nat_tests)
 other : (n m : ℕ) → n ≢ m → cond {A = ℕ} (n == m) 1 0 ≡ 0
 other n m e = grind (arith, nat_tests)
 
-pub lines_at : (s : ℕ) (ts : List Told) (i : ℕ) (d : Told) → i < length ts → (get_or ts i d).session ≡ s → 0 < lines_by s (lines_of ts)
+pub lines_at : (s : ℕ) (ts : List LoggedCall) (i : ℕ) (d : LoggedCall) → i < length ts → (get_or ts i d).session ≡ s → 0 < lines_by s (lines_of ts)
 lines_at s [] i d low is = absurd (omega arith)
 lines_at s (t ∷ ts) zero d low is = let h = one t.session s is in omega arith
 lines_at s (t ∷ ts) (suc i) d low is = let h = lines_at s ts i d (omega arith) is in omega arith
 
-pub lines_more : (s : ℕ) (ts : List Told) (i : ℕ) (d : Told) → i < length ts → (get_or ts i d).session ≢ s → lines_by s (lines_of (take i ts)) ≡ 0 → lines_by s (lines_of (take (i + 1) ts)) ≡ 0
+pub lines_more : (s : ℕ) (ts : List LoggedCall) (i : ℕ) (d : LoggedCall) → i < length ts → (get_or ts i d).session ≢ s → lines_by s (lines_of (take i ts)) ≡ 0 → lines_by s (lines_of (take (i + 1) ts)) ≡ 0
 lines_more s ts i d low is none = ap (λ n. lines_by s (lines_of (take n ts))) (add-one i) ∙ by ts i low is none
   where
-    by : (ts : List Told) (i : ℕ) → i < length ts → (get_or ts i d).session ≢ s → lines_by s (lines_of (take i ts)) ≡ 0 → lines_by s (lines_of (take (suc i) ts)) ≡ 0
+    by : (ts : List LoggedCall) (i : ℕ) → i < length ts → (get_or ts i d).session ≢ s → lines_by s (lines_of (take i ts)) ≡ 0 → lines_by s (lines_of (take (suc i) ts)) ≡ 0
     by [] i low is none = refl
     by (t ∷ ts) zero low is none = let h = other t.session s is in omega arith
     by (t ∷ ts) (suc i) low is none = let h = by ts i (omega arith) is (omega arith) in omega arith
 
-pub drop-map : (n : ℕ) (ts : List Told) → lines_of (drop n ts) ≡ drop n (lines_of ts)
+pub drop-map : (n : ℕ) (ts : List LoggedCall) → lines_of (drop n ts) ≡ drop n (lines_of ts)
 drop-map zero ts = refl
 drop-map (suc n) [] = refl
 drop-map (suc n) (t ∷ ts) = drop-map n ts

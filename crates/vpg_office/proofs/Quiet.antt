@@ -23,8 +23,8 @@ use Rattle.vpg_office.specs.Story.{call_of, is_ours, reply_of}
 use Rattle.vpg_office.specs.Told.{AgreeOnTops, AreAlike, AreVerdictsOf, Leads, only_appends, raises_to_top}
 use Rattle.vpg_office.specs.declared.alike.Alike.{Alike}
 use Rattle.vpg_office.specs.declared.asked.Answer.{Answer}
-use Rattle.vpg_office.specs.declared.asked.Asked.{Asked}
-use Rattle.vpg_office.specs.declared.asked.Asked.TheVariants as ask
+use Rattle.vpg_office.specs.declared.asked.SessionCall.{SessionCall}
+use Rattle.vpg_office.specs.declared.asked.SessionCall.TheVariants as ask
 
 -- ---- one of many
 
@@ -91,7 +91,7 @@ quiet_agrees family old new tail is quiet = λ which v. sym (
 
 -- ---- calls
 
-puts : (family : Family) (book : Book) (session : ℕ) (asked : Asked) (answer : Answer) → only_appends asked ≡ true → (tail : List Entry) × ((after family book session (call_of asked answer)).present ≡ book.present ++ tail)
+puts : (family : Family) (book : Book) (session : ℕ) (asked : SessionCall) (answer : Answer) → only_appends asked ≡ true → (tail : List Entry) × ((after family book session (call_of asked answer)).present ≡ book.present ++ tail)
 puts family book session (ask.Decide f value) answer is = (decision book session f value ∷ [], refl)
 puts family book session (ask.Retract f) answer is = absurd (false≢true is)
 puts family book session (ask.Undo s) answer is = absurd (false≢true is)
@@ -104,7 +104,7 @@ puts family book session ask.Settled answer is = ([], sym (append-nil book.prese
 puts family book session (ask.Verdict v) answer is = ([], sym (append-nil book.present))
 puts family book session ask.Page answer is = ([], sym (append-nil book.present))
 
-appended : (family : Family) (book : Book) (session : ℕ) (asked : Asked) (answer : Answer) (reply : Reply) → only_appends asked ≡ true → (tail : List Entry) × ((next family book session (call_of asked answer) reply).present ≡ book.present ++ tail)
+appended : (family : Family) (book : Book) (session : ℕ) (asked : SessionCall) (answer : Answer) (reply : Reply) → only_appends asked ≡ true → (tail : List Entry) × ((next family book session (call_of asked answer) reply).present ≡ book.present ++ tail)
 appended family book session asked answer reply is = go (is_refusal reply)
   where
     go : (b : Bool) → (tail : List Entry) × ((cond b book (after family book session (call_of asked answer))).present ≡ book.present ++ tail)
@@ -112,7 +112,7 @@ appended family book session asked answer reply is = go (is_refusal reply)
     go false = puts family book session asked answer is
 
 -- a call that only appends entries
-module _ (family : Family) (old new : Book) (asked : Asked) (answer : Answer) (is : only_appends asked ≡ true) (leads : Leads family old asked answer new) where
+module _ (family : Family) (old new : Book) (asked : SessionCall) (answer : Answer) (is : only_appends asked ≡ true) (leads : Leads family old asked answer new) where
   tail : (tail : List Entry) × (new.present ≡ old.present ++ tail)
   tail =
       let t = appended family old leads.0 asked answer (reply_of family old.present answer) is in
@@ -128,7 +128,7 @@ module _ (family : Family) (old new : Book) (asked : Asked) (answer : Answer) (i
       let others : drop (length old.present) new.present ≡ tail.0 = ap (drop (length old.present)) tail.1 ∙ drop-append_seam old.present tail.0 in
       quiet_agrees family old.present new.present tail.0 tail.1 (ap (list_any (raises_to_top family)) (sym others) ∙ quiet)
 
-module _ {game : NamedGame} {diagram : NamedDiagram} {old new : DeskState} {session : ℕ} {asked : Asked} {answer : Answer} (made : IsMade game diagram old session asked answer new) where
+module _ {game : NamedGame} {diagram : NamedDiagram} {old new : DeskState} {session : ℕ} {asked : SessionCall} {answer : Answer} (made : IsMade game diagram old session asked answer new) where
   family_is : family_of (setting_of new) ≡ family_of (setting_of old)
   family_is = λ k. family_of (setting_between (made.step.game k) (made.step.diagram k))
 

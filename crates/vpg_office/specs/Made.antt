@@ -16,13 +16,13 @@ use Rattle.vpg_office.specs.Fronts.{IsHistory, calls_by, event, family_between}
 use Rattle.vpg_office.specs.Story.{IsNamed, call_of, refusal_of, reply_of}
 use Rattle.vpg_office.specs.declared.asked.Answer.{Answer}
 use Rattle.vpg_office.specs.declared.asked.Answer.TheVariants.{Refused as Answered}
-use Rattle.vpg_office.specs.declared.asked.Asked.{Asked}
+use Rattle.vpg_office.specs.declared.asked.SessionCall.{SessionCall}
 use Rattle.vpg_office.specs.declared.asked.Cause.{Cause}
 use Rattle.vpg_office.specs.declared.fault.Fault.{Fault}
 use Rattle.vpg_office.specs.declared.fault.Fault.TheVariants.{LogFull, Doubled, Refused as DeskRefuses, Memory}
 
 -- the desk made the call
-pub record IsMade (game : NamedGame) (diagram : NamedDiagram) (desk : DeskState) (session : ℕ) (asked : Asked)
+pub record IsMade (game : NamedGame) (diagram : NamedDiagram) (desk : DeskState) (session : ℕ) (asked : SessionCall)
     (answer : Answer) (new : DeskState) : Type 0 where
   pub step : IsStep desk session (call_of asked answer)
       (reply_of (family_of (setting_of desk)) desk.book.present answer) new
@@ -31,15 +31,15 @@ pub record IsMade (game : NamedGame) (diagram : NamedDiagram) (desk : DeskState)
 
 -- the desk refused the call for this cause
 pub record IsRefused (game : NamedGame) (diagram : NamedDiagram) (refusal : Option Refusal) (desk : DeskState)
-    (asked : Asked) (cause : Cause) : Type 0 where
+    (asked : SessionCall) (cause : Cause) : Type 0 where
   pub why : refusal ≡ Some (refusal_of cause)
   pub told : Replies desk (call_of asked (Answered cause)) (Refused (refusal_of cause))
   pub hands : HandsIn (IsLawful (family_between game diagram)) (call_of asked (Answered cause))
   pub named : IsNamed game diagram asked (Answered cause)
 
 -- the log goes on with the call, the session's only one since the front
-pub record IsEntered (game : NamedGame) (diagram : NamedDiagram) (log front : List Event) (session : ℕ) (asked : Asked)
-    (answer : Answer) (new : List Event) : Type 0 where
+pub record IsEntered (game : NamedGame) (diagram : NamedDiagram) (log front : List Event) (session : ℕ)
+    (asked : SessionCall) (answer : Answer) (new : List Event) : Type 0 where
   pub is : new ≡ log ++ event session (call_of asked answer)
       (reply_of (family_between game diagram)
       (book_after (family_between game diagram) opened log).present answer) ∷ []
@@ -48,7 +48,7 @@ pub record IsEntered (game : NamedGame) (diagram : NamedDiagram) (log front : Li
 
 -- The call fails: the log goes on with the desk's refusal, or stays.
 abbrev pub Leaves : {L F : Type 0} → NamedGame → NamedDiagram → ℕ → (F → Option Refusal) → List Event → List Event → ℕ →
-    Asked → List Event → Fault L F → Type 0
+    SessionCall → List Event → Fault L F → Type 0
 Leaves game diagram limit refusal log front session asked new (DeskRefuses fault) =
     (cause : Cause) ×
     ((refusal fault ≡ Some (refusal_of cause)) ×

@@ -5,7 +5,7 @@ use Rattle.vpg_desk.specs.Book.{Reply}
 use Rattle.vpg_desk.specs.History.{Event}
 
 -- the change, and the history up to the call that gave the token
-pub record Held : Type 0 where
+pub record TokenView : Type 0 where
   pub serial : ℕ
   pub history : List Event
 

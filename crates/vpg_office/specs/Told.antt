@@ -9,8 +9,8 @@ use Rattle.vpg_office.specs.Sheets.{AreSaid}
 use Rattle.vpg_office.specs.Story.{call_of, reply_of}
 use Rattle.vpg_office.specs.declared.alike.Alike.{Alike}
 use Rattle.vpg_office.specs.declared.asked.Answer.{Answer}
-use Rattle.vpg_office.specs.declared.asked.Asked.{Asked}
-use Rattle.vpg_office.specs.declared.asked.Asked.TheVariants.{Retract, Undo, Redo}
+use Rattle.vpg_office.specs.declared.asked.SessionCall.{SessionCall}
+use Rattle.vpg_office.specs.declared.asked.SessionCall.TheVariants.{Retract, Undo, Redo}
 
 -- the verdict of each vertex
 pub record AreVerdictsOf (desk : DeskState) (verdicts : List Said) : Type 0 where
@@ -18,7 +18,7 @@ pub record AreVerdictsOf (desk : DeskState) (verdicts : List Said) : Type 0 wher
   pub each : AreSaid (family_of (setting_of desk)) desk.book verdicts
 
 -- the desk only appends entries to its page for this call, or leaves it
-abbrev pub only_appends : Asked → Bool
+abbrev pub only_appends : SessionCall → Bool
 only_appends (Retract f) = false
 only_appends (Undo serial) = false
 only_appends (Redo serial) = false
@@ -30,7 +30,7 @@ raises_to_top family (Decided d) = false
 raises_to_top family (Lifted l) = nat_le (family.top l.table) l.new
 
 -- the call, with this answer, leads from one book to the other
-abbrev pub Leads : Family → Book → Asked → Answer → Book → Type 0
+abbrev pub Leads : Family → Book → SessionCall → Answer → Book → Type 0
 Leads family old asked answer new =
     (session : ℕ) × Step family old session (call_of asked answer) (reply_of family old.present answer) new
 

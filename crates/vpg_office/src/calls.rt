@@ -39,7 +39,7 @@ pub trait Call<L: Terms> {
     ghost use Rattle.vpg_desk.specs.State.{IsOpened};
     ghost use Rattle.vpg_office.specs.Made.{IsMade, IsRefused};
     ghost use Rattle.vpg_office.specs.declared.asked.Answer.{Answer};
-    ghost use Rattle.vpg_office.specs.declared.asked.Asked.{Asked};
+    ghost use Rattle.vpg_office.specs.declared.asked.SessionCall.{SessionCall};
 
     /// The result of the call.
     type Given;
@@ -48,7 +48,7 @@ pub trait Call<L: Terms> {
     type Refused: Drop;
 
     /// The call to the desk.
-    ghost asks: { Self → Asked };
+    ghost asks: { Self → SessionCall };
 
     /// The answer with this result.
     ghost answers: { Self.Given → Answer };

@@ -47,7 +47,7 @@ impl<L: Terms> Call<L> for DecideCall {
     ghost use Rattle.std.specs.Prelude.{◌≡◌, ⊤};
     ghost use Rattle.vpg_desk.specs.Faults.{decide_refusal};
     ghost use Rattle.vpg_office.specs.declared.asked.Answer.TheVariants as answer;
-    ghost use Rattle.vpg_office.specs.declared.asked.Asked.TheVariants as ask;
+    ghost use Rattle.vpg_office.specs.declared.asked.SessionCall.TheVariants as ask;
 
     type Given = Issued<L, vpg_desk::Undo>;
 
@@ -90,7 +90,7 @@ impl<L: Terms> Call<L> for RetractCall {
     ghost use Rattle.std.specs.Prelude.{◌≡◌, ⊤};
     ghost use Rattle.vpg_desk.specs.Faults.{retract_refusal};
     ghost use Rattle.vpg_office.specs.declared.asked.Answer.TheVariants as answer;
-    ghost use Rattle.vpg_office.specs.declared.asked.Asked.TheVariants as ask;
+    ghost use Rattle.vpg_office.specs.declared.asked.SessionCall.TheVariants as ask;
 
     type Given = Issued<L, vpg_desk::Undo>;
 

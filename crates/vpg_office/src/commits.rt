@@ -66,7 +66,7 @@ impl<L: Terms> Call<L> for CommitCall {
     ghost use Rattle.vpg_desk.specs.Commit.{commit_refusal};
     ghost use Rattle.vpg_office.specs.Story.{IsOf};
     ghost use Rattle.vpg_office.specs.declared.asked.Answer.TheVariants as answer;
-    ghost use Rattle.vpg_office.specs.declared.asked.Asked.TheVariants as ask;
+    ghost use Rattle.vpg_office.specs.declared.asked.SessionCall.TheVariants as ask;
 
     type Given = u32;
 

@@ -13,7 +13,7 @@ ghost use Rattle.vpg_office.specs.Kept.{HasRoom, IsChronicle, IsEntryOf, IsLacki
 ghost use Rattle.vpg_office.specs.Made.{IsEntered, Leaves};
 ghost use Rattle.vpg_office.specs.Story.{IsNamed, call_of, refusal_of, reply_of};
 
-use crate::asked::{Answer, Asked};
+use crate::asked::{Answer, SessionCall};
 use crate::calls::{Because, Call, Made, Unmade};
 use crate::chronicle::{Chronicle, Row, has_call_since};
 use crate::fault::{Fault, Returned};
@@ -44,7 +44,7 @@ pub struct Calls<L: Terms> {
 pub struct Request<'a> {
     pub(crate) row: &'a Row,
     pub(crate) session: u32,
-    pub(crate) asked: Asked,
+    pub(crate) asked: SessionCall,
 }
 
 // Not derived: a derived `drop` would be proved again at each exit that owns such a value.
@@ -298,7 +298,7 @@ impl<L: Terms> Log<L> {
         session: u32,
         made: &mut Share<L>,
         front: &mut Front<L>,
-        asked: Asked,
+        asked: SessionCall,
         call: C,
     ) -> Result<C::Given, Returned<L, C::Refused, C>>
         requires row { row.now ≡ L.shelves }

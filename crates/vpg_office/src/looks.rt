@@ -19,7 +19,7 @@ impl<L: Terms> Call<L> for SettledCall {
     ghost use Rattle.std.specs.Prelude.{⊤};
     ghost use Rattle.vpg_office.specs.Faults.{never_refused};
     ghost use Rattle.vpg_office.specs.declared.asked.Answer.TheVariants as answer;
-    ghost use Rattle.vpg_office.specs.declared.asked.Asked.TheVariants as ask;
+    ghost use Rattle.vpg_office.specs.declared.asked.SessionCall.TheVariants as ask;
 
     type Given = bool;
 
@@ -61,7 +61,7 @@ impl<L: Terms> Call<L> for VerdictCall {
     ghost use Rattle.vpg_desk.specs.State.{setting_between};
     ghost use Rattle.vpg_office.specs.Faults.{never_refused};
     ghost use Rattle.vpg_office.specs.declared.asked.Answer.TheVariants as answer;
-    ghost use Rattle.vpg_office.specs.declared.asked.Asked.TheVariants as ask;
+    ghost use Rattle.vpg_office.specs.declared.asked.SessionCall.TheVariants as ask;
 
     type Given = Verdict;
 
@@ -108,7 +108,7 @@ impl<L: Terms> Call<L> for PageCall {
     ghost use Rattle.vpg_office.specs.Faults.{never_refused};
     ghost use Rattle.vpg_office.specs.Made.{IsPage};
     ghost use Rattle.vpg_office.specs.declared.asked.Answer.TheVariants as answer;
-    ghost use Rattle.vpg_office.specs.declared.asked.Asked.TheVariants as ask;
+    ghost use Rattle.vpg_office.specs.declared.asked.SessionCall.TheVariants as ask;
 
     type Given = (Page, Arc<PageGames>);
 
@@ -163,7 +163,7 @@ impl<L: Terms> Call<L> for OrderCall {
     ghost use Rattle.vpg_office.specs.Faults.{never_refused};
     ghost use Rattle.vpg_office.specs.Story.{IsOf};
     ghost use Rattle.vpg_office.specs.declared.asked.Answer.TheVariants as answer;
-    ghost use Rattle.vpg_office.specs.declared.asked.Asked.TheVariants as ask;
+    ghost use Rattle.vpg_office.specs.declared.asked.SessionCall.TheVariants as ask;
 
     type Given = Order;
 

@@ -11,7 +11,7 @@ ghost use Rattle.vpg_office.specs.Told.{AgreeOnTops, AreAlike, AreVerdictsOf, Le
 ghost use Rattle.vpg_office.specs.declared.asked.Answer.{Answer};
 
 use crate::alike::Alike;
-use crate::asked::Asked;
+use crate::asked::SessionCall;
 use crate::calls::{Call, Made, Unmade};
 use crate::purse::Purse;
 use crate::terms::Terms;
@@ -99,7 +99,7 @@ fn one_raises_to_top(desk: &Desk, entries: &[Entry]) -> bool
 /// Whether a call left the verdicts. The page before it had `before` entries, and `alike` is about that page. Entries
 /// that it appended may raise no value to the top. A retraction may remove nothing but its decision. An undo or a redo
 /// has to return to a page that is known to have these verdicts.
-fn verdicts_stay(desk: &Desk, alike: Alike, asked: &Asked, before: usize) -> bool
+fn verdicts_stay(desk: &Desk, alike: Alike, asked: &SessionCall, before: usize) -> bool
     requires { IsTrue (only_appends asked.now) → before ≤ length desk.now.book.present }
     ensures { IsTrue result → (old : Book) (answer : Answer) →
         Leads (family_of (setting_of desk.now)) old asked.now answer desk.now.book → length old.present ≡ before →
@@ -107,9 +107,9 @@ fn verdicts_stay(desk: &Desk, alike: Alike, asked: &Asked, before: usize) -> boo
         AgreeOnTops (family_of (setting_of desk.now)) old.present desk.now.book.present }
 {
     match asked {
-        Asked::Retract { .. } => desk.entries().len() + 1 == before,
-        Asked::Undo { .. } => alike.past > 0,
-        Asked::Redo { .. } => alike.future > 0,
+        SessionCall::Retract { .. } => desk.entries().len() + 1 == before,
+        SessionCall::Undo { .. } => alike.past > 0,
+        SessionCall::Redo { .. } => alike.future > 0,
         _ => {
             let (_, added) = desk.entries().split_at(before);
             !one_raises_to_top(desk, added)
@@ -190,7 +190,7 @@ impl Replay {
 /// Carries a call out. The verdicts that were read stay if the call left them, as far as that is known.
 pub(crate) fn carry_out<L: Terms, C: Call<L>>(
     call: C,
-    asked: &Asked,
+    asked: &SessionCall,
     desk: &mut Replay,
     purse: &mut Purse<L>,
     session: u32,

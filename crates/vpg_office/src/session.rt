@@ -19,7 +19,7 @@ ghost use Rattle.vpg_office.specs.Kept.{HasOwn};
 ghost use Rattle.vpg_office.specs.Made.{IsEntered, Leaves};
 ghost use Rattle.vpg_office.specs.Story.{IsOf};
 
-use crate::asked::Asked;
+use crate::asked::SessionCall;
 use crate::calls::Call;
 use crate::changes::{DecideCall, RetractCall};
 use crate::commits::CommitCall;
@@ -112,7 +112,7 @@ impl<L: Terms> Session<L> {
         ensures counted { OnOk result (self.new.calls ≡ self.old.calls + 1) }
         ensures fault_counted { IfErr result (λ fault. self.new.calls ≡ self.old.calls + logged fault) }
     {
-        let asked = Asked::Decide { feature, value };
+        let asked = SessionCall::Decide { feature, value };
         let call = DecideCall {
             alloc,
             feature,
@@ -143,7 +143,7 @@ impl<L: Terms> Session<L> {
         ensures counted { OnOk result (self.new.calls ≡ self.old.calls + 1) }
         ensures fault_counted { IfErr result (λ fault. self.new.calls ≡ self.old.calls + logged fault) }
     {
-        let asked = Asked::Retract { feature };
+        let asked = SessionCall::Retract { feature };
         let call = RetractCall { alloc, feature };
         match self.make(rt, office, front, None, asked, call, Some(alloc)) {
             Ok(issued) => Ok(Undo::of(issued, front)),
@@ -180,7 +180,7 @@ impl<L: Terms> Session<L> {
             front: token.place.copy(),
             serial: Some(serial),
         };
-        let asked = Asked::Undo { serial };
+        let asked = SessionCall::Undo { serial };
         let call = UndoCall { alloc, token };
         match self.make(rt, office, front, Some(own), asked, call, Some(alloc)) {
             Ok(issued) => Ok(Redo::of(issued, front)),
@@ -224,7 +224,7 @@ impl<L: Terms> Session<L> {
             front: token.place.copy(),
             serial: Some(serial),
         };
-        let asked = Asked::Redo { serial };
+        let asked = SessionCall::Redo { serial };
         let call = RedoCall { alloc, token };
         match self.make(rt, office, front, Some(own), asked, call, Some(alloc)) {
             Ok(issued) => Ok(Undo::of(issued, front)),
@@ -263,7 +263,7 @@ impl<L: Terms> Session<L> {
             front: token.place.copy(),
             serial: None,
         };
-        let asked = Asked::Keep {
+        let asked = SessionCall::Keep {
             serial: token.serial(),
         };
         let call = KeepCall { token };
@@ -304,7 +304,7 @@ impl<L: Terms> Session<L> {
             front: token.place.copy(),
             serial: None,
         };
-        let asked = Asked::Forget {
+        let asked = SessionCall::Forget {
             serial: token.serial(),
         };
         let call = ForgetCall { token };
@@ -338,7 +338,7 @@ impl<L: Terms> Session<L> {
         ensures counted { OnOk result (self.new.calls ≡ self.old.calls + 1) }
         ensures fault_counted { IfErr result (λ fault. self.new.calls ≡ self.old.calls + logged fault) }
     {
-        let asked = Asked::Settled;
+        let asked = SessionCall::Settled;
         match self.make(rt, office, front, None, asked, SettledCall, None) {
             Ok(settled) => Ok(settled),
             Err(back) => Err(back.into_fault()),
@@ -369,7 +369,7 @@ impl<L: Terms> Session<L> {
         ensures counted { OnOk result (self.new.calls ≡ self.old.calls + 1) }
         ensures fault_counted { IfErr result (λ fault. self.new.calls ≡ self.old.calls + logged fault) }
     {
-        let asked = Asked::Verdict { vertex };
+        let asked = SessionCall::Verdict { vertex };
         match self.make(rt, office, front, None, asked, VerdictCall { vertex }, None) {
             Ok(verdict) => Ok(verdict),
             Err(back) => Err(back.into_fault()),
@@ -408,7 +408,7 @@ impl<L: Terms> Session<L> {
             office,
             front,
             None,
-            Asked::Page,
+            SessionCall::Page,
             PageCall { alloc },
             None,
         ) {
@@ -451,7 +451,7 @@ impl<L: Terms> Session<L> {
             office,
             front,
             None,
-            Asked::Page,
+            SessionCall::Page,
             PageCall { alloc },
             None,
         ) {
@@ -484,7 +484,7 @@ impl<L: Terms> Session<L> {
             office,
             front,
             None,
-            Asked::Order,
+            SessionCall::Order,
             OrderCall { alloc },
             None,
         ) {
@@ -562,7 +562,7 @@ impl<L: Terms> Session<L> {
         ensures counted { OnOk result (self.new.calls ≡ self.old.calls + 1) }
         ensures fault_counted { IfErr result (λ b. self.new.calls ≡ self.old.calls + logged b.fault) }
     {
-        let asked = Asked::Commit {
+        let asked = SessionCall::Commit {
             harvest: Snapshot::of(&harvest),
         };
         let shown = Snapshot::of(&harvest);
@@ -598,7 +598,7 @@ impl<L: Terms> Session<L> {
         office: &Office<L>,
         front: &mut Front<L>,
         own: Option<Own<L>>,
-        asked: Asked,
+        asked: SessionCall,
         call: C,
         sheet: Option<Global>,
     ) -> Result<C::Given, Returned<L, C::Refused, C>>

@@ -116,7 +116,7 @@ impl<L: Terms> Call<L> for UndoCall<L> {
     ghost use Rattle.vpg_desk.specs.History.{gives_undo};
     ghost use Rattle.vpg_office.specs.Token.{EndsWith};
     ghost use Rattle.vpg_office.specs.declared.asked.Answer.TheVariants as answer;
-    ghost use Rattle.vpg_office.specs.declared.asked.Asked.TheVariants as ask;
+    ghost use Rattle.vpg_office.specs.declared.asked.SessionCall.TheVariants as ask;
 
     type Given = Issued<L, vpg_desk::Redo>;
 
@@ -185,7 +185,7 @@ impl<L: Terms> Call<L> for RedoCall<L> {
     ghost use Rattle.vpg_desk.specs.History.{gives_redo};
     ghost use Rattle.vpg_office.specs.Token.{EndsWith};
     ghost use Rattle.vpg_office.specs.declared.asked.Answer.TheVariants as answer;
-    ghost use Rattle.vpg_office.specs.declared.asked.Asked.TheVariants as ask;
+    ghost use Rattle.vpg_office.specs.declared.asked.SessionCall.TheVariants as ask;
 
     type Given = Issued<L, vpg_desk::Undo>;
 
@@ -251,7 +251,7 @@ impl<L: Terms> Call<L> for KeepCall<L> {
     ghost use Rattle.std.specs.Prelude.{⊤};
     ghost use Rattle.vpg_office.specs.Faults.{never_refused};
     ghost use Rattle.vpg_office.specs.declared.asked.Answer.TheVariants as answer;
-    ghost use Rattle.vpg_office.specs.declared.asked.Asked.TheVariants as ask;
+    ghost use Rattle.vpg_office.specs.declared.asked.SessionCall.TheVariants as ask;
 
     type Given = ();
 
@@ -291,7 +291,7 @@ impl<L: Terms> Call<L> for ForgetCall<L> {
     ghost use Rattle.std.specs.Prelude.{⊤};
     ghost use Rattle.vpg_office.specs.Faults.{never_refused};
     ghost use Rattle.vpg_office.specs.declared.asked.Answer.TheVariants as answer;
-    ghost use Rattle.vpg_office.specs.declared.asked.Asked.TheVariants as ask;
+    ghost use Rattle.vpg_office.specs.declared.asked.SessionCall.TheVariants as ask;
 
     type Given = ();
 

@@ -17,9 +17,9 @@ pub struct Undo<L: Terms> {
 
 impl<L: Terms> Model for Undo<L> {
     ghost use Rattle.std.specs.Coded.{codes};
-    ghost use Rattle.vpg_office.specs.Token.{Held};
+    ghost use Rattle.vpg_office.specs.Token.{TokenView};
 
-    ghost Value = { Held };
+    ghost Value = { TokenView };
 
     ghost coded = { Prim.hlevel codes };
 

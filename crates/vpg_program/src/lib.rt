@@ -40,7 +40,7 @@ use vpg_report::{
 use vpg_script::{Device, Sink, Source};
 use vpg_serving::{Ending, Manner};
 use vpg_terminal::{
-    Asked, Ear, Heard, Named, Picture, Setting, Task, Typed, command_list, not_text, read,
+    Ear, Heard, Invocation, Named, Picture, Setting, Task, Typed, command_list, not_text, read,
 };
 
 /// Each line is answered, and a fault ends the script.
@@ -613,7 +613,7 @@ fn carry_out_asked<T: Threads + Wait + Sync>(
     rt: &HostRuntime,
     threads: &T,
     alloc: Global,
-    asked: &Asked<'_>,
+    asked: &Invocation<'_>,
     lines: &mut Vec<u8>,
 ) -> Result<End, Fault> {
     let ended = carry_out(rt, threads, alloc, &asked.task);

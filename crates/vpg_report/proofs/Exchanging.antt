@@ -11,7 +11,7 @@ use Rattle.vpg_report.specs.Held.{if_among, undo_meant, redo_meant, without}
 use Rattle.vpg_report.specs.Answers.{NoToken, call_or, numbered, room}
 use Rattle.vpg_report.specs.Engine.{EngineState, AnswersTo}
 use Rattle.vpg_report.proofs.Asked.{asked}
-use Rattle.vpg_office.specs.Token.{Held as Token}
+use Rattle.vpg_office.specs.Token.{TokenView as Token}
 use Rattle.vpg_report.specs.Serials.{serials}
 use Rattle.vpg_report.proofs.Places.{Stands}
 use Rattle.vpg_report.proofs.Serials.{serials_inserted, serials_removed, serial_at}

@@ -17,7 +17,7 @@ use Rattle.vpg_desk.specs.History.{Event, IsLegal, book_after, page_after}
 use Rattle.vpg_desk.proofs.UndoRedo.{legal_parts}
 use Rattle.vpg_office.specs.Faults.{Tells as OfficeTells, CommitTells as OfficeCommitTells}
 use Rattle.vpg_office.specs.Fronts.{Extends, GoesBackTo, Overtakes, before_last, calls_by, event, family_between}
-use Rattle.vpg_office.specs.Token.{Caller, Held}
+use Rattle.vpg_office.specs.Token.{Caller, TokenView}
 use Rattle.vpg_office.specs.declared.fault.Fault.{Fault}
 use Rattle.vpg_office.specs.declared.fault.Fault.TheVariants as office
 use Rattle.vpg_office.proofs.Calling.{page_is}
@@ -106,7 +106,7 @@ pub grew : {T E : Type 0} (family : Family) (front : List Event) (session : ℕ)
 grew family front session call reply new (Ok t) done = grows family front session call (reply t) new done
 grew family front session call reply new (Err e) done = tt
 
-pub token_grew : {E : Type 0} (family : Family) (front : List Event) (session : ℕ) (call : Call) (reply : Held → Reply) (new : List Event) (answer : Result Held E) →
+pub token_grew : {E : Type 0} (family : Family) (front : List Event) (session : ℕ) (call : Call) (reply : TokenView → Reply) (new : List Event) (answer : Result TokenView E) →
     IfOk answer (λ t. Extends family front session call (reply t) new × (t.history ≡ new)) → OnOk answer (length front < length new)
 token_grew family front session call reply new (Ok t) done = grows family front session call (reply t) new done.0
 token_grew family front session call reply new (Err e) done = tt
@@ -148,10 +148,10 @@ module _ (game : NamedGame) (diagram : NamedDiagram) (room : ℕ) (unseated : Bo
     accepted call reply fits more is = subst (λ (s : ClientState). IsLogged room s label call reply (here new)) view (logged label call reply more (here_by call reply is) fits)
 
     -- a token of the call stands for the page that was present
-    pub stands_for : (call : Call) (reply : Reply) (token : Held) → length new ≡ length front + 1 → Extends F front number call reply new → token.history ≡ new → page_of (here new).desk token ≡ old.desk.book.present
+    pub stands_for : (call : Call) (reply : Reply) (token : TokenView) → length new ≡ length front + 1 → Extends F front number call reply new → token.history ≡ new → page_of (here new).desk token ≡ old.desk.book.present
     stands_for call reply token more is same = stood label call reply more (here_by call reply is) token.history same ∙ ap (λ (s : ClientState). s.desk.book.present) view
 
-    pub restored : (token : Held) → GoesBackTo F new token.history → (here new).desk.book.present ≡ page_of old.desk token
+    pub restored : (token : TokenView) → GoesBackTo F new token.history → (here new).desk.book.present ≡ page_of old.desk token
     restored token goes = subst (λ (s : ClientState). (here new).desk.book.present ≡ page_of s.desk token) view goes
 
     -- a page is the present one, and leaves the book
@@ -266,7 +266,7 @@ module _ (game : NamedGame) (diagram : NamedDiagram) (room : ℕ) (unseated : Bo
             subst (λ (l : List Event). IsLogged room old label call (reply t) (here l)) (sym (at_last t is)) (accepted call (reply t) (fits_new t is fits) (one_more t is more) (IfOk-at_ok (λ (x : T). Extends F front number call (reply x) new) is done))
         step_made (Err d) call reply is more fits done = tt
 
-        pub page_restored : {D : Type 0} (token : Held) (result : Result T D) → IfOk result (λ t. answer ≡ Ok t) → OnOk answer (GoesBackTo F new token.history) → OnOk result ((here last).desk.book.present ≡ page_of old.desk token)
+        pub page_restored : {D : Type 0} (token : TokenView) (result : Result T D) → IfOk result (λ t. answer ≡ Ok t) → OnOk answer (GoesBackTo F new token.history) → OnOk result ((here last).desk.book.present ≡ page_of old.desk token)
         page_restored token (Ok t) is goes =
             subst (λ (l : List Event). (here l).desk.book.present ≡ page_of old.desk token) (sym (at_last t is)) (restored token (IfOk-at_ok (λ (_ : T). GoesBackTo F new token.history) is goes))
         page_restored token (Err d) is goes = tt
@@ -279,19 +279,19 @@ module _ (game : NamedGame) (diagram : NamedDiagram) (room : ℕ) (unseated : Bo
             then t (IfOk-at_ok P is p) (page_present (entries_of t) (fits_new t is fits) (one_more t is more) made) (page_stays (entries_of t) (fits_new t is fits) (one_more t is more) made)
         of_present (Err d) entries_of P Q is more fits done p then = tt
 
-      module _ {E L G : Type 0} (answer : Result Held E) (fault_of : E → Fault L G) (last : List Event) (last_is : last ≡ shown_after answer fault_of new) where
+      module _ {E L G : Type 0} (answer : Result TokenView E) (fault_of : E → Fault L G) (last : List Event) (last_is : last ≡ shown_after answer fault_of new) where
         -- the same of a token
-        pub token_made : {D : Type 0} (call : Call) (reply : Held → Reply) (result : Result Held D) → IfOk result (λ t. answer ≡ Ok t) → OnOk result (length last ≡ calls + 1) → length last ≤ room →
+        pub token_made : {D : Type 0} (call : Call) (reply : TokenView → Reply) (result : Result TokenView D) → IfOk result (λ t. answer ≡ Ok t) → OnOk result (length last ≡ calls + 1) → length last ≤ room →
             IfOk answer (λ t. Extends F front number call (reply t) new × (t.history ≡ new)) → IfOk result (λ t. IsLogged room old label call (reply t) (here last))
         token_made call reply (Ok t) is more fits done =
             subst (λ (l : List Event). IsLogged room old label call (reply t) (here l)) (sym (at_last answer fault_of last last_is t is))
-            (accepted call (reply t) (fits_new answer fault_of last last_is t is fits) (one_more answer fault_of last last_is t is more) (IfOk-at_ok (λ (x : Held). Extends F front number call (reply x) new × (x.history ≡ new)) is done).0)
+            (accepted call (reply t) (fits_new answer fault_of last last_is t is fits) (one_more answer fault_of last last_is t is more) (IfOk-at_ok (λ (x : TokenView). Extends F front number call (reply x) new × (x.history ≡ new)) is done).0)
         token_made call reply (Err d) is more fits done = tt
 
-        pub token_stands : {D : Type 0} (call : Call) (reply : Held → Reply) (result : Result Held D) → IfOk result (λ t. answer ≡ Ok t) → OnOk result (length last ≡ calls + 1) →
+        pub token_stands : {D : Type 0} (call : Call) (reply : TokenView → Reply) (result : Result TokenView D) → IfOk result (λ t. answer ≡ Ok t) → OnOk result (length last ≡ calls + 1) →
             IfOk answer (λ t. Extends F front number call (reply t) new × (t.history ≡ new)) → IfOk result (λ t. page_of (here last).desk t ≡ old.desk.book.present)
         token_stands call reply (Ok t) is more done =
-            let made = IfOk-at_ok (λ (x : Held). Extends F front number call (reply x) new × (x.history ≡ new)) is done in
+            let made = IfOk-at_ok (λ (x : TokenView). Extends F front number call (reply x) new × (x.history ≡ new)) is done in
             subst (λ (l : List Event). page_of (here l).desk t ≡ old.desk.book.present) (sym (at_last answer fault_of last last_is t is)) (stands_for call (reply t) t (one_more answer fault_of last last_is t is more) made.0 made.1)
         token_stands call reply (Err d) is more done = tt
 

@@ -2,7 +2,7 @@
 use Rattle.std.proofs.Common.{◌≡◌, ℕ, zero, suc, ◌+◌, List, [], ◌∷◌, ◌++◌, length, Option, Some, None, refl, sym, ap, ap₂, ◌∙◌}
 use Rattle.std.specs.Prelude.{◌==◌, IfSome, cond, nat_lt, not, position, slice_get, slice_index_or}
 use Rattle.std.specs.List.{position_or_len, remove, insert}
-use Rattle.vpg_office.specs.Token.{Held as Token}
+use Rattle.vpg_office.specs.Token.{TokenView as Token}
 use Rattle.vpg_report.specs.Serials.{serials}
 
 pub serials_more : (tokens more : List Token) → serials (tokens ++ more) ≡ serials tokens ++ serials more

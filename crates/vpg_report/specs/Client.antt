@@ -7,7 +7,7 @@ use Rattle.vpg_desk.specs.Book.{Call, Reply, opened}
 use Rattle.vpg_desk.specs.History.{Event, book_after, page_after}
 use Rattle.vpg_desk.specs.State.{DeskState, IsStep}
 use Rattle.vpg_office.specs.Fronts.{before_last, family_between}
-use Rattle.vpg_office.specs.Token.{Caller, Held}
+use Rattle.vpg_office.specs.Token.{Caller, TokenView}
 
 -- a desk, and how many calls stand in its office's log
 pub record ClientState : Type 0 where
@@ -25,8 +25,11 @@ client_of game diagram =
 -- the client that has made these calls
 abbrev pub client_after : NamedGame → NamedDiagram → Bool → List Event → ClientState
 client_after game diagram unseated events =
-    record { desk = record { game = game; diagram = diagram; book = book_after (family_between game diagram) opened events };
-    calls = length events; unseated = unseated }
+    record {
+      desk = record { game = game; diagram = diagram; book = book_after (family_between game diagram) opened events };
+      calls = length events;
+      unseated = unseated;
+    }
 
 -- The log, with room for `room` calls, had room for this one. The call is one step of the desk under the label, and is
 -- counted.
@@ -51,5 +54,5 @@ pub record IsUnseated (old new : ClientState) : Type 0 where
   pub unseated : new.unseated ≡ true
 
 -- the present page just before the call that gave the token
-abbrev pub page_of : DeskState → Held → List Entry
+abbrev pub page_of : DeskState → TokenView → List Entry
 page_of desk token = page_after (family_between desk.game desk.diagram) (before_last token.history)

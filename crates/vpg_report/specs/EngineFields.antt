@@ -11,7 +11,7 @@ use Rattle.vpg_measure.specs.Orders.{HarvestView}
 use Rattle.vpg_desk.specs.Book.{Harvest}
 use Rattle.vpg_desk.specs.Commit.{handed_in}
 use Rattle.vpg_desk.specs.State.{DeskState}
-use Rattle.vpg_office.specs.Token.{Held as Token}
+use Rattle.vpg_office.specs.Token.{TokenView as Token}
 use Rattle.vpg_report.specs.Client.{ClientState}
 use Rattle.vpg_report.specs.Answers.{room}
 use Rattle.vpg_report.specs.Engine.{EngineState}

@@ -1,6 +1,6 @@
 -- Tokens by their serials.
 use Rattle.std.specs.Prelude.{ℕ, List, map}
-use Rattle.vpg_office.specs.Token.{Held as Token}
+use Rattle.vpg_office.specs.Token.{TokenView as Token}
 
 abbrev pub serials : List Token → List ℕ
 serials tokens = map (λ t. t.serial) tokens

@@ -2,7 +2,7 @@
 ghost use Rattle.std.specs.Prelude.{◌≡◌, ◌+◌, ◌-◌, ◌<◌, ◌≤◌, ◌==◌, ◌++◌, ◌∷◌, [], ℕ, length, max, position, slice_get, slice_index_or, vec_len, vec_capacity, slice_set, Some, None, OnOk, IfSome, IfNone};
 ghost use Rattle.std.specs.List.{reduce, remove, insert};
 ghost use Rattle.vpg_report.specs.Faults.{UnlessStray};
-ghost use Rattle.vpg_office.specs.Token.{Held};
+ghost use Rattle.vpg_office.specs.Token.{TokenView};
 ghost use Rattle.vpg_report.specs.Answers.{numbered};
 ghost use Rattle.vpg_report.specs.Engine.{IsPlaceOf};
 ghost use Rattle.vpg_report.specs.Held.{undo_meant, redo_meant, harvest_kept};
@@ -129,7 +129,7 @@ pub(crate) fn hold_undone<L: Terms>(
     requires place { place ≤ vec_len undos.old }
     requires room { vec_len undos.old < vec_capacity undos.old }
     requires redo_room { vec_len redos.old < vec_capacity redos.old }
-    ensures { (undo : Held) → token ≡ Token.Undo undo → (undos.new.items ≡ insert undos.old.items place undo) ×
+    ensures { (undo : TokenView) → token ≡ Token.Undo undo → (undos.new.items ≡ insert undos.old.items place undo) ×
         (redos.new.items ≡ redos.old.items) }
 {
     match token {
@@ -148,7 +148,7 @@ pub(crate) fn hold_redone<L: Terms>(
     requires place { place ≤ vec_len redos.old }
     requires room { vec_len redos.old < vec_capacity redos.old }
     requires undo_room { vec_len undos.old < vec_capacity undos.old }
-    ensures { (redo : Held) → token ≡ Token.Redo redo → (redos.new.items ≡ insert redos.old.items place redo) ×
+    ensures { (redo : TokenView) → token ≡ Token.Redo redo → (redos.new.items ≡ insert redos.old.items place redo) ×
         (undos.new.items ≡ undos.old.items) }
 {
     match token {

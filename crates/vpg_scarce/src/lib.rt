@@ -22,5 +22,5 @@ pub use heap::Heap;
 pub use pages::is_same_page;
 pub use report::Report;
 pub use trial::{
-    Anew, End, MOST_TRIES, Outcome, Told, Trial, more, tried, tried_anew, tried_through,
+    Anew, End, Finding, MOST_TRIES, Outcome, Trial, more, tried, tried_anew, tried_through,
 };

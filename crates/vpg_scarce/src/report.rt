@@ -1,7 +1,7 @@
 //! The results of calls, a line for each.
 
 use crate::heap::Heap;
-use crate::trial::{Told, Trial, tried};
+use crate::trial::{Finding, Trial, tried};
 use std::alloc::{AllocError, Global};
 use std::io;
 use std::sync::Wait;
@@ -10,7 +10,7 @@ use std::sync::Wait;
 #[derive(Clone, Copy, Drop)]
 struct Row {
     name: &'static str,
-    told: Told,
+    told: Finding,
     tries: u64,
 }
 
@@ -26,13 +26,13 @@ pub struct Report {
 const MOST_ROWS: usize = 100;
 
 /// Returns the word for a call's result.
-fn word_of(told: Told) -> &'static str {
+fn word_of(told: Finding) -> &'static str {
     match told {
-        Told::TakesNone => "takes no memory",
-        Told::Unchanged => "each growth refused in turn, unchanged",
-        Told::Changed => "CHANGED by a refused growth",
-        Told::Otherwise => "ENDS OTHERWISE",
-        Told::Never => "IS NEVER DONE",
+        Finding::TakesNone => "takes no memory",
+        Finding::Unchanged => "each growth refused in turn, unchanged",
+        Finding::Changed => "CHANGED by a refused growth",
+        Finding::Otherwise => "ENDS OTHERWISE",
+        Finding::Never => "IS NEVER DONE",
     }
 }
 
@@ -47,7 +47,7 @@ impl Report {
     }
 
     /// Notes the result of the call that was made last. It takes no memory.
-    pub fn note(&mut self, heap: &Heap, name: &'static str, told: Told) {
+    pub fn note(&mut self, heap: &Heap, name: &'static str, told: Finding) {
         let tries = heap.tries();
         if self.rows.len() < self.rows.capacity() {
             self.rows.push_reserved(Row { name, told, tries });

@@ -26,7 +26,7 @@ pub trait Trial<R> {
 
 /// The result of a call that was made again and again.
 #[derive(Clone, Copy, PartialEq, Eq, Debug, Drop)]
-pub enum Told {
+pub enum Finding {
     /// It was done without any memory.
     TakesNone,
     /// It was refused memory, which changed nothing each time, and then done.
@@ -62,18 +62,18 @@ fn try_once<R: Wait, T: Trial<R>>(
 }
 
 /// Makes the call with more and more memory until it is done.
-pub fn tried<R: Wait, T: Trial<R>>(rt: &R, heap: &mut Heap, trial: &mut T) -> Told {
+pub fn tried<R: Wait, T: Trial<R>>(rt: &R, heap: &mut Heap, trial: &mut T) -> Finding {
     let mut bytes = 0;
     for tries in 0..MOST_TRIES {
         match try_once(rt, heap, trial, bytes) {
-            (End::Done, _) if tries == 0 => return Told::TakesNone,
-            (End::Done, _) => return Told::Unchanged,
+            (End::Done, _) if tries == 0 => return Finding::TakesNone,
+            (End::Done, _) => return Finding::Unchanged,
             (End::Memory, true) => bytes = more(bytes),
-            (End::Memory, false) => return Told::Changed,
-            (End::Otherwise, _) => return Told::Otherwise,
+            (End::Memory, false) => return Finding::Changed,
+            (End::Otherwise, _) => return Finding::Otherwise,
         }
     }
-    Told::Never
+    Finding::Never
 }
 
 /// Makes the call with more and more memory, up to this many bytes. It may be done in a lesser form with little memory,
@@ -83,20 +83,20 @@ pub fn tried_through<R: Wait, T: Trial<R>>(
     heap: &mut Heap,
     trial: &mut T,
     most: usize,
-) -> Told {
+) -> Finding {
     let mut bytes = 0;
-    let mut done = Told::TakesNone;
+    let mut done = Finding::TakesNone;
     for _ in 0..MOST_TRIES {
         match try_once(rt, heap, trial, bytes) {
             (End::Done, _) if bytes >= most || heap.is_marked() => return done,
             (End::Done, _) => {}
-            (End::Memory, true) => done = Told::Unchanged,
-            (End::Memory, false) => return Told::Changed,
-            (End::Otherwise, _) => return Told::Otherwise,
+            (End::Memory, true) => done = Finding::Unchanged,
+            (End::Memory, false) => return Finding::Changed,
+            (End::Otherwise, _) => return Finding::Otherwise,
         }
         bytes = more(bytes);
     }
-    Told::Never
+    Finding::Never
 }
 
 /// The end of a try, and whether all was then as it has to be.
@@ -114,19 +114,24 @@ pub trait Anew<R> {
 
 /// Makes the call with more and more memory until it is done with this many bytes or more. With fewer it may be done in
 /// a lesser form. If calls are marked it ends as soon as it is done.
-pub fn tried_anew<R: Wait, T: Anew<R>>(rt: &R, heap: &mut Heap, call: &mut T, most: usize) -> Told {
+pub fn tried_anew<R: Wait, T: Anew<R>>(
+    rt: &R,
+    heap: &mut Heap,
+    call: &mut T,
+    most: usize,
+) -> Finding {
     let mut bytes = 0;
-    let mut told = Told::TakesNone;
+    let mut told = Finding::TakesNone;
     for _ in 0..MOST_TRIES {
         let Outcome { end, holds } = call.try_within(rt, heap, bytes);
         match end {
-            End::Otherwise => return Told::Otherwise,
-            _ if !holds => return Told::Changed,
+            End::Otherwise => return Finding::Otherwise,
+            _ if !holds => return Finding::Changed,
             End::Done if bytes >= most || heap.is_marked() => return told,
             End::Done => {}
-            End::Memory => told = Told::Unchanged,
+            End::Memory => told = Finding::Unchanged,
         }
         bytes = more(bytes);
     }
-    Told::Never
+    Finding::Never
 }

@@ -30,6 +30,6 @@ mod verbs;
 pub use hearing::{Ear, Heard};
 pub use naming::{Named, named_text};
 pub use reading::{not_text, read};
-pub use task::{Asked, Picture, Task};
+pub use task::{Invocation, Picture, Task};
 pub use typing::{Setting, Typed};
 pub use usage::command_list;

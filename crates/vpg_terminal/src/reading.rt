@@ -1,5 +1,5 @@
 //! The parser of the program's words.
-use crate::task::{Asked, Picture, Task};
+use crate::task::{Invocation, Picture, Task};
 use crate::usage::{ABOUT, AFTER, SHORT_AFTER};
 use crate::verbs::{Argument, Kind, VERBS, Verb, verb_of};
 use clap::builder::ValueParser;
@@ -330,7 +330,7 @@ fn explains(name: &str, matches: &ArgMatches<'_>) -> bool {
 }
 
 /// Returns a message in place of a task.
-fn refused<'a>(told: Result<Error, AllocError>) -> Result<Asked<'a>, Error> {
+fn refused<'a>(told: Result<Error, AllocError>) -> Result<Invocation<'a>, Error> {
     Err(told?)
 }
 
@@ -340,9 +340,9 @@ fn asked_of<'a>(
     name: &str,
     files: Files<'a>,
     matches: &ArgMatches<'a>,
-) -> Result<Asked<'a>, Error> {
+) -> Result<Invocation<'a>, Error> {
     match task_of(alloc, name, files, matches)? {
-        Some(task) => Ok(Asked {
+        Some(task) => Ok(Invocation {
             task,
             explains: explains(name, matches),
         }),
@@ -351,7 +351,7 @@ fn asked_of<'a>(
 }
 
 /// Returns the request of a command over a family.
-fn asked<'a>(alloc: Global, name: &str, matches: &ArgMatches<'a>) -> Result<Asked<'a>, Error> {
+fn asked<'a>(alloc: Global, name: &str, matches: &ArgMatches<'a>) -> Result<Invocation<'a>, Error> {
     if has_sign(matches) {
         return refused(signed(alloc));
     }
@@ -368,10 +368,10 @@ fn asked<'a>(alloc: Global, name: &str, matches: &ArgMatches<'a>) -> Result<Aske
 }
 
 /// Returns the request of words that the parser accepted.
-fn accepted<'a>(alloc: Global, matches: &ArgMatches<'a>) -> Result<Asked<'a>, Error> {
+fn accepted<'a>(alloc: Global, matches: &ArgMatches<'a>) -> Result<Invocation<'a>, Error> {
     match matches.subcommand() {
         Some((name, inner)) => asked(alloc, name, inner),
-        None => Ok(Asked {
+        None => Ok(Invocation {
             task: Task::BuiltIn,
             explains: false,
         }),
@@ -380,7 +380,7 @@ fn accepted<'a>(alloc: Global, matches: &ArgMatches<'a>) -> Result<Asked<'a>, Er
 
 /// Parses the words, the first of them being the program's name; `Err` is what `clap` prints, also help and the
 /// version.
-pub fn read<'a>(alloc: Global, words: &'a [String]) -> Result<Asked<'a>, Error> {
+pub fn read<'a>(alloc: Global, words: &'a [String]) -> Result<Invocation<'a>, Error> {
     match command(alloc)?.try_get_matches_from(words) {
         Ok(matches) => accepted(alloc, &matches),
         Err(told) => Err(told),

@@ -1,9 +1,9 @@
 //! The tasks that the words ask for.
 use vpg_family::{Paths, Subject};
 
-/// The request of the words.
+/// The task of a command line, and whether its faults are explained.
 #[derive(Drop)]
-pub struct Asked<'a> {
+pub struct Invocation<'a> {
     pub task: Task<'a>,
     /// Whether lines are to say where and why an input is refused.
     pub explains: bool,

@@ -18,9 +18,9 @@ const PROMPT: &[u8] = b"> ";
 /// The message about a word that names no command.
 const UNKNOWN: &[u8] = b"no such command; `help` lists them\n";
 
-/// A line's request to the session itself.
+/// A line's word to the session itself.
 #[derive(Clone, Copy)]
-enum Asked<'l> {
+enum SessionWord<'l> {
     Nothing,
     Help,
     /// Help on the commands of this word.
@@ -28,12 +28,12 @@ enum Asked<'l> {
     Quit,
 }
 
-fn asked_of<'l>(words: &[Word<'l>]) -> Asked<'l> {
+fn asked_of<'l>(words: &[Word<'l>]) -> SessionWord<'l> {
     match words {
-        [word] if word.bytes == b"quit".as_slice() => Asked::Quit,
-        [word] if word.bytes == b"help".as_slice() => Asked::Help,
-        [word, command] if word.bytes == b"help".as_slice() => Asked::HelpOf(command.bytes),
-        _ => Asked::Nothing,
+        [word] if word.bytes == b"quit".as_slice() => SessionWord::Quit,
+        [word] if word.bytes == b"help".as_slice() => SessionWord::Help,
+        [word, command] if word.bytes == b"help".as_slice() => SessionWord::HelpOf(command.bytes),
+        _ => SessionWord::Nothing,
     }
 }
 
@@ -113,7 +113,7 @@ fn tell_help<W: Sink>(
     put
 }
 
-/// Carries out a line's request to the session, and returns the line that is handed on for it.
+/// Carries out a line's word to the session, and returns the line that is handed on for it.
 fn met<W: Sink>(
     alloc: Global,
     setting: Setting<'_>,
@@ -122,12 +122,12 @@ fn met<W: Sink>(
     talk: &mut W,
 ) -> Result<Handed, AllocError> {
     match asked_of(words) {
-        Asked::Help => {
+        SessionWord::Help => {
             let _ = talk.put(setting.commands.as_bytes());
             let _ = talk.put(b"\n");
             nothing(alloc)
         }
-        Asked::HelpOf(command) => match tell_help(alloc, setting.commands, command, talk) {
+        SessionWord::HelpOf(command) => match tell_help(alloc, setting.commands, command, talk) {
             Ok(()) => nothing(alloc),
             Err(fault) => Err(fault),
         },
@@ -143,7 +143,7 @@ fn meet_words<W: Sink>(
     words: &[Word<'_>],
     talk: &mut W,
 ) -> Result<Option<Handed>, AllocError> {
-    if let Asked::Quit = asked_of(words) {
+    if let SessionWord::Quit = asked_of(words) {
         return Ok(None);
     }
     match met(alloc, setting, line, words, talk) {

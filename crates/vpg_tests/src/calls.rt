@@ -38,9 +38,9 @@ pub enum Other {
     Diagram,
 }
 
-/// A call.
+/// A call of a worked row, at a desk or an office.
 #[derive(Clone, Copy)]
-pub enum Call {
+pub enum RowCall {
     /// These two give a token, which is held there.
     Decide(At, u16, bool),
     Retract(At, u16),
@@ -152,7 +152,7 @@ pub trait Calls {
         office: &Self::Office,
         by: By,
         at: At,
-        call: Call,
+        call: RowCall,
     ) -> Answer;
 
     /// Returns the serial of the change of the token that is held there, 0 if none is.
@@ -164,7 +164,7 @@ pub trait Calls {
         rt: &R,
         office: &Self::Office,
         by: By,
-        call: Call,
+        call: RowCall,
     ) -> Answer;
 
     /// Returns the verdict of a vertex.
@@ -183,11 +183,11 @@ pub trait Calls {
         rt: &R,
         office: &Self::Office,
         by: By,
-        call: Call,
+        call: RowCall,
     ) -> Answer;
 
     /// Looks at the values that sessions have, also once the office has ended.
-    fn looks<R: Abort>(&mut self, rt: &R, by: By, call: Call) -> Answer;
+    fn looks<R: Abort>(&mut self, rt: &R, by: By, call: RowCall) -> Answer;
 
     /// Returns the harvest that is held.
     fn harvest(&mut self) -> &mut Option<Harvest>;
@@ -200,10 +200,10 @@ fn join_all<S: Calls, R: Wait + Abort + AllocGlobal>(
     hand: &mut S,
 ) -> bool {
     for number in 3..1025u32 {
-        let joined = hand.visits(rt, office, By::One, Call::Join);
+        let joined = hand.visits(rt, office, By::One, RowCall::Join);
         require(rt, joined == Answer::Joined(number, 0), "a further session");
     }
-    hand.visits(rt, office, By::One, Call::Join) == Answer::NoPlace
+    hand.visits(rt, office, By::One, RowCall::Join) == Answer::NoPlace
 }
 
 /// Whether there are 64 watches and no more, until they are dropped.
@@ -213,12 +213,12 @@ fn watch_all<S: Calls, R: Wait + Abort + AllocGlobal>(
     hand: &mut S,
 ) -> bool {
     for _ in 0..64u32 {
-        let watched = hand.visits(rt, office, By::One, Call::Watch);
+        let watched = hand.visits(rt, office, By::One, RowCall::Watch);
         require(rt, watched == Answer::Done, "a further watch");
     }
-    let last = hand.visits(rt, office, By::One, Call::Watch);
-    hand.looks(rt, By::One, Call::Unwatch);
-    last == Answer::NoPlace && hand.visits(rt, office, By::One, Call::Watch) == Answer::Done
+    let last = hand.visits(rt, office, By::One, RowCall::Watch);
+    hand.looks(rt, By::One, RowCall::Unwatch);
+    last == Answer::NoPlace && hand.visits(rt, office, By::One, RowCall::Watch) == Answer::Done
 }
 
 /// Undoes or redoes a change. After that a token of the same serial is held, also if it is refused.
@@ -228,7 +228,7 @@ fn turned<S: Calls, R: Wait + Abort + AllocGlobal>(
     hand: &mut S,
     by: By,
     at: At,
-    call: Call,
+    call: RowCall,
 ) -> Answer {
     let before = hand.serial(at);
     let answer = hand.changes(rt, office, by, at, call);
@@ -242,26 +242,30 @@ pub fn answered<S: Calls, R: Wait + Abort + AllocGlobal>(
     office: &S::Office,
     hand: &mut S,
     by: By,
-    call: Call,
+    call: RowCall,
 ) -> Answer
     requires { S.vertices ≡ 2 }
 {
     match call {
-        Call::Decide(at, ..) | Call::Retract(at, _) => hand.changes(rt, office, by, at, call),
-        Call::Undo(at) | Call::Redo(at) => turned(rt, office, hand, by, at, call),
-        Call::Keep(at) | Call::Forget(at) => hand.changes(rt, office, by, at, call),
-        Call::Verdict(vertex) if vertex < 2 => hand.verdict(rt, office, by, vertex),
-        Call::Watch | Call::Join | Call::Meet | Call::Close => hand.visits(rt, office, by, call),
-        Call::Unwatch | Call::Sees | Call::Number | Call::Calls => hand.looks(rt, by, call),
-        Call::EarlyCalls | Call::Sizes => hand.looks(rt, by, call),
-        Call::JoinAll => Answer::Is(join_all(rt, office, hand)),
-        Call::WatchAll => Answer::Is(watch_all(rt, office, hand)),
+        RowCall::Decide(at, ..) | RowCall::Retract(at, _) => hand.changes(rt, office, by, at, call),
+        RowCall::Undo(at) | RowCall::Redo(at) => turned(rt, office, hand, by, at, call),
+        RowCall::Keep(at) | RowCall::Forget(at) => hand.changes(rt, office, by, at, call),
+        RowCall::Verdict(vertex) if vertex < 2 => hand.verdict(rt, office, by, vertex),
+        RowCall::Watch | RowCall::Join | RowCall::Meet | RowCall::Close => hand.visits(
+            rt, office, by, call,
+        ),
+        RowCall::Unwatch | RowCall::Sees | RowCall::Number | RowCall::Calls => hand.looks(
+            rt, by, call,
+        ),
+        RowCall::EarlyCalls | RowCall::Sizes => hand.looks(rt, by, call),
+        RowCall::JoinAll => Answer::Is(join_all(rt, office, hand)),
+        RowCall::WatchAll => Answer::Is(watch_all(rt, office, hand)),
         _ => hand.asks(rt, office, by, call),
     }
 }
 
 /// A call of a session, and its answer.
-pub type Step = (By, Call, Answer);
+pub type Step = (By, RowCall, Answer);
 
 /// Makes each call, which has to have its answer.
 pub fn carry_out<S: Calls, R: Wait + Abort + AllocGlobal>(
@@ -304,11 +308,11 @@ fn seated_once<R: Abort + AllocGlobal>(rt: &R) -> Harvest {
 
 /// Returns the harvest of an order with one vertex lifted, or nothing, or lifted until both tables are settled; or the
 /// harvest of a board.
-pub fn harvest_of<R: Abort + AllocGlobal>(rt: &R, order: Order, call: Call) -> Harvest {
+pub fn harvest_of<R: Abort + AllocGlobal>(rt: &R, order: Order, call: RowCall) -> Harvest {
     match call {
-        Call::Lift(vertex) => lifted(rt, order, Which::Hopeful, vertex),
-        Call::Bare => Harvest::alone(order, 0),
-        Call::Seated => {
+        RowCall::Lift(vertex) => lifted(rt, order, Which::Hopeful, vertex),
+        RowCall::Bare => Harvest::alone(order, 0),
+        RowCall::Seated => {
             let_go(order);
             seated_once(rt)
         }

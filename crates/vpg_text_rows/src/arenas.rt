@@ -7,7 +7,7 @@
 //! - `project SIGNS ~ GAME` is answered the text of the game of the set of features with `+`, after a text that
 //!   stood there before.
 
-use crate::asked::Asked;
+use crate::asked::RowQuestion;
 use crate::decisions::{close_checked, decisions_of};
 use crate::diagrams::diagram_of;
 use crate::games::game_of;
@@ -60,12 +60,12 @@ fn put_product(known: &Partial, line: &mut Line) {
 }
 
 /// Answers a row on the features that decisions make known.
-fn known_told(asked: &Asked, text: &[u8], line: &mut Line) {
+fn known_told(asked: &RowQuestion, text: &[u8], line: &mut Line) {
     let (decisions, text) = two_of(text);
     if let Some(diagram) = diagram_of(text, line) {
         if let Some(known) = known_of(&diagram, decisions, line) {
             match asked {
-                Asked::Close => put_values(known.values(), line),
+                RowQuestion::Close => put_values(known.values(), line),
                 _ => put_product(&known, line),
             }
         }
@@ -84,13 +84,13 @@ fn put_vertices(arena: &Arena, line: &mut Line) {
 }
 
 /// Writes the game that is left, or its dual.
-fn put_arena(asked: &Asked, game: &GuardedGame, known: &Partial, line: &mut Line) {
+fn put_arena(asked: &RowQuestion, game: &GuardedGame, known: &Partial, line: &mut Line) {
     if known.values().len() != game.features() {
         line.put("features");
         return;
     }
     let arena = match asked {
-        Asked::Hopeful => Arena::hopeful(line.alloc, game, known),
+        RowQuestion::Hopeful => Arena::hopeful(line.alloc, game, known),
         _ => Arena::hopeful_of_dual(line.alloc, game, known),
     };
     if let Some(arena) = line.kept(arena) {
@@ -100,7 +100,7 @@ fn put_arena(asked: &Asked, game: &GuardedGame, known: &Partial, line: &mut Line
 
 /// Writes the game that decisions leave.
 fn put_left(
-    asked: &Asked,
+    asked: &RowQuestion,
     decisions: &[u8],
     diagram: &Diagram,
     game: &GuardedGame,
@@ -142,20 +142,20 @@ fn put_projected(signs: &[u8], diagram: &Diagram, game: &GuardedGame, line: &mut
 }
 
 /// Answers a row over the diagram of free features.
-fn free(diagram: &Diagram, asked: &Asked, text: &[u8], line: &mut Line) {
+fn free(diagram: &Diagram, asked: &RowQuestion, text: &[u8], line: &mut Line) {
     let (first, text) = two_of(text);
     if let Some(game) = game_of(diagram.names(), text, line) {
         match asked {
-            Asked::Project => put_projected(first, diagram, &game, line),
+            RowQuestion::Project => put_projected(first, diagram, &game, line),
             _ => put_left(asked, first, diagram, &game, line),
         }
     }
 }
 
 /// Answers a row, over the diagram of free features if it has none of its own.
-pub(crate) fn answer(diagram: &Diagram, asked: &Asked, text: &[u8], line: &mut Line) {
+pub(crate) fn answer(diagram: &Diagram, asked: &RowQuestion, text: &[u8], line: &mut Line) {
     match asked {
-        Asked::Close | Asked::Product => known_told(asked, text, line),
+        RowQuestion::Close | RowQuestion::Product => known_told(asked, text, line),
         _ => free(diagram, asked, text, line),
     }
 }

@@ -1,7 +1,7 @@
 //! The words that rows ask by.
 
 /// The question of a row. The module of its table says which that is.
-pub(crate) enum Asked {
+pub(crate) enum RowQuestion {
     Add,
     All,
     At,
@@ -40,49 +40,49 @@ pub(crate) enum Asked {
     Nothing,
 }
 
-static WORDS: [(&str, Asked); 34] = [
-    ("add", Asked::Add),
-    ("all", Asked::All),
-    ("at", Asked::At),
-    ("clauses", Asked::Clauses),
-    ("close", Asked::Close),
-    ("counts", Asked::Counts),
-    ("diagram", Asked::Diagram),
-    ("dual", Asked::Dual),
-    ("dual-of-dual", Asked::DualOfDual),
-    ("find", Asked::Find),
-    ("game", Asked::Game),
-    ("get", Asked::Get),
-    ("holds", Asked::Holds),
-    ("hopeful", Asked::Hopeful),
-    ("hopeful-of-dual", Asked::HopefulOfDual),
-    ("is", Asked::Is),
-    ("known", Asked::Known),
-    ("last", Asked::Last),
-    ("line", Asked::Line),
-    ("look", Asked::Look),
-    ("most-rules", Asked::MostRules),
-    ("names", Asked::Names),
-    ("odd-counts", Asked::OddCounts),
-    ("or", Asked::Or),
-    ("product", Asked::Product),
-    ("products", Asked::Products),
-    ("project", Asked::Project),
-    ("read", Asked::Read),
-    ("same", Asked::Same),
-    ("sizes", Asked::Sizes),
-    ("top", Asked::Top),
-    ("tops", Asked::Tops),
-    ("twice", Asked::Twice),
-    ("write", Asked::Write),
+static WORDS: [(&str, RowQuestion); 34] = [
+    ("add", RowQuestion::Add),
+    ("all", RowQuestion::All),
+    ("at", RowQuestion::At),
+    ("clauses", RowQuestion::Clauses),
+    ("close", RowQuestion::Close),
+    ("counts", RowQuestion::Counts),
+    ("diagram", RowQuestion::Diagram),
+    ("dual", RowQuestion::Dual),
+    ("dual-of-dual", RowQuestion::DualOfDual),
+    ("find", RowQuestion::Find),
+    ("game", RowQuestion::Game),
+    ("get", RowQuestion::Get),
+    ("holds", RowQuestion::Holds),
+    ("hopeful", RowQuestion::Hopeful),
+    ("hopeful-of-dual", RowQuestion::HopefulOfDual),
+    ("is", RowQuestion::Is),
+    ("known", RowQuestion::Known),
+    ("last", RowQuestion::Last),
+    ("line", RowQuestion::Line),
+    ("look", RowQuestion::Look),
+    ("most-rules", RowQuestion::MostRules),
+    ("names", RowQuestion::Names),
+    ("odd-counts", RowQuestion::OddCounts),
+    ("or", RowQuestion::Or),
+    ("product", RowQuestion::Product),
+    ("products", RowQuestion::Products),
+    ("project", RowQuestion::Project),
+    ("read", RowQuestion::Read),
+    ("same", RowQuestion::Same),
+    ("sizes", RowQuestion::Sizes),
+    ("top", RowQuestion::Top),
+    ("tops", RowQuestion::Tops),
+    ("twice", RowQuestion::Twice),
+    ("write", RowQuestion::Write),
 ];
 
 /// Returns the question that a word names.
-pub(crate) fn asked_of(word: &str) -> &'static Asked {
+pub(crate) fn asked_of(word: &str) -> &'static RowQuestion {
     for (name, asked) in &WORDS {
         if *name == word {
             return asked;
         }
     }
-    &Asked::Nothing
+    &RowQuestion::Nothing
 }

@@ -32,7 +32,7 @@ use vpg_why::{
 
 /// The question of a word.
 #[derive(Clone, Copy)]
-enum Asked {
+enum RowInquiry {
     Why,
     Known,
     Against,
@@ -52,36 +52,36 @@ const HOPEFUL: Option<Which> = Some(Which::Hopeful);
 const DUAL: Option<Which> = Some(Which::Dual);
 
 /// The question of each word, and its table; no table if it is about all products.
-static WORDS: [(&str, Asked, Option<Which>); 19] = [
-    ("hopeless", Asked::Why, HOPEFUL),
-    ("sure", Asked::Why, DUAL),
-    ("known", Asked::Known, None),
-    ("against", Asked::Against, None),
-    ("lost", Asked::Lost, HOPEFUL),
-    ("won", Asked::Lost, DUAL),
-    ("barren", Asked::Lost, None),
-    ("example", Asked::Example, HOPEFUL),
-    ("counterexample", Asked::Example, DUAL),
-    ("product", Asked::Example, None),
-    ("needs", Asked::Needs, HOPEFUL),
-    ("fails", Asked::Needs, DUAL),
-    ("forced", Asked::Needs, None),
-    ("offer", Asked::Offer, None),
-    ("without", Asked::Without, None),
-    ("still", Asked::Stays, HOPEFUL),
-    ("certain", Asked::Stays, DUAL),
-    ("repair", Asked::Repair, HOPEFUL),
-    ("expose", Asked::Repair, DUAL),
+static WORDS: [(&str, RowInquiry, Option<Which>); 19] = [
+    ("hopeless", RowInquiry::Why, HOPEFUL),
+    ("sure", RowInquiry::Why, DUAL),
+    ("known", RowInquiry::Known, None),
+    ("against", RowInquiry::Against, None),
+    ("lost", RowInquiry::Lost, HOPEFUL),
+    ("won", RowInquiry::Lost, DUAL),
+    ("barren", RowInquiry::Lost, None),
+    ("example", RowInquiry::Example, HOPEFUL),
+    ("counterexample", RowInquiry::Example, DUAL),
+    ("product", RowInquiry::Example, None),
+    ("needs", RowInquiry::Needs, HOPEFUL),
+    ("fails", RowInquiry::Needs, DUAL),
+    ("forced", RowInquiry::Needs, None),
+    ("offer", RowInquiry::Offer, None),
+    ("without", RowInquiry::Without, None),
+    ("still", RowInquiry::Stays, HOPEFUL),
+    ("certain", RowInquiry::Stays, DUAL),
+    ("repair", RowInquiry::Repair, HOPEFUL),
+    ("expose", RowInquiry::Repair, DUAL),
 ];
 
 /// Returns the question of a word, and its table.
-fn asked_of(word: &str) -> (Asked, Option<Which>) {
+fn asked_of(word: &str) -> (RowInquiry, Option<Which>) {
     for (name, asked, which) in &WORDS {
         if *name == word {
             return (*asked, *which);
         }
     }
-    (Asked::Nothing, HOPEFUL)
+    (RowInquiry::Nothing, HOPEFUL)
 }
 
 /// Returns the number of a word; or writes in the line why it has none.
@@ -148,7 +148,7 @@ fn aim_of(order: &Order, which: Option<Which>, word: &str, line: &mut Line) -> O
 /// Asks of a vertex: why its verdict is so, or the decisions to retract so that it is not so any more.
 fn ask_vertex(
     order: &Order,
-    asked: Asked,
+    asked: RowInquiry,
     which: Which,
     word: &str,
     limits: Limits,
@@ -156,7 +156,7 @@ fn ask_vertex(
 ) {
     if let Some(vertex) = vertex_of(order, word, line) {
         match asked {
-            Asked::Why => put_why(order, why(line.alloc, order, which, vertex, limits), line),
+            RowInquiry::Why => put_why(order, why(line.alloc, order, which, vertex, limits), line),
             _ => put_remedy(
                 order,
                 repair(line.alloc, order, which, vertex, limits),
@@ -167,10 +167,10 @@ fn ask_vertex(
 }
 
 /// Asks for the decisions that make a choice known, or that contradict it.
-fn ask_choice(order: &Order, asked: Asked, word: &str, line: &mut Line) {
+fn ask_choice(order: &Order, asked: RowInquiry, word: &str, line: &mut Line) {
     if let Some(choice) = choice_of(order, word, line) {
         let found = match asked {
-            Asked::Known => why_known(line.alloc, order, choice.feature, choice.value),
+            RowInquiry::Known => why_known(line.alloc, order, choice.feature, choice.value),
             _ => why_conflict(line.alloc, order, choice.feature, choice.value),
         };
         put_why(order, found, line);
@@ -221,14 +221,14 @@ fn ask_fewer(
 /// Asks about two words: a choice or the number of a decision, and a vertex.
 fn ask_of_two(
     order: &Order,
-    asked: Asked,
+    asked: RowInquiry,
     which: Option<Which>,
     words: &str,
     limits: Limits,
     line: &mut Line,
 ) {
     match (words.split_once(' '), asked) {
-        (Some((choice, word)), Asked::Offer) => ask_offer(order, choice, word, limits, line),
+        (Some((choice, word)), RowInquiry::Offer) => ask_offer(order, choice, word, limits, line),
         (Some((number, word)), _) => ask_fewer(order, which, number, word, limits, line),
         (None, _) => line.put("vertex"),
     }
@@ -237,7 +237,7 @@ fn ask_of_two(
 /// Asks of products.
 fn ask_of_products(
     order: &Order,
-    asked: Asked,
+    asked: RowInquiry,
     which: Option<Which>,
     word: &str,
     limits: Limits,
@@ -245,9 +245,9 @@ fn ask_of_products(
 ) {
     if let Some(aim) = aim_of(order, which, word, line) {
         match asked {
-            Asked::Lost => put_why_lost(order, why_lost(line.alloc, order, aim, limits), line),
-            Asked::Example => put_found(order, find(line.alloc, order, aim, limits), line),
-            Asked::Needs => put_demand(order, needs(line.alloc, order, aim, limits), line),
+            RowInquiry::Lost => put_why_lost(order, why_lost(line.alloc, order, aim, limits), line),
+            RowInquiry::Example => put_found(order, find(line.alloc, order, aim, limits), line),
+            RowInquiry::Needs => put_demand(order, needs(line.alloc, order, aim, limits), line),
             _ => line.put("word"),
         }
     }
@@ -258,9 +258,11 @@ pub(crate) fn ask(order: &Order, word: &str, words: &str, limits: Limits, line: 
     let (asked, which) = asked_of(word);
     let table = which.unwrap_or(Which::Hopeful);
     match asked {
-        Asked::Why | Asked::Repair => ask_vertex(order, asked, table, words, limits, line),
-        Asked::Known | Asked::Against => ask_choice(order, asked, words, line),
-        Asked::Offer | Asked::Without | Asked::Stays => {
+        RowInquiry::Why | RowInquiry::Repair => ask_vertex(
+            order, asked, table, words, limits, line,
+        ),
+        RowInquiry::Known | RowInquiry::Against => ask_choice(order, asked, words, line),
+        RowInquiry::Offer | RowInquiry::Without | RowInquiry::Stays => {
             ask_of_two(order, asked, which, words, limits, line)
         }
         _ => ask_of_products(order, asked, which, words, limits, line),

@@ -9,7 +9,7 @@
 //! - `same DIAGRAM ~ DIAGRAM` asks whether both are the same.
 //! - `most-rules` is answered how many rules a diagram may have.
 
-use crate::asked::Asked;
+use crate::asked::RowQuestion;
 use crate::line::Line;
 use crate::text::two_of;
 use vpg_diagram::{Clause, Count, Diagram, MOST_RULES};
@@ -101,13 +101,13 @@ fn put_all_products(diagram: &Diagram, line: &mut Line) {
 }
 
 /// Writes the answer to a question about a diagram.
-fn put(asked: &Asked, diagram: &Diagram, line: &mut Line) {
+fn put(asked: &RowQuestion, diagram: &Diagram, line: &mut Line) {
     match asked {
-        Asked::Read => line.put("read"),
-        Asked::Names => put_names(diagram.names(), line),
-        Asked::Products => put_all_products(diagram, line),
-        Asked::Clauses => put_clauses(diagram, line),
-        Asked::Counts => put_counts(diagram, line),
+        RowQuestion::Read => line.put("read"),
+        RowQuestion::Names => put_names(diagram.names(), line),
+        RowQuestion::Products => put_all_products(diagram, line),
+        RowQuestion::Clauses => put_clauses(diagram, line),
+        RowQuestion::Counts => put_counts(diagram, line),
         _ => line.put("no such word"),
     }
 }
@@ -124,7 +124,7 @@ pub(crate) fn diagram_of(text: &[u8], line: &mut Line) -> Option<Diagram> {
 }
 
 /// Answers a row of one diagram.
-fn told(asked: &Asked, text: &[u8], line: &mut Line) {
+fn told(asked: &RowQuestion, text: &[u8], line: &mut Line) {
     if let Some(diagram) = diagram_of(text, line) {
         put(asked, &diagram, line);
     }
@@ -141,10 +141,10 @@ fn compared(text: &[u8], line: &mut Line) {
 }
 
 /// Answers a row.
-pub(crate) fn answer(asked: &Asked, text: &[u8], line: &mut Line) {
+pub(crate) fn answer(asked: &RowQuestion, text: &[u8], line: &mut Line) {
     match asked {
-        Asked::Same => compared(text, line),
-        Asked::MostRules => line.show(&MOST_RULES),
+        RowQuestion::Same => compared(text, line),
+        RowQuestion::MostRules => line.show(&MOST_RULES),
         _ => told(asked, text, line),
     }
 }

@@ -14,7 +14,7 @@
 //! - `odd-counts N..` is answered how many of the priorities are 0, 1 and so on; an even one is counted as none.
 //! - `top N..` is answered the top of these priorities.
 
-use crate::asked::Asked;
+use crate::asked::RowQuestion;
 use crate::line::Line;
 use crate::text::{number_of, numbers_of, two_of};
 use vpg_game::{Edge, GuardedGame, odd_counts, top_within_limit};
@@ -108,15 +108,15 @@ fn put_tops(game: &GuardedGame, line: &mut Line) {
 }
 
 /// Writes the answer to a question about a game.
-fn put(names: &Names, asked: &Asked, game: &GuardedGame, line: &mut Line) {
+fn put(names: &Names, asked: &RowQuestion, game: &GuardedGame, line: &mut Line) {
     match asked {
-        Asked::Read => line.put("read"),
-        Asked::Write => put_game(names, game, line),
-        Asked::Dual => put_dual(names, game, line),
-        Asked::DualOfDual => put_duals(names, game, line),
-        Asked::Look => put_vertices(game, line),
-        Asked::Sizes => put_sizes(game, line),
-        Asked::Tops => put_tops(game, line),
+        RowQuestion::Read => line.put("read"),
+        RowQuestion::Write => put_game(names, game, line),
+        RowQuestion::Dual => put_dual(names, game, line),
+        RowQuestion::DualOfDual => put_duals(names, game, line),
+        RowQuestion::Look => put_vertices(game, line),
+        RowQuestion::Sizes => put_sizes(game, line),
+        RowQuestion::Tops => put_tops(game, line),
         _ => line.put("no such word"),
     }
 }
@@ -133,7 +133,7 @@ pub(crate) fn game_of(names: &Names, text: &[u8], line: &mut Line) -> Option<Gua
 }
 
 /// Answers a row of one game.
-fn told(names: &Names, asked: &Asked, text: &[u8], line: &mut Line) {
+fn told(names: &Names, asked: &RowQuestion, text: &[u8], line: &mut Line) {
     if let Some(game) = game_of(names, text, line) {
         put(names, asked, &game, line);
     }
@@ -147,11 +147,11 @@ fn put_same(names: &Names, game: &GuardedGame, text: &[u8], line: &mut Line) {
 }
 
 /// Answers a row of two parts: the question of its first about the game of its second.
-fn paired(names: &Names, asked: &Asked, text: &[u8], line: &mut Line) {
+fn paired(names: &Names, asked: &RowQuestion, text: &[u8], line: &mut Line) {
     let (first, second) = two_of(text);
     if let Some(game) = game_of(names, second, line) {
         match asked {
-            Asked::Find => line.debug(&game.find(number_of(first))),
+            RowQuestion::Find => line.debug(&game.find(number_of(first))),
             _ => put_same(names, &game, first, line),
         }
     }
@@ -174,19 +174,19 @@ fn put_top(priorities: &[u32], line: &mut Line) {
 }
 
 /// Answers a row of priorities.
-fn counted(asked: &Asked, text: &[u8], line: &mut Line) {
+fn counted(asked: &RowQuestion, text: &[u8], line: &mut Line) {
     let priorities = numbers_of(text, line);
     match asked {
-        Asked::Top => put_top(&priorities, line),
+        RowQuestion::Top => put_top(&priorities, line),
         _ => put_counts(&priorities, line),
     }
 }
 
 /// Answers a row.
-pub(crate) fn answer(names: &Names, asked: &Asked, text: &[u8], line: &mut Line) {
+pub(crate) fn answer(names: &Names, asked: &RowQuestion, text: &[u8], line: &mut Line) {
     match asked {
-        Asked::Top | Asked::OddCounts => counted(asked, text, line),
-        Asked::Find | Asked::Same => paired(names, asked, text, line),
+        RowQuestion::Top | RowQuestion::OddCounts => counted(asked, text, line),
+        RowQuestion::Find | RowQuestion::Same => paired(names, asked, text, line),
         _ => told(names, asked, text, line),
     }
 }

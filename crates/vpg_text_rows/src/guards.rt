@@ -12,7 +12,7 @@ ghost use Rattle.std.specs.Prelude.{IfSome, length};
 ghost use Rattle.vpg_guards.specs.Formula.{IsBelow};
 ghost use Rattle.vpg_guards.specs.View.{formula_of};
 
-use crate::asked::Asked;
+use crate::asked::RowQuestion;
 use crate::line::Line;
 use crate::text::{set_of, two_of};
 use vpg_guards::{Guard, Guards, Names, Tri, parse_guard};
@@ -71,22 +71,22 @@ fn put_truth(names: &Names, signs: &[u8], guard: &Guard, line: &mut Line)
 }
 
 /// Writes the answer to a question about a guard.
-fn put(names: &Names, asked: &Asked, signs: &[u8], guard: &Guard, line: &mut Line)
+fn put(names: &Names, asked: &RowQuestion, signs: &[u8], guard: &Guard, line: &mut Line)
     requires { IsBelow (length names.now) (formula_of guard.now) }
 {
     match asked {
-        Asked::Read => line.put("read"),
-        Asked::Write => {
+        RowQuestion::Read => line.put("read"),
+        RowQuestion::Write => {
             let done = guard.write(line.alloc, names, &mut line.text).is_ok();
             line.note(done);
         }
-        Asked::Known => put_value(names, signs, guard, line),
+        RowQuestion::Known => put_value(names, signs, guard, line),
         _ => put_truth(names, signs, guard, line),
     }
 }
 
 /// Answers a row of one guard.
-fn told(names: &Names, asked: &Asked, signs: &[u8], text: &[u8], line: &mut Line) {
+fn told(names: &Names, asked: &RowQuestion, signs: &[u8], text: &[u8], line: &mut Line) {
     if let Some(guard) = guard_of(names, text, line) {
         put(names, asked, signs, &guard, line);
     }
@@ -105,9 +105,9 @@ fn and_itself(guard: Guard, line: &mut Line) -> Option<Guard> {
 }
 
 /// Returns two guards joined by `or`, or by an `and` of a list, which goes through both forms of a list.
-fn joined(asked: &Asked, guard: Guard, other: Guard, line: &mut Line) -> Option<Guard> {
+fn joined(asked: &RowQuestion, guard: Guard, other: Guard, line: &mut Line) -> Option<Guard> {
     match asked {
-        Asked::Or => {
+        RowQuestion::Or => {
             let made = guard.or(line.alloc, other);
             line.kept(made)
         }
@@ -121,10 +121,16 @@ fn joined(asked: &Asked, guard: Guard, other: Guard, line: &mut Line) -> Option<
 }
 
 /// Returns the guard that a row makes of a guard, and of another if it has one.
-fn made(names: &Names, asked: &Asked, guard: Guard, text: &[u8], line: &mut Line) -> Option<Guard> {
+fn made(
+    names: &Names,
+    asked: &RowQuestion,
+    guard: Guard,
+    text: &[u8],
+    line: &mut Line,
+) -> Option<Guard> {
     match asked {
-        Asked::Same => Some(guard),
-        Asked::Twice => and_itself(guard, line),
+        RowQuestion::Same => Some(guard),
+        RowQuestion::Twice => and_itself(guard, line),
         _ => match guard_of(names, text, line) {
             Some(other) => joined(asked, guard, other, line),
             None => None,
@@ -135,7 +141,7 @@ fn made(names: &Names, asked: &Asked, guard: Guard, text: &[u8], line: &mut Line
 /// Writes whether a text spells the guard that a row makes of a guard.
 fn put_same(
     names: &Names,
-    asked: &Asked,
+    asked: &RowQuestion,
     first: &[u8],
     guard: Guard,
     text: &[u8],
@@ -149,7 +155,7 @@ fn put_same(
 }
 
 /// Answers whether a text spells the guard that a row makes.
-fn compared(names: &Names, asked: &Asked, first: &[u8], rest: &[u8], line: &mut Line) {
+fn compared(names: &Names, asked: &RowQuestion, first: &[u8], rest: &[u8], line: &mut Line) {
     let (one, other) = two_of(rest);
     if let Some(guard) = guard_of(names, one, line) {
         put_same(names, asked, first, guard, other, line);
@@ -157,11 +163,11 @@ fn compared(names: &Names, asked: &Asked, first: &[u8], rest: &[u8], line: &mut 
 }
 
 /// Answers a row.
-pub(crate) fn answer(names: &Names, asked: &Asked, text: &[u8], line: &mut Line) {
+pub(crate) fn answer(names: &Names, asked: &RowQuestion, text: &[u8], line: &mut Line) {
     let (first, rest) = two_of(text);
     match asked {
-        Asked::Read | Asked::Write => told(names, asked, b"", text, line),
-        Asked::Known | Asked::Holds => told(names, asked, first, rest, line),
+        RowQuestion::Read | RowQuestion::Write => told(names, asked, b"", text, line),
+        RowQuestion::Known | RowQuestion::Holds => told(names, asked, first, rest, line),
         _ => compared(names, asked, first, rest, line),
     }
 }

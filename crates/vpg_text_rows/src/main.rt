@@ -33,7 +33,7 @@ mod putting;
 mod systems;
 mod text;
 
-use crate::asked::{Asked, asked_of};
+use crate::asked::{RowQuestion, asked_of};
 use crate::diagrams::diagram_of;
 use crate::line::Line;
 use crate::pages::{Page, blank, take};
@@ -78,7 +78,7 @@ const PAIR: &[u8] = b"root a\noptional a b\n";
 const FREE: &[u8] = b"root r\noptional r f\noptional r g\n";
 
 /// Writes the answer to a question about a text over a diagram.
-fn answer_over(diagram: &Diagram, table: Table, asked: &Asked, text: &[u8], line: &mut Line) {
+fn answer_over(diagram: &Diagram, table: Table, asked: &RowQuestion, text: &[u8], line: &mut Line) {
     match table {
         Table::Guards => guards::answer(diagram.names(), asked, text, line),
         Table::Games => games::answer(diagram.names(), asked, text, line),
@@ -98,7 +98,7 @@ fn diagram_below(table: Table) -> &'static [u8] {
 }
 
 /// Writes the answer to a question about a text.
-fn answer(table: Table, asked: &Asked, text: &[u8], line: &mut Line) {
+fn answer(table: Table, asked: &RowQuestion, text: &[u8], line: &mut Line) {
     match table {
         Table::Names => names::answer(asked, text, line),
         Table::Diagrams => diagrams::answer(asked, text, line),

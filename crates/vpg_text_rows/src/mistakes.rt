@@ -4,7 +4,7 @@
 //! - `diagram TEXT` is answered its mistake as a diagram.
 //! - `line TEXT` is answered its mistake as the second line of a script.
 
-use crate::asked::Asked;
+use crate::asked::RowQuestion;
 use crate::line::Line;
 use std::alloc::AllocError;
 use vpg_diagram::Diagram;
@@ -40,10 +40,10 @@ fn put_diagram(text: &[u8], line: &mut Line) {
 }
 
 /// Writes the message about the text of a row.
-pub(crate) fn answer(names: &Names, asked: &Asked, text: &[u8], line: &mut Line) {
+pub(crate) fn answer(names: &Names, asked: &RowQuestion, text: &[u8], line: &mut Line) {
     match asked {
-        Asked::Game => put_game(names, text, line),
-        Asked::Diagram => put_diagram(text, line),
+        RowQuestion::Game => put_game(names, text, line),
+        RowQuestion::Diagram => put_diagram(text, line),
         _ => put("script", explain_line(line.alloc, 2, text), line),
     }
 }

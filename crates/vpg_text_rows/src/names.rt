@@ -6,7 +6,7 @@
 //! - `at PLACE~NAME~..` is answered the name at the place.
 //! - `is NAME` asks whether it is the name of a feature.
 
-use crate::asked::Asked;
+use crate::asked::RowQuestion;
 use crate::line::Line;
 use crate::text::{number_of, parts_of, two_of};
 use vpg_guards::{NameFault, Names, is_feature_name};
@@ -21,16 +21,16 @@ fn put_answer(added: Result<u16, NameFault>, line: &mut Line) {
 }
 
 /// Whether the answer to a name is written, with this many names after it.
-fn is_written(asked: &Asked, behind: usize) -> bool {
+fn is_written(asked: &RowQuestion, behind: usize) -> bool {
     match asked {
-        Asked::Add => true,
-        Asked::Last => behind == 0,
+        RowQuestion::Add => true,
+        RowQuestion::Last => behind == 0,
         _ => false,
     }
 }
 
 /// Adds names, and writes the answers that are asked for.
-fn add_all(names: &mut Names, asked: &Asked, text: &[u8], line: &mut Line) {
+fn add_all(names: &mut Names, asked: &RowQuestion, text: &[u8], line: &mut Line) {
     let parts = parts_of(text, b'~', line);
     let mut behind = parts.len();
     for name in &parts {
@@ -43,7 +43,7 @@ fn add_all(names: &mut Names, asked: &Asked, text: &[u8], line: &mut Line) {
 }
 
 /// Adds names, and writes the answers that are asked for, and how many there are.
-fn put_added(names: &mut Names, asked: &Asked, text: &[u8], line: &mut Line) {
+fn put_added(names: &mut Names, asked: &RowQuestion, text: &[u8], line: &mut Line) {
     add_all(names, asked, text, line);
     line.show(&names.len());
     line.put(if names.is_empty() {
@@ -63,26 +63,26 @@ fn put_name(names: &Names, place: u32, line: &mut Line) {
 }
 
 /// Adds all names except the first, and looks that up.
-fn put_found(names: &mut Names, asked: &Asked, text: &[u8], line: &mut Line) {
+fn put_found(names: &mut Names, asked: &RowQuestion, text: &[u8], line: &mut Line) {
     let (word, others) = two_of(text);
     add_all(names, asked, others, line);
     match asked {
-        Asked::Get => line.debug(&names.get(word)),
+        RowQuestion::Get => line.debug(&names.get(word)),
         _ => put_name(names, number_of(word), line),
     }
 }
 
 /// Answers a row, beginning with no names.
-fn put(names: &mut Names, asked: &Asked, text: &[u8], line: &mut Line) {
+fn put(names: &mut Names, asked: &RowQuestion, text: &[u8], line: &mut Line) {
     match asked {
-        Asked::Is => line.put_yes_or_no(is_feature_name(text)),
-        Asked::Get | Asked::At => put_found(names, asked, text, line),
+        RowQuestion::Is => line.put_yes_or_no(is_feature_name(text)),
+        RowQuestion::Get | RowQuestion::At => put_found(names, asked, text, line),
         _ => put_added(names, asked, text, line),
     }
 }
 
 /// Answers a row.
-pub(crate) fn answer(asked: &Asked, text: &[u8], line: &mut Line) {
+pub(crate) fn answer(asked: &RowQuestion, text: &[u8], line: &mut Line) {
     let made = Names::new(line.alloc);
     if let Some(mut names) = line.kept(made) {
         put(&mut names, asked, text, line);

@@ -6,7 +6,7 @@
 //!   each transition the numbers of its source, its action and its target.
 //! - `find NAME~SYSTEM` is answered the number of the action of that name.
 
-use crate::asked::Asked;
+use crate::asked::RowQuestion;
 use crate::line::Line;
 use crate::text::two_of;
 use vpg_guards::Names;
@@ -49,11 +49,11 @@ fn put_numbers(system: &System, line: &mut Line) {
 }
 
 /// Writes the answer to a question about a system.
-fn put(names: &Names, asked: &Asked, system: &System, line: &mut Line) {
+fn put(names: &Names, asked: &RowQuestion, system: &System, line: &mut Line) {
     match asked {
-        Asked::Read => line.put("read"),
-        Asked::Write => put_system(names, system, line),
-        Asked::Look => put_numbers(system, line),
+        RowQuestion::Read => line.put("read"),
+        RowQuestion::Write => put_system(names, system, line),
+        RowQuestion::Look => put_numbers(system, line),
         _ => line.put("no such word"),
     }
 }
@@ -70,7 +70,7 @@ fn system_of(names: &Names, text: &[u8], line: &mut Line) -> Option<System> {
 }
 
 /// Answers a row of a system.
-fn told(names: &Names, asked: &Asked, text: &[u8], line: &mut Line) {
+fn told(names: &Names, asked: &RowQuestion, text: &[u8], line: &mut Line) {
     if let Some(system) = system_of(names, text, line) {
         put(names, asked, &system, line);
     }
@@ -85,9 +85,9 @@ fn found(names: &Names, text: &[u8], line: &mut Line) {
 }
 
 /// Answers a row.
-pub(crate) fn answer(names: &Names, asked: &Asked, text: &[u8], line: &mut Line) {
+pub(crate) fn answer(names: &Names, asked: &RowQuestion, text: &[u8], line: &mut Line) {
     match asked {
-        Asked::Find => found(names, text, line),
+        RowQuestion::Find => found(names, text, line),
         _ => told(names, asked, text, line),
     }
 }

@@ -21,7 +21,7 @@ impl<L: Terms> Drop for Seat<L> {
 }
 
 /// The token of the change that was made or undone last, until it is spent.
-pub(crate) enum Held<L: Terms> {
+pub(crate) enum HeldToken<L: Terms> {
     Nothing,
     Undo(Undo<L>),
     Redo(Redo<L>),
@@ -29,7 +29,7 @@ pub(crate) enum Held<L: Terms> {
 
 /// A call of a session, or of its office.
 #[derive(Clone, Copy)]
-pub(crate) enum Call {
+pub(crate) enum OfficeCall {
     Decide(u16, bool),
     Retract(u16),
     Undo,
@@ -58,17 +58,17 @@ pub(crate) enum Call {
     End(usize),
 }
 
-impl Call {
+impl OfficeCall {
     /// Whether the call gives a token or spends one.
     pub(crate) fn is_of_tokens(self) -> bool {
         matches!(
             self,
-            Call::Decide(..)
-                | Call::Retract(_)
-                | Call::Undo
-                | Call::Redo
-                | Call::Keep
-                | Call::Forget
+            OfficeCall::Decide(..)
+                | OfficeCall::Retract(_)
+                | OfficeCall::Undo
+                | OfficeCall::Redo
+                | OfficeCall::Keep
+                | OfficeCall::Forget
         )
     }
 
@@ -77,14 +77,18 @@ impl Call {
         self.is_of_tokens()
             || matches!(
                 self,
-                Call::Order | Call::Commit | Call::Settled | Call::Verdict | Call::Page
+                OfficeCall::Order
+                    | OfficeCall::Commit
+                    | OfficeCall::Settled
+                    | OfficeCall::Verdict
+                    | OfficeCall::Page
             )
     }
 
     /// Returns the number of tokens that are held as the office is ended or closed.
     pub(crate) fn tokens(self) -> usize {
         match self {
-            Call::End(tokens) => tokens,
+            OfficeCall::End(tokens) => tokens,
             _ => 0,
         }
     }
@@ -107,28 +111,28 @@ pub(crate) fn end_of<L: Terms, F: Drop>(fault: Fault<L, F>) -> End {
 }
 
 /// Returns the serial of the token that is held.
-pub(crate) fn serial_of<L: Terms>(held: &Held<L>) -> Option<u64> {
+pub(crate) fn serial_of<L: Terms>(held: &HeldToken<L>) -> Option<u64> {
     match held {
-        Held::Nothing => None,
-        Held::Undo(token) => Some(token.serial()),
-        Held::Redo(token) => Some(token.serial()),
+        HeldToken::Nothing => None,
+        HeldToken::Undo(token) => Some(token.serial()),
+        HeldToken::Redo(token) => Some(token.serial()),
     }
 }
 
 /// Returns the call that spends the token that is held.
-fn spending<L: Terms>(held: &Held<L>) -> Option<Call> {
+fn spending<L: Terms>(held: &HeldToken<L>) -> Option<OfficeCall> {
     match held {
-        Held::Nothing => None,
-        Held::Undo(_) => Some(Call::Keep),
-        Held::Redo(_) => Some(Call::Forget),
+        HeldToken::Nothing => None,
+        HeldToken::Undo(_) => Some(OfficeCall::Keep),
+        HeldToken::Redo(_) => Some(OfficeCall::Forget),
     }
 }
 
 /// Returns the token of a change, and the call's end.
-fn changed<L: Terms, F: Drop>(answer: Result<Undo<L>, Fault<L, F>>) -> (Held<L>, End) {
+fn changed<L: Terms, F: Drop>(answer: Result<Undo<L>, Fault<L, F>>) -> (HeldToken<L>, End) {
     match answer {
-        Ok(token) => (Held::Undo(token), End::Done),
-        Err(fault) => (Held::Nothing, end_of(fault)),
+        Ok(token) => (HeldToken::Undo(token), End::Done),
+        Err(fault) => (HeldToken::Nothing, end_of(fault)),
     }
 }
 
@@ -139,39 +143,41 @@ pub(crate) fn made<L: Terms, R: Wait>(
     alloc: Global,
     office: &Office<L>,
     seat: &mut Seat<L>,
-    held: Held<L>,
-    call: Call,
-) -> (Held<L>, End) {
+    held: HeldToken<L>,
+    call: OfficeCall,
+) -> (HeldToken<L>, End) {
     let Seat { session, front } = seat;
     match held {
-        Held::Nothing => match call {
-            Call::Decide(feature, value) => {
+        HeldToken::Nothing => match call {
+            OfficeCall::Decide(feature, value) => {
                 changed(session.decide(rt, alloc, office, front, feature, value))
             }
-            Call::Retract(feature) => changed(session.retract(rt, alloc, office, front, feature)),
-            _ => (Held::Nothing, End::Otherwise),
+            OfficeCall::Retract(feature) => changed(session.retract(
+                rt, alloc, office, front, feature,
+            )),
+            _ => (HeldToken::Nothing, End::Otherwise),
         },
-        Held::Undo(token) => match call {
-            Call::Undo => match session.undo(rt, alloc, office, front, token) {
-                Ok(token) => (Held::Redo(token), End::Done),
-                Err(Returned { fault, value }) => (Held::Undo(value), end_of(fault)),
+        HeldToken::Undo(token) => match call {
+            OfficeCall::Undo => match session.undo(rt, alloc, office, front, token) {
+                Ok(token) => (HeldToken::Redo(token), End::Done),
+                Err(Returned { fault, value }) => (HeldToken::Undo(value), end_of(fault)),
             },
-            Call::Keep => match session.keep(rt, office, front, token) {
-                Ok(()) => (Held::Nothing, End::Done),
-                Err(Returned { fault, value }) => (Held::Undo(value), end_of(fault)),
+            OfficeCall::Keep => match session.keep(rt, office, front, token) {
+                Ok(()) => (HeldToken::Nothing, End::Done),
+                Err(Returned { fault, value }) => (HeldToken::Undo(value), end_of(fault)),
             },
-            _ => (Held::Undo(token), End::Otherwise),
+            _ => (HeldToken::Undo(token), End::Otherwise),
         },
-        Held::Redo(token) => match call {
-            Call::Redo => match session.redo(rt, alloc, office, front, token) {
-                Ok(token) => (Held::Undo(token), End::Done),
-                Err(Returned { fault, value }) => (Held::Redo(value), end_of(fault)),
+        HeldToken::Redo(token) => match call {
+            OfficeCall::Redo => match session.redo(rt, alloc, office, front, token) {
+                Ok(token) => (HeldToken::Undo(token), End::Done),
+                Err(Returned { fault, value }) => (HeldToken::Redo(value), end_of(fault)),
             },
-            Call::Forget => match session.forget(rt, office, front, token) {
-                Ok(()) => (Held::Nothing, End::Done),
-                Err(Returned { fault, value }) => (Held::Redo(value), end_of(fault)),
+            OfficeCall::Forget => match session.forget(rt, office, front, token) {
+                Ok(()) => (HeldToken::Nothing, End::Done),
+                Err(Returned { fault, value }) => (HeldToken::Redo(value), end_of(fault)),
             },
-            _ => (Held::Redo(token), End::Otherwise),
+            _ => (HeldToken::Redo(token), End::Otherwise),
         },
     }
 }
@@ -182,8 +188,8 @@ pub(crate) fn spent<L: Terms, R: Wait>(
     alloc: Global,
     office: &Office<L>,
     seat: &mut Seat<L>,
-    held: Held<L>,
-) -> Held<L> {
+    held: HeldToken<L>,
+) -> HeldToken<L> {
     match spending(&held) {
         Some(call) => made(rt, alloc, office, seat, held, call).0,
         None => held,

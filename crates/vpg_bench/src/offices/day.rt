@@ -1,7 +1,7 @@
 //! A day of two sessions of one office, each in a thread of its own: one lifts while the other decides. Then the page
 //! is settled, and the decision is undone by its token.
 
-use crate::offices::calls::{Call, Held, Seat, end_of, joined, made};
+use crate::offices::calls::{HeldToken, OfficeCall, Seat, end_of, joined, made};
 use crate::offices::watcher::is_read;
 use crate::offices::{Done, Left, Stopped};
 use std::alloc::Global;
@@ -58,7 +58,7 @@ fn works<L: Terms + Send + Sync, R: Threads + Wait + Sync>(
     office: &Office<L>,
     lifter: Seat<L>,
     decider: &mut Seat<L>,
-) -> (Option<u32>, (Held<L>, End)) {
+) -> (Option<u32>, (HeldToken<L>, End)) {
     let (lifted, decided) = join(
         rt,
         || lifts_once(rt, alloc, office, lifter),
@@ -68,8 +68,8 @@ fn works<L: Terms + Send + Sync, R: Threads + Wait + Sync>(
                 alloc,
                 office,
                 decider,
-                Held::Nothing,
-                Call::Decide(FEATURE, false),
+                HeldToken::Nothing,
+                OfficeCall::Decide(FEATURE, false),
             )
         },
     );
@@ -83,16 +83,16 @@ fn settles_and_undoes<L: Terms, R: Wait>(
     alloc: Global,
     office: &Office<L>,
     seat: &mut Seat<L>,
-    held: Held<L>,
+    held: HeldToken<L>,
     seen: &AtomicU64,
-) -> (Held<L>, Option<Stopped>) {
+) -> (HeldToken<L>, Option<Stopped>) {
     if lifts(rt, alloc, office, seat).is_none() {
         return (held, Some(Stopped::Refused));
     }
     if !is_read(seen, seat.front.len()) {
         return (held, Some(Stopped::Unseen));
     }
-    let (held, _) = made(rt, alloc, office, seat, held, Call::Undo);
+    let (held, _) = made(rt, alloc, office, seat, held, OfficeCall::Undo);
     let stopped = if !is_undone(&held) {
         Some(Stopped::Refused)
     } else if !is_read(seen, seat.front.len()) {
@@ -104,8 +104,8 @@ fn settles_and_undoes<L: Terms, R: Wait>(
 }
 
 /// Whether a decision was undone.
-fn is_undone<L: Terms>(held: &Held<L>) -> bool {
-    matches!(held, Held::Redo(_))
+fn is_undone<L: Terms>(held: &HeldToken<L>) -> bool {
+    matches!(held, HeldToken::Redo(_))
 }
 
 /// Returns the result of the work of two.
@@ -147,13 +147,13 @@ pub(crate) fn work_in_two<L: Terms + Send + Sync, R: Threads + Wait + Sync>(
     seen: &AtomicU64,
 ) -> Left<L> {
     if !is_read(seen, 0) {
-        return (Err(Stopped::Unseen), Held::Nothing);
+        return (Err(Stopped::Unseen), HeldToken::Nothing);
     }
     match joined(rt, office) {
         Some(lifter) => match joined(rt, office) {
             Some(mut decider) => work_of(rt, alloc, office, lifter, &mut decider, seen),
-            None => (Err(Stopped::Refused), Held::Nothing),
+            None => (Err(Stopped::Refused), HeldToken::Nothing),
         },
-        None => (Err(Stopped::Refused), Held::Nothing),
+        None => (Err(Stopped::Refused), HeldToken::Nothing),
     }
 }

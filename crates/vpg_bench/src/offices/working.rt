@@ -1,5 +1,5 @@
 //! Sessions at work.
-use crate::offices::calls::{Call, Held, Seat, joined, made, spent};
+use crate::offices::calls::{HeldToken, OfficeCall, Seat, joined, made, spent};
 use crate::offices::reading::{Shown, read_on, show};
 use crate::offices::{Done, How, Task};
 use std::alloc::Global;
@@ -28,12 +28,12 @@ fn spend<L: Terms, R: Wait>(
     alloc: Global,
     office: &Office<L>,
     seat: &mut Seat<L>,
-    held: Held<L>,
+    held: HeldToken<L>,
 ) {
     let mut held = held;
     for _ in rt.forever() {
         held = match held {
-            Held::Nothing => return,
+            HeldToken::Nothing => return,
             held => spent(rt, alloc, office, seat, held),
         };
     }
@@ -89,11 +89,11 @@ pub struct Job<L: Terms> {
 }
 
 /// Returns the call of a step.
-fn call_of(step: Step, feature: u16) -> Call {
+fn call_of(step: Step, feature: u16) -> OfficeCall {
     match step {
-        Step::Decide => Call::Decide(feature, true),
-        Step::Retract => Call::Retract(feature),
-        _ => Call::Undo,
+        Step::Decide => OfficeCall::Decide(feature, true),
+        Step::Retract => OfficeCall::Retract(feature),
+        _ => OfficeCall::Undo,
     }
 }
 
@@ -108,7 +108,7 @@ fn round<L: Terms, R: Wait>(
     feature: u16,
     shown: &Shown<L>,
 ) {
-    let mut held = Held::Nothing;
+    let mut held = HeldToken::Nothing;
     for step in steps {
         held = match step {
             Step::Show => {
@@ -118,7 +118,7 @@ fn round<L: Terms, R: Wait>(
             Step::Spend => {
                 spend(rt, alloc, office, seat, held);
                 job.places.note(seat.front.len());
-                Held::Nothing
+                HeldToken::Nothing
             }
             _ => {
                 let call = call_of(*step, feature);

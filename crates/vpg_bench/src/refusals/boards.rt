@@ -11,7 +11,7 @@ use vpg_board::{Board, Gate, OpenGate, Seat, sweep};
 use vpg_diagram::Diagram;
 use vpg_game::GuardedGame;
 use vpg_measure::Order;
-use vpg_scarce::{End, Heap, MOST_TRIES, Report, Told, more};
+use vpg_scarce::{End, Finding, Heap, MOST_TRIES, Report, more};
 use vpg_verdict::Which;
 
 /// More memory than a sweep by two lifters takes, hints and all.
@@ -77,9 +77,9 @@ fn worked_through<R: Threads + Wait + Sync>(
     order: Order,
     work: Work,
     most: usize,
-) -> (Order, Told) {
+) -> (Order, Finding) {
     let mut order = order;
-    let mut told = Told::TakesNone;
+    let mut told = Finding::TakesNone;
     let mut bytes = 0;
     for _ in 0..MOST_TRIES {
         let before = both_values(&order);
@@ -88,13 +88,13 @@ fn worked_through<R: Threads + Wait + Sync>(
         match end {
             End::Done if bytes >= most || heap.is_marked() => return (order, told),
             End::Done => {}
-            End::Memory if both_values(&order) == before => told = Told::Unchanged,
-            End::Memory => return (order, Told::Changed),
-            End::Otherwise => return (order, Told::Otherwise),
+            End::Memory if both_values(&order) == before => told = Finding::Unchanged,
+            End::Memory => return (order, Finding::Changed),
+            End::Otherwise => return (order, Finding::Otherwise),
         }
         bytes = more(bytes);
     }
-    (order, Told::Never)
+    (order, Finding::Never)
 }
 
 /// Claims a vertex and lifts it: whether it is this one, and the answer of the lift this.

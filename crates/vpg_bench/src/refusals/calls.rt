@@ -27,9 +27,9 @@ use vpg_partial::Partial;
 use vpg_scarce::{End, Heap, Report, Trial};
 use vpg_trail::Trail;
 
-/// A call.
+/// A call of a game and a diagram.
 #[derive(Clone, Copy)]
-enum Call {
+enum FamilyCall {
     NewNames,
     ReadGuard,
     ReadDiagram,
@@ -63,42 +63,45 @@ enum Call {
 
 /// The calls, those of a trail one after another. Those that ask take no memory: their answers are compared without
 /// any.
-const CALLS: &[(&str, Call)] = &[
-    ("Names::add", Call::AddName),
-    ("Names::new", Call::NewNames),
-    ("parse_guard", Call::ReadGuard),
-    ("Diagram::read", Call::ReadDiagram),
-    ("GuardedGame::read", Call::ReadGame),
-    ("parse_guard and Guard::write", Call::WriteGuard),
-    ("GuardedGame::write", Call::WriteGame),
-    ("GuardedGame::dual", Call::Dual),
-    ("project", Call::Project),
-    ("PlainGame::write", Call::WritePlain),
-    ("Partial::close", Call::Known),
-    ("Partial::product", Call::Product),
-    ("Arena::hopeful", Call::Arena),
-    ("Shape::of", Call::Shape),
-    ("Table::zero", Call::Zeros),
-    ("Table::copy", Call::Copy),
-    ("strategy", Call::Strategy),
-    ("Names::len, get, name", Call::AskNames),
+const CALLS: &[(&str, FamilyCall)] = &[
+    ("Names::add", FamilyCall::AddName),
+    ("Names::new", FamilyCall::NewNames),
+    ("parse_guard", FamilyCall::ReadGuard),
+    ("Diagram::read", FamilyCall::ReadDiagram),
+    ("GuardedGame::read", FamilyCall::ReadGame),
+    ("parse_guard and Guard::write", FamilyCall::WriteGuard),
+    ("GuardedGame::write", FamilyCall::WriteGame),
+    ("GuardedGame::dual", FamilyCall::Dual),
+    ("project", FamilyCall::Project),
+    ("PlainGame::write", FamilyCall::WritePlain),
+    ("Partial::close", FamilyCall::Known),
+    ("Partial::product", FamilyCall::Product),
+    ("Arena::hopeful", FamilyCall::Arena),
+    ("Shape::of", FamilyCall::Shape),
+    ("Table::zero", FamilyCall::Zeros),
+    ("Table::copy", FamilyCall::Copy),
+    ("strategy", FamilyCall::Strategy),
+    ("Names::len, get, name", FamilyCall::AskNames),
     (
         "Diagram::names, is_product, clauses, counts",
-        Call::AskDiagram,
+        FamilyCall::AskDiagram,
     ),
     (
         "GuardedGame::vertices, features, id, find, owner, priority, edges, tops",
-        Call::AskGame,
+        FamilyCall::AskGame,
     ),
-    ("Partial::value, is_full", Call::AskKnown),
-    ("Arena::kept", Call::AskArena),
-    ("Shape::top, prog, lift, is_progress", Call::AskMeasures),
-    ("settle_alone, Table::get, set", Call::Settle),
-    ("Order::of", Call::Order),
-    ("Trail::open", Call::OpenTrail),
-    ("Trail::append", Call::Append),
-    ("Trail::splice", Call::Splice),
-    ("Trail::entries, tables, level", Call::Look),
+    ("Partial::value, is_full", FamilyCall::AskKnown),
+    ("Arena::kept", FamilyCall::AskArena),
+    (
+        "Shape::top, prog, lift, is_progress",
+        FamilyCall::AskMeasures,
+    ),
+    ("settle_alone, Table::get, set", FamilyCall::Settle),
+    ("Order::of", FamilyCall::Order),
+    ("Trail::open", FamilyCall::OpenTrail),
+    ("Trail::append", FamilyCall::Append),
+    ("Trail::splice", FamilyCall::Splice),
+    ("Trail::entries, tables, level", FamilyCall::Look),
 ];
 
 /// The parts that the calls are made of, beside a game and a diagram.
@@ -157,7 +160,7 @@ fn parts_of(alloc: Global, diagram: &Diagram, game: &GuardedGame) -> Option<Part
 /// A call, and the parts that it is made of.
 #[derive(Drop)]
 struct Calling<'t> {
-    call: Call,
+    call: FamilyCall,
     diagram: &'t Arc<Diagram>,
     game: &'t Arc<GuardedGame>,
     parts: &'t mut Parts,
@@ -166,41 +169,41 @@ struct Calling<'t> {
 /// Makes a call.
 fn made(
     alloc: Global,
-    call: Call,
+    call: FamilyCall,
     diagram: &Arc<Diagram>,
     game: &Arc<GuardedGame>,
     parts: &mut Parts,
 ) -> End {
     match call {
-        Call::NewNames => make_names(alloc),
-        Call::ReadGuard => read_guard(alloc, &parts.names),
-        Call::ReadDiagram => read_diagram(alloc),
-        Call::ReadGame => read_game(alloc, &parts.names),
-        Call::AddName => add_name(alloc, &mut parts.names),
-        Call::WriteGuard => write_guard(alloc, diagram.names(), &mut parts.out),
-        Call::WriteGame => write_game(alloc, game, diagram.names(), &mut parts.out),
-        Call::Dual => make_dual(alloc, game),
-        Call::Project => make_projection(alloc, game, diagram),
-        Call::WritePlain => write_plain(alloc, &parts.plain, &mut parts.out),
-        Call::Known => close(alloc, diagram),
-        Call::Product => make_product(alloc, &parts.known),
-        Call::Arena => make_arena(alloc, game, &parts.known),
-        Call::Shape => make_shape(alloc, game),
-        Call::Zeros => make_zeros(alloc, &parts.shape),
-        Call::Copy => copy_table(alloc, &parts.table),
-        Call::Strategy => make_strategy(alloc, &parts.shape, &parts.arena, &parts.table),
-        Call::AskNames => names_tell(diagram.names()),
-        Call::AskDiagram => diagram_tells(diagram, &parts.grouped),
-        Call::AskGame => game_tells(game),
-        Call::AskKnown => known_tells(&parts.known),
-        Call::AskArena => arena_tells(&parts.arena),
-        Call::AskMeasures => measures_tell(&parts.shape, &parts.arena, &parts.table),
-        Call::Settle => settles(&parts.shape, &parts.arena, &mut parts.zeros),
-        Call::Order => make_order(alloc, game, diagram, &mut parts.is_back),
-        Call::OpenTrail => open(alloc, &parts.shape, &parts.dual_shape),
-        Call::Append => append(&mut parts.trail),
-        Call::Splice => splice(alloc, &mut parts.trail),
-        Call::Look => look(&parts.trail),
+        FamilyCall::NewNames => make_names(alloc),
+        FamilyCall::ReadGuard => read_guard(alloc, &parts.names),
+        FamilyCall::ReadDiagram => read_diagram(alloc),
+        FamilyCall::ReadGame => read_game(alloc, &parts.names),
+        FamilyCall::AddName => add_name(alloc, &mut parts.names),
+        FamilyCall::WriteGuard => write_guard(alloc, diagram.names(), &mut parts.out),
+        FamilyCall::WriteGame => write_game(alloc, game, diagram.names(), &mut parts.out),
+        FamilyCall::Dual => make_dual(alloc, game),
+        FamilyCall::Project => make_projection(alloc, game, diagram),
+        FamilyCall::WritePlain => write_plain(alloc, &parts.plain, &mut parts.out),
+        FamilyCall::Known => close(alloc, diagram),
+        FamilyCall::Product => make_product(alloc, &parts.known),
+        FamilyCall::Arena => make_arena(alloc, game, &parts.known),
+        FamilyCall::Shape => make_shape(alloc, game),
+        FamilyCall::Zeros => make_zeros(alloc, &parts.shape),
+        FamilyCall::Copy => copy_table(alloc, &parts.table),
+        FamilyCall::Strategy => make_strategy(alloc, &parts.shape, &parts.arena, &parts.table),
+        FamilyCall::AskNames => names_tell(diagram.names()),
+        FamilyCall::AskDiagram => diagram_tells(diagram, &parts.grouped),
+        FamilyCall::AskGame => game_tells(game),
+        FamilyCall::AskKnown => known_tells(&parts.known),
+        FamilyCall::AskArena => arena_tells(&parts.arena),
+        FamilyCall::AskMeasures => measures_tell(&parts.shape, &parts.arena, &parts.table),
+        FamilyCall::Settle => settles(&parts.shape, &parts.arena, &mut parts.zeros),
+        FamilyCall::Order => make_order(alloc, game, diagram, &mut parts.is_back),
+        FamilyCall::OpenTrail => open(alloc, &parts.shape, &parts.dual_shape),
+        FamilyCall::Append => append(&mut parts.trail),
+        FamilyCall::Splice => splice(alloc, &mut parts.trail),
+        FamilyCall::Look => look(&parts.trail),
     }
 }
 
@@ -212,8 +215,8 @@ impl<R> Trial<R> for Calling<'_> {
     fn is_unchanged(&mut self, _rt: &R, _alloc: Global) -> bool {
         let parts = &*self.parts;
         let (names, entries) = match self.call {
-            Call::AddName => (10, 0),
-            Call::Splice => (11, 1),
+            FamilyCall::AddName => (10, 0),
+            FamilyCall::Splice => (11, 1),
             _ => (11, 0),
         };
         has_ten(&parts.names, names)
@@ -244,7 +247,7 @@ pub(crate) fn refuse_each<R: Wait>(
 ) -> Option<()> {
     let mut parts = parts_of(heap.alloc(), diagram, game)?;
     let mut calling = Calling {
-        call: Call::NewNames,
+        call: FamilyCall::NewNames,
         diagram,
         game,
         parts: &mut parts,

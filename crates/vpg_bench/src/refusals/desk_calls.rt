@@ -1,7 +1,7 @@
 //! Calls of a desk, as a table in the order in which they are made.
 
 use crate::refusals::desks::{open_on, seen_of, tells};
-use crate::refusals::held::{Held, forget, forgets, keep, let_go, nothing, wait_for_token};
+use crate::refusals::held::{Holdings, forget, forgets, keep, let_go, nothing, wait_for_token};
 use crate::refusals::{done_if, memory_if, told_of};
 use std::alloc::Global;
 use std::sync::{Arc, Wait};
@@ -19,9 +19,9 @@ const F: u16 = 1;
 
 const G: u16 = 2;
 
-/// A call.
+/// A call of a desk.
 #[derive(Clone, Copy)]
-enum Call {
+enum DeskCall {
     /// Opens another desk on the same game and diagram.
     Open,
     /// Decides a feature; the token is held.
@@ -45,36 +45,36 @@ enum Call {
 }
 
 /// The calls. One without a name is made with all memory, and nothing is said of it.
-const CALLS: &[(Option<&'static str>, Call)] = &[
-    (Some("Desk::open"), Call::Open),
-    (Some("Desk::decide"), Call::Decide(F, false)),
-    (Some("Desk::undo of a decision"), Call::Undo),
-    (Some("Desk::redo of a decision"), Call::Redo),
-    (None, Call::Keep),
-    (Some("Desk::order"), Call::Order),
-    (Some("Desk::page"), Call::Page),
-    (None, Call::Settle),
-    (Some("Desk::commit"), Call::Commit),
-    (Some("Desk::retract"), Call::Retract(F)),
-    (Some("Desk::undo of a retraction"), Call::Undo),
-    (Some("Desk::redo of a retraction"), Call::Redo),
-    (None, Call::Keep),
-    (None, Call::Decide(G, true)),
-    (None, Call::Undo),
-    (Some("Redo::serial, Desk::forget"), Call::Forget(3)),
-    (None, Call::Decide(G, true)),
-    (Some("Desk::settled, verdict, tokens"), Call::Tell),
+const CALLS: &[(Option<&'static str>, DeskCall)] = &[
+    (Some("Desk::open"), DeskCall::Open),
+    (Some("Desk::decide"), DeskCall::Decide(F, false)),
+    (Some("Desk::undo of a decision"), DeskCall::Undo),
+    (Some("Desk::redo of a decision"), DeskCall::Redo),
+    (None, DeskCall::Keep),
+    (Some("Desk::order"), DeskCall::Order),
+    (Some("Desk::page"), DeskCall::Page),
+    (None, DeskCall::Settle),
+    (Some("Desk::commit"), DeskCall::Commit),
+    (Some("Desk::retract"), DeskCall::Retract(F)),
+    (Some("Desk::undo of a retraction"), DeskCall::Undo),
+    (Some("Desk::redo of a retraction"), DeskCall::Redo),
+    (None, DeskCall::Keep),
+    (None, DeskCall::Decide(G, true)),
+    (None, DeskCall::Undo),
+    (Some("Redo::serial, Desk::forget"), DeskCall::Forget(3)),
+    (None, DeskCall::Decide(G, true)),
+    (Some("Desk::settled, verdict, tokens"), DeskCall::Tell),
 ];
 
-/// A call of a desk.
+/// A call, and the desk that it is made of.
 #[derive(Drop)]
 struct Calling<'t> {
-    call: Call,
+    call: DeskCall,
     desk: &'t mut Desk,
-    held: &'t mut Held,
+    held: &'t mut Holdings,
 }
 
-fn open(alloc: Global, desk: &Desk, held: &mut Held) -> End {
+fn open(alloc: Global, desk: &Desk, held: &mut Holdings) -> End {
     match open_on(alloc, desk.game(), desk.diagram()) {
         Ok(_) => End::Done,
         Err((fault, vertices, features)) => {
@@ -90,7 +90,7 @@ fn decide<R: Wait>(
     rt: &R,
     alloc: Global,
     desk: &mut Desk,
-    held: &mut Held,
+    held: &mut Holdings,
     feature: u16,
     value: bool,
 ) -> End {
@@ -103,7 +103,13 @@ fn decide<R: Wait>(
     }
 }
 
-fn retract<R: Wait>(rt: &R, alloc: Global, desk: &mut Desk, held: &mut Held, feature: u16) -> End {
+fn retract<R: Wait>(
+    rt: &R,
+    alloc: Global,
+    desk: &mut Desk,
+    held: &mut Holdings,
+    feature: u16,
+) -> End {
     match desk.retract(alloc, 1, feature) {
         Ok(token) => {
             keep(rt, desk, held.undo.replace(token));
@@ -113,7 +119,7 @@ fn retract<R: Wait>(rt: &R, alloc: Global, desk: &mut Desk, held: &mut Held, fea
     }
 }
 
-fn undo<R: Wait>(rt: &R, alloc: Global, desk: &mut Desk, held: &mut Held) -> End {
+fn undo<R: Wait>(rt: &R, alloc: Global, desk: &mut Desk, held: &mut Holdings) -> End {
     let Some(token) = held.undo.take() else {
         return End::Otherwise;
     };
@@ -130,7 +136,7 @@ fn undo<R: Wait>(rt: &R, alloc: Global, desk: &mut Desk, held: &mut Held) -> End
     }
 }
 
-fn redo<R: Wait>(rt: &R, alloc: Global, desk: &mut Desk, held: &mut Held) -> End {
+fn redo<R: Wait>(rt: &R, alloc: Global, desk: &mut Desk, held: &mut Holdings) -> End {
     let Some(token) = held.redo.take() else {
         return End::Otherwise;
     };
@@ -161,7 +167,7 @@ fn page(alloc: Global, desk: &Desk) -> End {
     }
 }
 
-fn settle(alloc: Global, desk: &Desk, held: &mut Held) -> End {
+fn settle(alloc: Global, desk: &Desk, held: &mut Holdings) -> End {
     match desk.order(alloc) {
         Ok(order) => {
             held.harvest = Some(Harvest::alone(order, 100));
@@ -172,7 +178,7 @@ fn settle(alloc: Global, desk: &Desk, held: &mut Held) -> End {
 }
 
 /// Hands the held harvest in, which adds two entries; if it is refused it is still held.
-fn commit(alloc: Global, desk: &mut Desk, held: &mut Held) -> End {
+fn commit(alloc: Global, desk: &mut Desk, held: &mut Holdings) -> End {
     let Some(harvest) = held.harvest.take() else {
         return End::Otherwise;
     };
@@ -195,23 +201,29 @@ fn is_told(desk: &Desk) -> bool {
     !verdict.hopeless && !verdict.sure && !desk.settled() && desk.tokens() == 1
 }
 
-fn made<R: Wait>(rt: &R, alloc: Global, call: Call, desk: &mut Desk, held: &mut Held) -> End {
+fn made<R: Wait>(
+    rt: &R,
+    alloc: Global,
+    call: DeskCall,
+    desk: &mut Desk,
+    held: &mut Holdings,
+) -> End {
     match call {
-        Call::Open => open(alloc, desk, held),
-        Call::Decide(feature, value) => decide(rt, alloc, desk, held, feature, value),
-        Call::Retract(feature) => retract(rt, alloc, desk, held, feature),
-        Call::Undo => undo(rt, alloc, desk, held),
-        Call::Redo => redo(rt, alloc, desk, held),
-        Call::Keep => {
+        DeskCall::Open => open(alloc, desk, held),
+        DeskCall::Decide(feature, value) => decide(rt, alloc, desk, held, feature, value),
+        DeskCall::Retract(feature) => retract(rt, alloc, desk, held, feature),
+        DeskCall::Undo => undo(rt, alloc, desk, held),
+        DeskCall::Redo => redo(rt, alloc, desk, held),
+        DeskCall::Keep => {
             keep(rt, desk, held.undo.take());
             End::Done
         }
-        Call::Forget(serial) => done_if(forgets(rt, desk, held, serial)),
-        Call::Order => order(alloc, desk),
-        Call::Page => page(alloc, desk),
-        Call::Settle => settle(alloc, desk, held),
-        Call::Commit => commit(alloc, desk, held),
-        Call::Tell => done_if(is_told(desk)),
+        DeskCall::Forget(serial) => done_if(forgets(rt, desk, held, serial)),
+        DeskCall::Order => order(alloc, desk),
+        DeskCall::Page => page(alloc, desk),
+        DeskCall::Settle => settle(alloc, desk, held),
+        DeskCall::Commit => commit(alloc, desk, held),
+        DeskCall::Tell => done_if(is_told(desk)),
     }
 }
 
@@ -289,7 +301,7 @@ fn use_desk<R: Wait>(
 ) -> Option<Undo> {
     let mut held = nothing();
     let mut calling = Calling {
-        call: Call::Open,
+        call: DeskCall::Open,
         desk,
         held: &mut held,
     };

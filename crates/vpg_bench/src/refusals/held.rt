@@ -8,7 +8,7 @@ use vpg_desk::{Desk, Redo, Undo};
 use vpg_measure::Harvest;
 
 /// The values that are held beside a desk.
-pub(crate) struct Held {
+pub(crate) struct Holdings {
     /// The token of a change.
     pub(crate) undo: Option<Undo>,
     /// The token of a change that was undone.
@@ -21,8 +21,8 @@ pub(crate) struct Held {
 }
 
 /// Returns a holder of nothing.
-pub(crate) fn nothing() -> Held {
-    Held {
+pub(crate) fn nothing() -> Holdings {
+    Holdings {
         undo: None,
         redo: None,
         harvest: None,
@@ -60,7 +60,7 @@ pub(crate) fn forget<R: Wait>(rt: &R, desk: &mut Desk, token: Option<Redo>) {
 }
 
 /// Whether the one token that is out is that of an undone change, of this serial; and forgets it.
-pub(crate) fn forgets<R: Wait>(rt: &R, desk: &mut Desk, held: &mut Held, serial: u64) -> bool {
+pub(crate) fn forgets<R: Wait>(rt: &R, desk: &mut Desk, held: &mut Holdings, serial: u64) -> bool {
     let told = match &held.redo {
         Some(token) => token.serial() == serial && desk.tokens() == 1,
         None => false,
@@ -70,8 +70,8 @@ pub(crate) fn forgets<R: Wait>(rt: &R, desk: &mut Desk, held: &mut Held, serial:
 }
 
 /// Drops the values that are held, and spends its tokens.
-pub(crate) fn let_go<R: Wait>(rt: &R, desk: &mut Desk, held: Held) {
-    let Held {
+pub(crate) fn let_go<R: Wait>(rt: &R, desk: &mut Desk, held: Holdings) {
+    let Holdings {
         undo,
         redo,
         harvest: _,

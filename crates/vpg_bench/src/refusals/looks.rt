@@ -2,7 +2,7 @@
 
 ghost use Rattle.std.specs.Prelude.{◌<◌, length};
 
-use crate::offices::calls::{Call, Held, Seat, end_of, made};
+use crate::offices::calls::{HeldToken, OfficeCall, Seat, end_of, made};
 use crate::refusals::done_if;
 use std::alloc::Global;
 use std::sync::Wait;
@@ -113,20 +113,20 @@ fn looked<L: Terms, R: Wait>(
     rt: &R,
     office: &Office<L>,
     caller: &mut Caller<L>,
-    call: Call,
+    call: OfficeCall,
 ) -> End {
     match call {
-        Call::Join => match office.join(rt) {
+        OfficeCall::Join => match office.join(rt) {
             Ok((_session, front)) => done_if(front.len() == caller.seat.front.len()),
             Err(_) => End::Otherwise,
         },
-        Call::Meet => {
+        OfficeCall::Meet => {
             let copy = caller.seat.front.copy();
             let mut early = Front::empty();
             office.meet(rt, &mut early, &copy);
             done_if(early.len() == caller.seat.front.len())
         }
-        Call::Watch => match office.watch(rt) {
+        OfficeCall::Watch => match office.watch(rt) {
             Ok(watch) => {
                 caller.watch = Some(watch);
                 End::Done
@@ -134,10 +134,10 @@ fn looked<L: Terms, R: Wait>(
             Err(_) => End::Otherwise,
         },
         // There is something to read as long as the office is not closed.
-        Call::Read => done_if(shown(caller).is_some()),
-        Call::Carry => carry(&mut caller.harvest),
+        OfficeCall::Read => done_if(shown(caller).is_some()),
+        OfficeCall::Carry => carry(&mut caller.harvest),
         // which is made once all else is done
-        Call::Close | Call::End(_) => End::Done,
+        OfficeCall::Close | OfficeCall::End(_) => End::Done,
         _ => End::Otherwise,
     }
 }
@@ -148,12 +148,12 @@ pub(crate) fn asked<L: Terms, R: Wait>(
     alloc: Global,
     office: &Office<L>,
     caller: &mut Caller<L>,
-    call: Call,
+    call: OfficeCall,
 ) -> End
     requires { 0 < length L.game.vertices }
 {
     match call {
-        Call::Order => match caller
+        OfficeCall::Order => match caller
             .seat
             .session
             .order(rt, alloc, office, &mut caller.seat.front)
@@ -164,7 +164,7 @@ pub(crate) fn asked<L: Terms, R: Wait>(
             }
             Err(fault) => end_of(fault),
         },
-        Call::Commit => match caller.harvest.take() {
+        OfficeCall::Commit => match caller.harvest.take() {
             Some(harvest) => match caller
                 .seat
                 .session
@@ -178,19 +178,19 @@ pub(crate) fn asked<L: Terms, R: Wait>(
             },
             None => End::Otherwise,
         },
-        Call::Settled => ended(
+        OfficeCall::Settled => ended(
             caller
                 .seat
                 .session
                 .settled(rt, office, &mut caller.seat.front),
         ),
-        Call::Verdict => ended(
+        OfficeCall::Verdict => ended(
             caller
                 .seat
                 .session
                 .verdict(rt, office, &mut caller.seat.front, 0),
         ),
-        Call::Page => match caller
+        OfficeCall::Page => match caller
             .seat
             .session
             .page(rt, alloc, office, &mut caller.seat.front)
@@ -208,9 +208,9 @@ pub(crate) fn called<L: Terms, R: Wait>(
     alloc: Global,
     office: &Office<L>,
     caller: &mut Caller<L>,
-    held: Held<L>,
-    call: Call,
-) -> (Held<L>, End)
+    held: HeldToken<L>,
+    call: OfficeCall,
+) -> (HeldToken<L>, End)
     requires { 0 < length L.game.vertices }
 {
     if call.is_of_tokens() {

@@ -1,6 +1,6 @@
 //! Calls of an office and of its sessions, as a table.
 
-use crate::offices::calls::Call;
+use crate::offices::calls::OfficeCall;
 use crate::refusals::offices::{Line, refuse_each};
 use std::sync::{Arc, Wait};
 use vpg_diagram::Diagram;
@@ -13,104 +13,147 @@ const F: u16 = 1;
 const G: u16 = 2;
 
 /// Decisions on g and on f; the first token is spent.
-const DECIDED: &[Call] = &[Call::Decide(G, true), Call::Keep, Call::Decide(F, false)];
-
-const UNDONE: &[Call] = &[
-    Call::Decide(G, true),
-    Call::Keep,
-    Call::Decide(F, false),
-    Call::Undo,
+const DECIDED: &[OfficeCall] = &[
+    OfficeCall::Decide(G, true),
+    OfficeCall::Keep,
+    OfficeCall::Decide(F, false),
 ];
 
-const ORDERED: &[Call] = &[Call::Decide(F, false), Call::Keep, Call::Order];
+const UNDONE: &[OfficeCall] = &[
+    OfficeCall::Decide(G, true),
+    OfficeCall::Keep,
+    OfficeCall::Decide(F, false),
+    OfficeCall::Undo,
+];
+
+const ORDERED: &[OfficeCall] = &[
+    OfficeCall::Decide(F, false),
+    OfficeCall::Keep,
+    OfficeCall::Order,
+];
 
 /// A decision on f, the lifts that follow from it, and a decision on g.
-const LIFTED: &[Call] = &[
-    Call::Decide(F, false),
-    Call::Keep,
-    Call::Order,
-    Call::Commit,
-    Call::Decide(G, true),
-    Call::Keep,
+const LIFTED: &[OfficeCall] = &[
+    OfficeCall::Decide(F, false),
+    OfficeCall::Keep,
+    OfficeCall::Order,
+    OfficeCall::Commit,
+    OfficeCall::Decide(G, true),
+    OfficeCall::Keep,
 ];
 
-const RETRACTED: &[Call] = &[
-    Call::Decide(F, false),
-    Call::Keep,
-    Call::Order,
-    Call::Commit,
-    Call::Decide(G, true),
-    Call::Keep,
-    Call::Retract(F),
+const RETRACTED: &[OfficeCall] = &[
+    OfficeCall::Decide(F, false),
+    OfficeCall::Keep,
+    OfficeCall::Order,
+    OfficeCall::Commit,
+    OfficeCall::Decide(G, true),
+    OfficeCall::Keep,
+    OfficeCall::Retract(F),
 ];
 
-const BACK: &[Call] = &[
-    Call::Decide(F, false),
-    Call::Keep,
-    Call::Order,
-    Call::Commit,
-    Call::Decide(G, true),
-    Call::Keep,
-    Call::Retract(F),
-    Call::Undo,
+const BACK: &[OfficeCall] = &[
+    OfficeCall::Decide(F, false),
+    OfficeCall::Keep,
+    OfficeCall::Order,
+    OfficeCall::Commit,
+    OfficeCall::Decide(G, true),
+    OfficeCall::Keep,
+    OfficeCall::Retract(F),
+    OfficeCall::Undo,
 ];
 
-const WATCHED: &[Call] = &[Call::Watch, Call::Decide(G, true)];
+const WATCHED: &[OfficeCall] = &[OfficeCall::Watch, OfficeCall::Decide(G, true)];
 
 /// The call's name, whether there is a watch from the beginning, the calls before it, and the call.
 const LINES: &[Line] = &[
-    ("Office::open", false, &[], Call::Open),
-    ("Office::join", false, DECIDED, Call::Join),
-    ("Front::copy, Office::meet", false, DECIDED, Call::Meet),
-    ("Office::watch", false, DECIDED, Call::Watch),
-    ("Watch::read of an office", false, WATCHED, Call::Read),
-    ("Office::close", false, LIFTED, Call::Close),
-    ("Office::end", false, LIFTED, Call::End(0)),
-    ("Office::end with an Undo", false, DECIDED, Call::End(1)),
-    ("Office::end with a Redo", false, UNDONE, Call::End(1)),
-    ("Session::decide", false, ORDERED, Call::Decide(G, true)),
-    ("Session::undo of a decision", false, DECIDED, Call::Undo),
-    ("Session::redo of a decision", false, UNDONE, Call::Redo),
-    ("Session::keep", false, DECIDED, Call::Keep),
-    ("Session::forget", false, UNDONE, Call::Forget),
-    ("Session::retract", false, LIFTED, Call::Retract(F)),
+    ("Office::open", false, &[], OfficeCall::Open),
+    ("Office::join", false, DECIDED, OfficeCall::Join),
+    (
+        "Front::copy, Office::meet",
+        false,
+        DECIDED,
+        OfficeCall::Meet,
+    ),
+    ("Office::watch", false, DECIDED, OfficeCall::Watch),
+    ("Watch::read of an office", false, WATCHED, OfficeCall::Read),
+    ("Office::close", false, LIFTED, OfficeCall::Close),
+    ("Office::end", false, LIFTED, OfficeCall::End(0)),
+    (
+        "Office::end with an Undo",
+        false,
+        DECIDED,
+        OfficeCall::End(1),
+    ),
+    ("Office::end with a Redo", false, UNDONE, OfficeCall::End(1)),
+    (
+        "Session::decide",
+        false,
+        ORDERED,
+        OfficeCall::Decide(G, true),
+    ),
+    (
+        "Session::undo of a decision",
+        false,
+        DECIDED,
+        OfficeCall::Undo,
+    ),
+    (
+        "Session::redo of a decision",
+        false,
+        UNDONE,
+        OfficeCall::Redo,
+    ),
+    ("Session::keep", false, DECIDED, OfficeCall::Keep),
+    ("Session::forget", false, UNDONE, OfficeCall::Forget),
+    ("Session::retract", false, LIFTED, OfficeCall::Retract(F)),
     (
         "Session::undo of a retraction",
         false,
         RETRACTED,
-        Call::Undo,
+        OfficeCall::Undo,
     ),
-    ("Session::redo of a retraction", false, BACK, Call::Redo),
-    ("Session::order", false, DECIDED, Call::Order),
-    ("Session::commit", false, ORDERED, Call::Commit),
-    ("Session::settled", false, LIFTED, Call::Settled),
-    ("Session::verdict", false, LIFTED, Call::Verdict),
-    ("Session::page", false, LIFTED, Call::Page),
+    (
+        "Session::redo of a retraction",
+        false,
+        BACK,
+        OfficeCall::Redo,
+    ),
+    ("Session::order", false, DECIDED, OfficeCall::Order),
+    ("Session::commit", false, ORDERED, OfficeCall::Commit),
+    ("Session::settled", false, LIFTED, OfficeCall::Settled),
+    ("Session::verdict", false, LIFTED, OfficeCall::Verdict),
+    ("Session::page", false, LIFTED, OfficeCall::Page),
     (
         "calls of an order and of its harvest",
         false,
         ORDERED,
-        Call::Carry,
+        OfficeCall::Carry,
     ),
     (
         "Session::decide beside a watch",
         true,
         ORDERED,
-        Call::Decide(G, true),
+        OfficeCall::Decide(G, true),
     ),
     (
         "Session::retract beside a watch",
         true,
         LIFTED,
-        Call::Retract(F),
+        OfficeCall::Retract(F),
     ),
-    ("Session::undo beside a watch", true, RETRACTED, Call::Undo),
-    ("Session::redo beside a watch", true, BACK, Call::Redo),
+    (
+        "Session::undo beside a watch",
+        true,
+        RETRACTED,
+        OfficeCall::Undo,
+    ),
+    ("Session::redo beside a watch", true, BACK, OfficeCall::Redo),
     (
         "Session::commit beside a watch",
         true,
         ORDERED,
-        Call::Commit,
+        OfficeCall::Commit,
     ),
 ];
 

@@ -3,7 +3,7 @@
 ghost use Rattle.std.specs.Prelude.{◌≡◌, ◌<◌, ◌≤◌, length, vec_len, vec_capacity};
 
 use crate::family::shared;
-use crate::offices::calls::{Call, Held, joined, serial_of, spent};
+use crate::offices::calls::{HeldToken, OfficeCall, joined, serial_of, spent};
 use crate::refusals::looks::{Caller, asked, called, shown};
 use std::alloc::Global;
 use std::sync::{Arc, Wait};
@@ -30,12 +30,12 @@ const PLENTY: usize = 1 << 14;
 struct Row {
     /// Whether there is a watch from the beginning, and the call publishes a sheet.
     is_watched: bool,
-    before: &'static [Call],
-    call: Call,
+    before: &'static [OfficeCall],
+    call: OfficeCall,
 }
 
 /// A row with the name of its call before it.
-pub(crate) type Line = (&'static str, bool, &'static [Call], Call);
+pub(crate) type Line = (&'static str, bool, &'static [OfficeCall], OfficeCall);
 
 pub(crate) const NOT_TRIED: Outcome = Outcome {
     end: End::Otherwise,
@@ -69,7 +69,7 @@ fn fill_up<L: Terms, R: Wait>(rt: &R, heap: &mut Heap, office: &Office<L>, calle
             heap.leave(0);
         }
         if calls < FULL - 1 {
-            asked(rt, heap.alloc(), office, caller, Call::Settled);
+            asked(rt, heap.alloc(), office, caller, OfficeCall::Settled);
         }
         if is_refused {
             heap.relax();
@@ -85,20 +85,20 @@ fn prepare<L: Terms, R: Wait>(
     office: &Office<L>,
     caller: &mut Caller<L>,
     row: &Row,
-) -> Held<L>
+) -> HeldToken<L>
     requires { 0 < length L.game.vertices }
 {
     let alloc = heap.alloc();
     if row.is_watched {
-        asked(rt, alloc, office, caller, Call::Watch);
+        asked(rt, alloc, office, caller, OfficeCall::Watch);
     }
-    let mut held = Held::Nothing;
+    let mut held = HeldToken::Nothing;
     for call in row.before {
         let (next, _) = called(rt, alloc, office, caller, held, *call);
         held = next;
     }
     fill_up(rt, heap, office, caller);
-    asked(rt, alloc, office, caller, Call::Page);
+    asked(rt, alloc, office, caller, OfficeCall::Page);
     held
 }
 
@@ -106,7 +106,7 @@ fn prepare<L: Terms, R: Wait>(
 /// harvest, and the serial of the held token.
 type Seen = (usize, Option<usize>, bool, Option<u64>);
 
-fn look_at<L: Terms>(caller: &mut Caller<L>, held: &Held<L>) -> Seen {
+fn look_at<L: Terms>(caller: &mut Caller<L>, held: &HeldToken<L>) -> Seen {
     (
         caller.seat.front.len(),
         shown(caller),
@@ -121,7 +121,7 @@ fn is_done(row: &Row, bytes: usize, before: Seen, now: Seen) -> bool {
     let logged = row.call.is_logged() as usize;
     let needs_sheet = row.is_watched && bytes >= PLENTY;
     let is_shown = match row.call {
-        Call::Watch => now.1.is_some(),
+        OfficeCall::Watch => now.1.is_some(),
         _ => now.1 == Some(now.0),
     };
     now.0 == before.0.saturating_add(logged) && (is_shown || (now.1 == before.1 && !needs_sheet))
@@ -135,10 +135,10 @@ fn try_at<L: Terms, R: Wait>(
     heap: &mut Heap,
     office: &Office<L>,
     caller: &mut Caller<L>,
-    held: Held<L>,
+    held: HeldToken<L>,
     row: &Row,
     bytes: usize,
-) -> (Held<L>, Outcome)
+) -> (HeldToken<L>, Outcome)
     requires { 0 < length L.game.vertices }
 {
     let is_looked_at = caller.page.is_some();
@@ -151,7 +151,7 @@ fn try_at<L: Terms, R: Wait>(
         End::Done => is_done(row, bytes, before, now),
         End::Memory => {
             before == now
-                && asked(rt, heap.alloc(), office, caller, Call::Page) == End::Done
+                && asked(rt, heap.alloc(), office, caller, OfficeCall::Page) == End::Done
                 && caller.seat.front.len() == before.0.saturating_add(1)
         }
         End::Otherwise => false,
@@ -168,11 +168,11 @@ fn try_on<L: Terms, R: Wait>(
     office: &Office<L>,
     row: &Row,
     bytes: usize,
-) -> (Held<L>, Outcome)
+) -> (HeldToken<L>, Outcome)
     requires { 0 < length L.game.vertices }
 {
     let Some(seat) = joined(rt, office) else {
-        return (Held::Nothing, NOT_TRIED);
+        return (HeldToken::Nothing, NOT_TRIED);
     };
     let mut caller = Caller {
         seat,
@@ -203,13 +203,13 @@ fn room<R: Wait, T>(rt: &R, alloc: Global) -> Vec<T>
 }
 
 /// Ends an office with no memory, and hands in the token that is held. Returns how many tokens are missed.
-fn end<L: Terms, R: Wait>(rt: &R, heap: &mut Heap, office: Office<L>, held: Held<L>) -> u64 {
+fn end<L: Terms, R: Wait>(rt: &R, heap: &mut Heap, office: Office<L>, held: HeldToken<L>) -> u64 {
     let mut undos = room(rt, heap.alloc());
     let mut redos = room(rt, heap.alloc());
     match held {
-        Held::Nothing => {}
-        Held::Undo(token) => undos.push_reserved(token),
-        Held::Redo(token) => redos.push_reserved(token),
+        HeldToken::Nothing => {}
+        HeldToken::Undo(token) => undos.push_reserved(token),
+        HeldToken::Redo(token) => redos.push_reserved(token),
     }
     heap.leave(0);
     let further = office.end(rt, undos, redos).further();
@@ -218,10 +218,10 @@ fn end<L: Terms, R: Wait>(rt: &R, heap: &mut Heap, office: Office<L>, held: Held
 }
 
 /// Closes an office with no memory, if nothing is held. Returns how many tokens were out. Then it is ended.
-fn close<L: Terms, R: Wait>(rt: &R, heap: &mut Heap, office: Office<L>, held: Held<L>) -> u64 {
+fn close<L: Terms, R: Wait>(rt: &R, heap: &mut Heap, office: Office<L>, held: HeldToken<L>) -> u64 {
     let alloc = heap.alloc();
     match held {
-        Held::Nothing => {
+        HeldToken::Nothing => {
             heap.leave(0);
             let out = match office.close(rt) {
                 Ok(ended) => ended.further(),
@@ -251,16 +251,16 @@ impl<R: Wait> Work<R> for Try<'_> {
         _diagram: Arc<Diagram>,
     ) -> Outcome {
         let Try { heap, row, bytes } = self;
-        let (held, tried) = if matches!(row.call, Call::Open) {
+        let (held, tried) = if matches!(row.call, OfficeCall::Open) {
             heap.relax();
-            (Held::Nothing, OPENED)
+            (HeldToken::Nothing, OPENED)
         } else if game.vertices() > 0 {
             try_on(rt, heap, &office, row, bytes)
         } else {
-            (Held::Nothing, NOT_TRIED)
+            (HeldToken::Nothing, NOT_TRIED)
         };
         let is_held = serial_of(&held).is_some() as usize == row.call.tokens();
-        let missed = if matches!(row.call, Call::Close) {
+        let missed = if matches!(row.call, OfficeCall::Close) {
             close(rt, heap, office, held)
         } else {
             end(rt, heap, office, held)
@@ -280,7 +280,7 @@ fn not_opened(refused: NotBegun<Try<'_>>) -> Outcome {
         diagram,
         work: Try { heap, row, .. },
     } = refused;
-    if !matches!(row.call, Call::Open) || fault != OpenFault::Memory {
+    if !matches!(row.call, OfficeCall::Open) || fault != OpenFault::Memory {
         return NOT_TRIED;
     }
     heap.relax();
@@ -308,7 +308,7 @@ impl<R: Wait> Anew<R> for Rowed<'_> {
         if game.features() != diagram.features() {
             return NOT_TRIED;
         }
-        if matches!(row.call, Call::Open) {
+        if matches!(row.call, OfficeCall::Open) {
             heap.leave(bytes);
         }
         let alloc = heap.alloc();

@@ -10,7 +10,7 @@ use vpg_watch::{Press, Sheet};
 
 /// A call of a press, or of its watch.
 #[derive(Clone, Copy)]
-enum Call {
+enum PressCall {
     Open,
     Publish,
     Watch,
@@ -71,16 +71,16 @@ fn try_on<R: Wait>(
     heap: &mut Heap,
     press: &mut Press<Steps>,
     sheet: Arc<Sheet<Steps>>,
-    call: Call,
+    call: PressCall,
     bytes: usize,
 ) -> Outcome
     requires first { press.old.front.count ≡ 0 }
     requires belongs { (arc_value sheet).at ≡ (arc_value sheet).front.count }
 {
     match call {
-        Call::Open | Call::Close => OPENED,
-        Call::Publish => publish(rt, heap, press, sheet, bytes),
-        Call::Watch => watch(heap, press, bytes),
+        PressCall::Open | PressCall::Close => OPENED,
+        PressCall::Publish => publish(rt, heap, press, sheet, bytes),
+        PressCall::Watch => watch(heap, press, bytes),
     }
 }
 
@@ -90,7 +90,7 @@ fn try_once<R: Wait>(
     heap: &mut Heap,
     first: Arc<Sheet<Steps>>,
     second: Arc<Sheet<Steps>>,
-    call: Call,
+    call: PressCall,
     bytes: usize,
 ) -> Outcome
     requires first { ((arc_value first).front.count ≡ 0) ×
@@ -98,7 +98,7 @@ fn try_once<R: Wait>(
     requires second { (arc_value second).at ≡ (arc_value second).front.count }
 {
     let alloc = heap.alloc();
-    let opens = matches!(call, Call::Open);
+    let opens = matches!(call, PressCall::Open);
     if opens {
         heap.leave(bytes);
     }
@@ -119,7 +119,7 @@ fn try_once<R: Wait>(
     }
 }
 
-impl<R: Wait> Anew<R> for Call {
+impl<R: Wait> Anew<R> for PressCall {
     fn try_within(&mut self, rt: &R, heap: &mut Heap, bytes: usize) -> Outcome {
         match (sheet_of(heap.alloc(), 0), sheet_of(heap.alloc(), 1)) {
             (Ok(first), Ok(second)) => try_once(rt, heap, first, second, *self, bytes),
@@ -131,10 +131,10 @@ impl<R: Wait> Anew<R> for Call {
 /// Makes each call of a press with little memory.
 pub(crate) fn refuse<R: Wait>(rt: &R, heap: &mut Heap, report: &mut Report) {
     for (name, call) in [
-        ("Press::open", Call::Open),
-        ("Press::publish", Call::Publish),
-        ("Press::watch, Watch::read", Call::Watch),
-        ("Press::close", Call::Close),
+        ("Press::open", PressCall::Open),
+        ("Press::publish", PressCall::Publish),
+        ("Press::watch, Watch::read", PressCall::Watch),
+        ("Press::close", PressCall::Close),
     ] {
         let mut call = call;
         let told = tried_anew(rt, heap, &mut call, 0);

@@ -20,7 +20,7 @@ use vpg_diagram::{Diagram, Literal};
 use vpg_game::GuardedGame;
 use vpg_measure::{Shape, Table};
 use vpg_partial::{Partial, PartialFault};
-use vpg_scarce::{End, Heap, MOST_TRIES, Report, Told, more};
+use vpg_scarce::{End, Finding, Heap, MOST_TRIES, Report, more};
 use vpg_texts::{PlanFault, count, plan, products, show, trail};
 use vpg_trail::{Assumed, Decisions, Entries, Entry, Page};
 use vpg_verdict::Which;
@@ -109,7 +109,7 @@ fn put_growing(
     game: &GuardedGame,
     diagram: &Diagram,
     out: &mut Vec<u8>,
-) -> Told
+) -> Finding
     requires not_at_limit { ¬ IsAtLimit game.now }
     requires features { game.now.features ≡ feature_count diagram.now.lines }
     requires named { AreChoicesOf diagram.now.lines (map literal_of page.now.decisions) }
@@ -121,7 +121,7 @@ fn put_growing(
     requires entries { All (EntryIsWithin (feature_count diagram.now.lines)
         (length game.now.vertices)) page.now.entries }
 {
-    let mut told = Told::TakesNone;
+    let mut told = Finding::TakesNone;
     let mut bytes = 0;
     for _ in 0..MOST_TRIES {
         heap.leave(bytes);
@@ -129,13 +129,13 @@ fn put_growing(
         heap.relax();
         match end {
             End::Done if out.as_slice() == text.written() => return told,
-            End::Memory if is_before(out.as_slice()) => told = Told::Unchanged,
-            End::Memory => return Told::Changed,
-            _ => return Told::Otherwise,
+            End::Memory if is_before(out.as_slice()) => told = Finding::Unchanged,
+            End::Memory => return Finding::Changed,
+            _ => return Finding::Otherwise,
         }
         bytes = more(bytes);
     }
-    Told::Never
+    Finding::Never
 }
 
 /// Appends each text of a page.

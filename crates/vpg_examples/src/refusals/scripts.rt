@@ -5,7 +5,7 @@ use crate::family::{Family, outcome};
 use std::sync::Wait;
 use std::thread::Threads;
 use vpg_report::RunFault;
-use vpg_scarce::{Heap, MOST_TRIES, Report, Told, more};
+use vpg_scarce::{Finding, Heap, MOST_TRIES, Report, more};
 use vpg_serving::Ending;
 
 /// A line for each command.
@@ -64,22 +64,22 @@ fn run_often<R: Threads + Wait + Sync>(
     family: &Family,
     lifters: u32,
     got: &mut Vec<u8>,
-) -> Told {
+) -> Finding {
     let mut bytes = 0;
     for tries in 0..MOST_TRIES {
         let ended = run_within(rt, heap, family, lifters, got, bytes);
         if !ANSWERS.starts_with(got) {
-            return Told::Changed;
+            return Finding::Changed;
         }
         match ended {
-            Some(Ok(_)) if got.len() < ANSWERS.len() => return Told::Changed,
-            Some(Ok(_)) if tries == 0 => return Told::TakesNone,
-            Some(Ok(_)) => return Told::Unchanged,
+            Some(Ok(_)) if got.len() < ANSWERS.len() => return Finding::Changed,
+            Some(Ok(_)) if tries == 0 => return Finding::TakesNone,
+            Some(Ok(_)) => return Finding::Unchanged,
             Some(Err(RunFault::Memory)) => bytes = more(bytes),
-            _ => return Told::Otherwise,
+            _ => return Finding::Otherwise,
         }
     }
-    Told::Never
+    Finding::Never
 }
 
 /// Runs the script with little memory, by one lifter and by two.

@@ -6,7 +6,9 @@ use crate::calls::Answer::{
 };
 use crate::calls::At::{First, Second, Third};
 use crate::calls::By::{One, Two};
-use crate::calls::{Answer, At, By, Call, Calls, Other, Step, carry_out, harvest_of, hold_harvest};
+use crate::calls::{
+    Answer, At, By, Calls, Other, RowCall, Step, carry_out, harvest_of, hold_harvest,
+};
 use crate::given::{
     ALTERNATIVE, CONTRADICTORY, DIAGRAM, F, G, GAME, Lone, diagram_of, family, given, lone_game,
     require,
@@ -25,7 +27,7 @@ use vpg_game::GuardedGame;
 use vpg_measure::Harvest;
 
 /// The token of a change that was made or undone, until it is spent.
-enum Held {
+enum DeskToken {
     Nothing,
     Undo(Undo),
     Redo(Redo),
@@ -34,14 +36,14 @@ enum Held {
 /// A desk, the tokens that are held, and a harvest.
 struct Table {
     desk: Desk,
-    first: Held,
-    second: Held,
-    third: Held,
+    first: DeskToken,
+    second: DeskToken,
+    third: DeskToken,
     harvest: Option<Harvest>,
 }
 
 impl Table {
-    fn at(&mut self, at: At) -> &mut Held {
+    fn at(&mut self, at: At) -> &mut DeskToken {
         match at {
             At::First => &mut self.first,
             At::Second => &mut self.second,
@@ -50,34 +52,39 @@ impl Table {
     }
 }
 
-fn is_nothing(rt: &impl Abort, held: Held) {
+fn is_nothing(rt: &impl Abort, held: DeskToken) {
     match held {
-        Held::Nothing => {}
+        DeskToken::Nothing => {}
         _ => rt.panic("a token is held"),
     }
 }
 
 /// Returns the token of a change to hold, and its serial.
-fn undo_of(token: Undo) -> (Held, Answer) {
+fn undo_of(token: Undo) -> (DeskToken, Answer) {
     let serial = token.serial();
-    (Held::Undo(token), Answer::Token(serial))
+    (DeskToken::Undo(token), Answer::Token(serial))
 }
 
 /// Makes a call that gives a token. Returns the token that is held then, and the answer.
-fn made<R: Abort + AllocGlobal>(rt: &R, desk: &mut Desk, by: By, call: Call) -> (Held, Answer) {
+fn made<R: Abort + AllocGlobal>(
+    rt: &R,
+    desk: &mut Desk,
+    by: By,
+    call: RowCall,
+) -> (DeskToken, Answer) {
     let session = by as u32 + 1;
     match call {
-        Call::Decide(_, feature, value) => {
+        RowCall::Decide(_, feature, value) => {
             match desk.decide(rt.alloc(), session, feature, value) {
                 Ok(token) => undo_of(token),
-                Err(fault) => (Held::Nothing, NotDecided(fault)),
+                Err(fault) => (DeskToken::Nothing, NotDecided(fault)),
             }
         }
-        Call::Retract(_, feature) => match desk.retract(rt.alloc(), session, feature) {
+        RowCall::Retract(_, feature) => match desk.retract(rt.alloc(), session, feature) {
             Ok(token) => undo_of(token),
-            Err(fault) => (Held::Nothing, NotRetracted(fault)),
+            Err(fault) => (DeskToken::Nothing, NotRetracted(fault)),
         },
-        _ => (Held::Nothing, Answer::NoCall),
+        _ => (DeskToken::Nothing, Answer::NoCall),
     }
 }
 
@@ -85,33 +92,33 @@ fn made<R: Abort + AllocGlobal>(rt: &R, desk: &mut Desk, by: By, call: Call) -> 
 fn spent<R: Abort + AllocGlobal>(
     rt: &R,
     desk: &mut Desk,
-    held: Held,
-    call: Call,
-) -> (Held, Answer) {
+    held: DeskToken,
+    call: RowCall,
+) -> (DeskToken, Answer) {
     assert!(rt; desk.tokens() > 0);
     match held {
-        Held::Undo(token) => match call {
-            Call::Undo(_) => {
+        DeskToken::Undo(token) => match call {
+            RowCall::Undo(_) => {
                 let token = given(rt, desk.undo(rt.alloc(), token));
                 let serial = token.serial();
-                (Held::Redo(token), Token(serial))
+                (DeskToken::Redo(token), Token(serial))
             }
             _ => {
                 desk.keep(token);
-                (Held::Nothing, Kept)
+                (DeskToken::Nothing, Kept)
             }
         },
-        Held::Redo(token) => match call {
-            Call::Redo(_) => match desk.redo(rt.alloc(), token) {
+        DeskToken::Redo(token) => match call {
+            RowCall::Redo(_) => match desk.redo(rt.alloc(), token) {
                 Ok(token) => undo_of(token),
-                Err(RedoRefused { fault, token }) => (Held::Redo(token), NotRedone(fault)),
+                Err(RedoRefused { fault, token }) => (DeskToken::Redo(token), NotRedone(fault)),
             },
             _ => {
                 desk.forget(token);
-                (Held::Nothing, Forgotten)
+                (DeskToken::Nothing, Forgotten)
             }
         },
-        Held::Nothing => (Held::Nothing, Answer::NoCall),
+        DeskToken::Nothing => (DeskToken::Nothing, Answer::NoCall),
     }
 }
 
@@ -182,10 +189,10 @@ impl Calls for Table {
         _office: &(),
         by: By,
         at: At,
-        call: Call,
+        call: RowCall,
     ) -> Answer {
-        let (now, answer) = match mem::replace(self.at(at), Held::Nothing) {
-            Held::Nothing => made(rt, &mut self.desk, by, call),
+        let (now, answer) = match mem::replace(self.at(at), DeskToken::Nothing) {
+            DeskToken::Nothing => made(rt, &mut self.desk, by, call),
             held => spent(rt, &mut self.desk, held, call),
         };
         is_nothing(rt, mem::replace(self.at(at), now));
@@ -194,9 +201,9 @@ impl Calls for Table {
 
     fn serial(&mut self, at: At) -> u64 {
         match self.at(at) {
-            Held::Nothing => 0,
-            Held::Undo(token) => token.serial(),
-            Held::Redo(token) => token.serial(),
+            DeskToken::Nothing => 0,
+            DeskToken::Undo(token) => token.serial(),
+            DeskToken::Redo(token) => token.serial(),
         }
     }
 
@@ -205,17 +212,17 @@ impl Calls for Table {
         rt: &R,
         _office: &(),
         _by: By,
-        call: Call,
+        call: RowCall,
     ) -> Answer {
         let Table { desk, harvest, .. } = self;
         let order = match call {
-            Call::Settled => return Is(desk.settled()),
-            Call::Page(text) => {
+            RowCall::Settled => return Is(desk.settled()),
+            RowCall::Page(text) => {
                 let page = given(rt, desk.page(rt.alloc()));
                 return Is(is_text(rt.alloc(), &page, text));
             }
-            Call::Commit => return committed(rt, desk, harvest),
-            Call::Other(other) => other_desk(rt, other).order(rt.alloc()),
+            RowCall::Commit => return committed(rt, desk, harvest),
+            RowCall::Other(other) => other_desk(rt, other).order(rt.alloc()),
             _ => desk.order(rt.alloc()),
         };
         hold_harvest(harvest, harvest_of(rt, given(rt, order), call));
@@ -233,12 +240,12 @@ impl Calls for Table {
         rt: &R,
         _office: &(),
         _by: By,
-        _call: Call,
+        _call: RowCall,
     ) -> Answer {
         Has(tokens_out(rt, &mut self.desk) as usize)
     }
 
-    fn looks<R: Abort>(&mut self, rt: &R, _by: By, _call: Call) -> Answer {
+    fn looks<R: Abort>(&mut self, rt: &R, _by: By, _call: RowCall) -> Answer {
         match &self.harvest {
             Some(harvest) => {
                 let order = harvest.order();
@@ -292,9 +299,9 @@ fn carry_out_all<R: Wait + Abort + AllocGlobal>(
 ) {
     let mut table = Table {
         desk: desk_on(rt, game, diagram),
-        first: Held::Nothing,
-        second: Held::Nothing,
-        third: Held::Nothing,
+        first: DeskToken::Nothing,
+        second: DeskToken::Nothing,
+        third: DeskToken::Nothing,
         harvest: None,
     };
     for part in parts {
@@ -327,10 +334,10 @@ fn openings_are_refused(rt: HostRuntime) {
 const OVERTAKE: Part = (
     1,
     &[
-        (One, Call::Decide(First, F, true), Token(1)),
-        (One, Call::Undo(First), Token(1)),
-        (One, Call::Decide(Second, G, true), Token(2)),
-        (One, Call::Redo(First), NotRedone(RedoFault::Overtaken)),
+        (One, RowCall::Decide(First, F, true), Token(1)),
+        (One, RowCall::Undo(First), Token(1)),
+        (One, RowCall::Decide(Second, G, true), Token(2)),
+        (One, RowCall::Redo(First), NotRedone(RedoFault::Overtaken)),
     ],
 );
 
@@ -340,9 +347,9 @@ const SPEND: &[Part] = &[
     (
         1,
         &[
-            (One, Call::Keep(Second), Kept),
-            (One, Call::Close, Has(1)),
-            (One, Call::Forget(First), Forgotten),
+            (One, RowCall::Keep(Second), Kept),
+            (One, RowCall::Close, Has(1)),
+            (One, RowCall::Forget(First), Forgotten),
         ],
     ),
 ];
@@ -353,8 +360,8 @@ const FORGET_FIRST: &[Part] = &[
     (
         1,
         &[
-            (One, Call::Forget(First), Forgotten),
-            (One, Call::Keep(Second), Kept),
+            (One, RowCall::Forget(First), Forgotten),
+            (One, RowCall::Keep(Second), Kept),
         ],
     ),
 ];
@@ -363,26 +370,26 @@ const FORGET_FIRST: &[Part] = &[
 const REFUSE: &[Part] = &[(
     1,
     &[
-        (One, Call::Decide(First, 1, true), Token(1)),
-        (One, Call::Keep(First), Kept),
+        (One, RowCall::Decide(First, 1, true), Token(1)),
+        (One, RowCall::Keep(First), Kept),
         (
             One,
-            Call::Decide(First, 3, true),
+            RowCall::Decide(First, 3, true),
             NotDecided(DecideFault::UnknownFeature),
         ),
         (
             One,
-            Call::Decide(First, 1, true),
+            RowCall::Decide(First, 1, true),
             NotDecided(DecideFault::AlreadyDecided { serial: 1 }),
         ),
         (
             One,
-            Call::Decide(First, 2, true),
+            RowCall::Decide(First, 2, true),
             NotDecided(DecideFault::Conflict { feature: 2 }),
         ),
         (
             One,
-            Call::Retract(First, 3),
+            RowCall::Retract(First, 3),
             NotRetracted(RetractFault::UnknownFeature),
         ),
     ],
@@ -392,29 +399,29 @@ const REFUSE: &[Part] = &[(
 const TURN: &[Part] = &[(
     1,
     &[
-        (One, Call::Decide(First, F, false), Token(1)),
-        (One, Call::Order, Done),
-        (One, Call::Commit, Added(2)),
-        (One, Call::Undo(First), Token(1)),
-        (One, Call::Page("0 decided / 0 0 / 0 0 / "), Is(true)),
-        (One, Call::Lift(0), Done),
-        (One, Call::Commit, Added(1)),
-        (One, Call::Redo(First), Token(1)),
+        (One, RowCall::Decide(First, F, false), Token(1)),
+        (One, RowCall::Order, Done),
+        (One, RowCall::Commit, Added(2)),
+        (One, RowCall::Undo(First), Token(1)),
+        (One, RowCall::Page("0 decided / 0 0 / 0 0 / "), Is(true)),
+        (One, RowCall::Lift(0), Done),
+        (One, RowCall::Commit, Added(1)),
+        (One, RowCall::Redo(First), Token(1)),
         (
             One,
-            Call::Page(
+            RowCall::Page(
                 "1 decided / exclude f 1 by 1 / hopeful 0 0 2 -f / dual 1 0 1 -f / 2 0 / 0 1 / ",
             ),
             Is(true),
         ),
-        (One, Call::Settled, Is(true)),
-        (One, Call::Undo(First), Token(1)),
+        (One, RowCall::Settled, Is(true)),
+        (One, RowCall::Undo(First), Token(1)),
         (
             One,
-            Call::Page("0 decided / hopeful 0 0 1 / 1 0 / 0 0 / "),
+            RowCall::Page("0 decided / hopeful 0 0 1 / 1 0 / 0 0 / "),
             Is(true),
         ),
-        (One, Call::Forget(First), Forgotten),
+        (One, RowCall::Forget(First), Forgotten),
     ],
 )];
 
@@ -422,29 +429,29 @@ const TURN: &[Part] = &[(
 const RETRACT: &[Part] = &[(
     1,
     &[
-        (One, Call::Decide(First, F, true), Token(1)),
-        (One, Call::Decide(Second, G, true), Token(2)),
-        (One, Call::Order, Done),
-        (One, Call::Commit, Added(3)),
-        (One, Call::Verdict(0), Says(false, true)),
-        (Two, Call::Retract(Third, F), Token(3)),
+        (One, RowCall::Decide(First, F, true), Token(1)),
+        (One, RowCall::Decide(Second, G, true), Token(2)),
+        (One, RowCall::Order, Done),
+        (One, RowCall::Commit, Added(3)),
+        (One, RowCall::Verdict(0), Says(false, true)),
+        (Two, RowCall::Retract(Third, F), Token(3)),
         (
             One,
-            Call::Page("1 decided / select g 2 by 1 / 0 0 / 0 0 / "),
+            RowCall::Page("1 decided / select g 2 by 1 / 0 0 / 0 0 / "),
             Is(true),
         ),
-        (One, Call::Settled, Is(false)),
-        (One, Call::Order, Done),
-        (One, Call::Commit, Added(2)),
-        (One, Call::Verdict(0), Says(false, false)),
-        (One, Call::Keep(Third), Kept),
+        (One, RowCall::Settled, Is(false)),
+        (One, RowCall::Order, Done),
+        (One, RowCall::Commit, Added(2)),
+        (One, RowCall::Verdict(0), Says(false, false)),
+        (One, RowCall::Keep(Third), Kept),
         (
             One,
-            Call::Retract(Third, F),
+            RowCall::Retract(Third, F),
             NotRetracted(RetractFault::NotDecided),
         ),
-        (One, Call::Keep(Second), Kept),
-        (One, Call::Keep(First), Kept),
+        (One, RowCall::Keep(Second), Kept),
+        (One, RowCall::Keep(First), Kept),
     ],
 )];
 
@@ -453,14 +460,14 @@ const COME_LATE: &[Part] = &[
     (
         1,
         &[
-            (One, Call::Decide(First, F, false), Token(1)),
-            (One, Call::Order, Done),
-            (Two, Call::Retract(Second, F), Token(2)),
-            (One, Call::Keep(Second), Kept),
-            (One, Call::Keep(First), Kept),
+            (One, RowCall::Decide(First, F, false), Token(1)),
+            (One, RowCall::Order, Done),
+            (Two, RowCall::Retract(Second, F), Token(2)),
+            (One, RowCall::Keep(Second), Kept),
+            (One, RowCall::Keep(First), Kept),
             (
                 One,
-                Call::Commit,
+                RowCall::Commit,
                 NotCommitted(CommitFault::Outdated { feature: F }),
             ),
         ],
@@ -468,21 +475,21 @@ const COME_LATE: &[Part] = &[
     (
         100,
         &[
-            (One, Call::Decide(First, F, false), AnyToken),
-            (One, Call::Keep(First), Kept),
-            (Two, Call::Retract(First, F), AnyToken),
-            (One, Call::Keep(First), Kept),
+            (One, RowCall::Decide(First, F, false), AnyToken),
+            (One, RowCall::Keep(First), Kept),
+            (Two, RowCall::Retract(First, F), AnyToken),
+            (One, RowCall::Keep(First), Kept),
         ],
     ),
     (
         1,
         &[
-            (One, Call::Decide(First, F, false), Token(203)),
-            (One, Call::Keep(First), Kept),
-            (One, Call::Commit, Added(2)),
+            (One, RowCall::Decide(First, F, false), Token(203)),
+            (One, RowCall::Keep(First), Kept),
+            (One, RowCall::Commit, Added(2)),
             (
                 One,
-                Call::Page(
+                RowCall::Page(
                     "1 decided / exclude f 203 by 1 / hopeful 0 0 2 -f / dual 1 0 1 -f / 2 0 / 0 1 / ",
                 ),
                 Is(true),
@@ -495,12 +502,12 @@ const COME_LATE: &[Part] = &[
 const TAKE_FROM_BOARD: &[Part] = &[(
     1,
     &[
-        (One, Call::Seated, Done),
-        (One, Call::Commit, Added(2)),
-        (One, Call::Settled, Is(true)),
+        (One, RowCall::Seated, Done),
+        (One, RowCall::Commit, Added(2)),
+        (One, RowCall::Settled, Is(true)),
         (
             One,
-            Call::Page("0 decided / hopeful 0 0 1 / dual 1 0 1 / 1 0 / 0 1 / "),
+            RowCall::Page("0 decided / hopeful 0 0 1 / dual 1 0 1 / 1 0 / 0 1 / "),
             Is(true),
         ),
     ],
@@ -510,12 +517,12 @@ const TAKE_FROM_BOARD: &[Part] = &[(
 const HAND_IN_OTHERS: &[Part] = &[(
     1,
     &[
-        (One, Call::Other(Other::Game), Done),
-        (One, Call::Commit, NotCommitted(CommitFault::OtherGame)),
-        (One, Call::Sizes, Sizes(1, 3)),
-        (One, Call::Other(Other::Diagram), Done),
-        (One, Call::Commit, NotCommitted(CommitFault::OtherGame)),
-        (One, Call::Sizes, Sizes(2, 4)),
+        (One, RowCall::Other(Other::Game), Done),
+        (One, RowCall::Commit, NotCommitted(CommitFault::OtherGame)),
+        (One, RowCall::Sizes, Sizes(1, 3)),
+        (One, RowCall::Other(Other::Diagram), Done),
+        (One, RowCall::Commit, NotCommitted(CommitFault::OtherGame)),
+        (One, RowCall::Sizes, Sizes(2, 4)),
     ],
 )];
 
@@ -524,16 +531,16 @@ const TO_THE_LIMIT: &[Part] = &[
     (
         1_048_576,
         &[
-            (One, Call::Decide(First, F, true), AnyToken),
-            (One, Call::Undo(First), AnyToken),
-            (One, Call::Forget(First), Forgotten),
+            (One, RowCall::Decide(First, F, true), AnyToken),
+            (One, RowCall::Undo(First), AnyToken),
+            (One, RowCall::Forget(First), Forgotten),
         ],
     ),
     (
         1,
         &[(
             One,
-            Call::Decide(First, F, true),
+            RowCall::Decide(First, F, true),
             NotDecided(DecideFault::TooManyChanges),
         )],
     ),

@@ -6,7 +6,7 @@ use crate::calls::Answer::{
 };
 use crate::calls::At::{First, Second, Third};
 use crate::calls::By::{One, Two};
-use crate::calls::Call::{
+use crate::calls::RowCall::{
     Calls, Commit, Decide, Forget, Keep, Lift, Order, Page, Redo, Retract, Settled, Undo, Verdict,
 };
 use crate::calls::Step;

@@ -1,7 +1,7 @@
 //! Sessions at work, without the clauses of their calls: what follows a call is then proved with few facts beside it.
 //! An event that a test never expects, such as memory running out, stops it.
 
-use crate::calls::{Answer, At, By, Call, Calls, harvest_of, hold_harvest};
+use crate::calls::{Answer, At, By, Calls, RowCall, harvest_of, hold_harvest};
 use crate::given::given;
 use crate::pages::is_text;
 use std::mem;
@@ -49,7 +49,7 @@ impl<L: Terms> Drop for Sitting<L> {
 }
 
 /// The token of a change that was made or undone, until it is spent.
-pub enum Held<L: Terms> {
+pub enum OfficeToken<L: Terms> {
     Nothing,
     Undo(Undo<L>),
     Redo(Redo<L>),
@@ -57,13 +57,13 @@ pub enum Held<L: Terms> {
 
 /// The tokens that are held.
 pub struct Tokens<L: Terms> {
-    pub first: Held<L>,
-    pub second: Held<L>,
-    pub third: Held<L>,
+    pub first: OfficeToken<L>,
+    pub second: OfficeToken<L>,
+    pub third: OfficeToken<L>,
 }
 
 impl<L: Terms> Tokens<L> {
-    fn at(&mut self, at: At) -> &mut Held<L> {
+    fn at(&mut self, at: At) -> &mut OfficeToken<L> {
         match at {
             At::First => &mut self.first,
             At::Second => &mut self.second,
@@ -97,9 +97,9 @@ pub fn hand_of<L: Terms, R: Abort + AllocGlobal>(rt: &R, seat: Seat<L>) -> Hand<
             watches: Vec::new(rt.alloc()),
         },
         tokens: Tokens {
-            first: Held::Nothing,
-            second: Held::Nothing,
-            third: Held::Nothing,
+            first: OfficeToken::Nothing,
+            second: OfficeToken::Nothing,
+            third: OfficeToken::Nothing,
         },
     }
 }
@@ -117,9 +117,9 @@ pub fn free<L: Terms>(rt: &impl Abort, hand: Hand<L>) {
     is_nothing(rt, third);
 }
 
-fn is_nothing<L: Terms>(rt: &impl Abort, held: Held<L>) {
+fn is_nothing<L: Terms>(rt: &impl Abort, held: OfficeToken<L>) {
     match held {
-        Held::Nothing => {}
+        OfficeToken::Nothing => {}
         _ => rt.panic("a token is held"),
     }
 }
@@ -133,15 +133,15 @@ fn refusal<L: Terms, F>(rt: &impl Abort, fault: Fault<L, F>) -> F {
 }
 
 /// Returns the token of a change to hold, and its serial.
-fn undo_of<L: Terms>(token: Undo<L>) -> (Held<L>, Answer) {
+fn undo_of<L: Terms>(token: Undo<L>) -> (OfficeToken<L>, Answer) {
     let serial = token.serial();
-    (Held::Undo(token), Answer::Token(serial))
+    (OfficeToken::Undo(token), Answer::Token(serial))
 }
 
 /// Returns the token of an undone change to hold, and its serial.
-fn redo_of<L: Terms>(token: Redo<L>) -> (Held<L>, Answer) {
+fn redo_of<L: Terms>(token: Redo<L>) -> (OfficeToken<L>, Answer) {
     let serial = token.serial();
-    (Held::Redo(token), Answer::Token(serial))
+    (OfficeToken::Redo(token), Answer::Token(serial))
 }
 
 /// Makes a call that gives a token, or spends the one that is held. Returns the token that is held then, and the
@@ -150,26 +150,29 @@ fn changed<L: Terms, R: Wait + Abort + AllocGlobal>(
     rt: &R,
     office: &Office<L>,
     seat: &mut Seat<L>,
-    held: Held<L>,
-    call: Call,
-) -> (Held<L>, Answer) {
+    held: OfficeToken<L>,
+    call: RowCall,
+) -> (OfficeToken<L>, Answer) {
     let alloc = rt.alloc();
     let Seat { session, front } = seat;
     match held {
-        Held::Nothing => match call {
-            Call::Decide(_, feature, value) => {
+        OfficeToken::Nothing => match call {
+            RowCall::Decide(_, feature, value) => {
                 match session.decide(rt, alloc, office, front, feature, value) {
                     Ok(token) => undo_of(token),
-                    Err(fault) => (Held::Nothing, Answer::NotDecided(refusal(rt, fault))),
+                    Err(fault) => (OfficeToken::Nothing, Answer::NotDecided(refusal(rt, fault))),
                 }
             }
-            Call::Retract(_, feature) => {
+            RowCall::Retract(_, feature) => {
                 match session.retract(rt, alloc, office, front, feature) {
                     Ok(token) => undo_of(token),
-                    Err(fault) => (Held::Nothing, Answer::NotRetracted(refusal(rt, fault))),
+                    Err(fault) => (
+                        OfficeToken::Nothing,
+                        Answer::NotRetracted(refusal(rt, fault)),
+                    ),
                 }
             }
-            _ => (Held::Nothing, Answer::NoCall),
+            _ => (OfficeToken::Nothing, Answer::NoCall),
         },
         held => spent(rt, office, seat, held, call),
     }
@@ -180,36 +183,42 @@ fn spent<L: Terms, R: Wait + Abort + AllocGlobal>(
     rt: &R,
     office: &Office<L>,
     seat: &mut Seat<L>,
-    held: Held<L>,
-    call: Call,
-) -> (Held<L>, Answer) {
+    held: OfficeToken<L>,
+    call: RowCall,
+) -> (OfficeToken<L>, Answer) {
     let Seat { session, front } = seat;
     match held {
-        Held::Undo(token) => match call {
-            Call::Undo(_) => match session.undo(rt, rt.alloc(), office, front, token) {
+        OfficeToken::Undo(token) => match call {
+            RowCall::Undo(_) => match session.undo(rt, rt.alloc(), office, front, token) {
                 Ok(token) => redo_of(token),
                 Err(Returned { fault, value }) => {
-                    (Held::Undo(value), Answer::NotUndone(refusal(rt, fault)))
+                    (
+                        OfficeToken::Undo(value),
+                        Answer::NotUndone(refusal(rt, fault)),
+                    )
                 }
             },
             _ => {
                 given(rt, session.keep(rt, office, front, token));
-                (Held::Nothing, Answer::Kept)
+                (OfficeToken::Nothing, Answer::Kept)
             }
         },
-        Held::Redo(token) => match call {
-            Call::Redo(_) => match session.redo(rt, rt.alloc(), office, front, token) {
+        OfficeToken::Redo(token) => match call {
+            RowCall::Redo(_) => match session.redo(rt, rt.alloc(), office, front, token) {
                 Ok(token) => undo_of(token),
                 Err(Returned { fault, value }) => {
-                    (Held::Redo(value), Answer::NotRedone(refusal(rt, fault)))
+                    (
+                        OfficeToken::Redo(value),
+                        Answer::NotRedone(refusal(rt, fault)),
+                    )
                 }
             },
             _ => {
                 given(rt, session.forget(rt, office, front, token));
-                (Held::Nothing, Answer::Forgotten)
+                (OfficeToken::Nothing, Answer::Forgotten)
             }
         },
-        Held::Nothing => (Held::Nothing, Answer::NoCall),
+        OfficeToken::Nothing => (OfficeToken::Nothing, Answer::NoCall),
     }
 }
 
@@ -244,21 +253,27 @@ impl<L: Terms> Calls for Hand<L> {
         office: &Office<L>,
         by: By,
         at: At,
-        call: Call,
+        call: RowCall,
     ) -> Answer {
         let seats = &mut self.sitting.seats;
         let seat = seats.get_mut(by as usize).expect(rt, "no session");
         let held = self.tokens.at(at);
-        let (now, answer) = changed(rt, office, seat, mem::replace(held, Held::Nothing), call);
+        let (now, answer) = changed(
+            rt,
+            office,
+            seat,
+            mem::replace(held, OfficeToken::Nothing),
+            call,
+        );
         is_nothing(rt, mem::replace(held, now));
         answer
     }
 
     fn serial(&mut self, at: At) -> u64 {
         match self.tokens.at(at) {
-            Held::Nothing => 0,
-            Held::Undo(token) => token.serial(),
-            Held::Redo(token) => token.serial(),
+            OfficeToken::Nothing => 0,
+            OfficeToken::Undo(token) => token.serial(),
+            OfficeToken::Redo(token) => token.serial(),
         }
     }
 
@@ -267,7 +282,7 @@ impl<L: Terms> Calls for Hand<L> {
         rt: &R,
         office: &Office<L>,
         by: By,
-        call: Call,
+        call: RowCall,
     ) -> Answer {
         let alloc = rt.alloc();
         let seats = &mut self.sitting.seats;
@@ -275,16 +290,16 @@ impl<L: Terms> Calls for Hand<L> {
         let harvest = &mut self.sitting.harvest;
         let Seat { session, front } = seat;
         match call {
-            Call::Settled => settled(rt, session.settled(rt, office, front)),
-            Call::SettledEarly => {
+            RowCall::Settled => settled(rt, session.settled(rt, office, front)),
+            RowCall::SettledEarly => {
                 let early = &mut self.sitting.early;
                 settled(rt, session.settled(rt, office, early))
             }
-            Call::Page(text) => {
+            RowCall::Page(text) => {
                 let page = given(rt, session.page(rt, alloc, office, front));
                 Answer::Is(is_text(alloc, &page, text))
             }
-            Call::Commit => {
+            RowCall::Commit => {
                 let taken = harvest.take().expect(rt, "no harvest");
                 match session.commit(rt, alloc, office, front, taken) {
                     Ok(added) => Answer::Added(added),
@@ -321,21 +336,21 @@ impl<L: Terms> Calls for Hand<L> {
         rt: &R,
         office: &Office<L>,
         by: By,
-        call: Call,
+        call: RowCall,
     ) -> Answer {
         match call {
-            Call::Watch => match office.watch(rt) {
+            RowCall::Watch => match office.watch(rt) {
                 Ok(watch) => {
                     given(rt, self.sitting.watches.push(watch));
                     Answer::Done
                 }
                 Err(_) => Answer::NoPlace,
             },
-            Call::Join => match office.join(rt) {
+            RowCall::Join => match office.join(rt) {
                 Ok((session, front)) => Answer::Joined(session.number(), front.len()),
                 Err(_) => Answer::NoPlace,
             },
-            Call::Meet => {
+            RowCall::Meet => {
                 let seats = &mut self.sitting.seats;
                 if seats.len() != 2 {
                     return Answer::NoPlace;
@@ -350,7 +365,7 @@ impl<L: Terms> Calls for Hand<L> {
         }
     }
 
-    fn looks<R: Abort>(&mut self, rt: &R, by: By, call: Call) -> Answer {
+    fn looks<R: Abort>(&mut self, rt: &R, by: By, call: RowCall) -> Answer {
         let Sitting {
             seats,
             early,
@@ -358,19 +373,19 @@ impl<L: Terms> Calls for Hand<L> {
             ..
         } = &mut self.sitting;
         match call {
-            Call::Unwatch => {
+            RowCall::Unwatch => {
                 watches.clear();
                 Answer::Done
             }
-            Call::Sees => match watches.last_mut() {
+            RowCall::Sees => match watches.last_mut() {
                 Some(watch) => read_by(watch),
                 None => Answer::NoWatch,
             },
-            Call::EarlyCalls => Answer::Has(early.len()),
+            RowCall::EarlyCalls => Answer::Has(early.len()),
             _ => {
                 let seat = seats.get(by as usize).expect(rt, "no session");
                 match call {
-                    Call::Number => Answer::Joined(seat.session.number(), seat.front.len()),
+                    RowCall::Number => Answer::Joined(seat.session.number(), seat.front.len()),
                     _ => Answer::Has(seat.front.len()),
                 }
             }

@@ -3,7 +3,7 @@
 use crate::calls::Answer::{Doubled, Full, Has, Is, Joined, Says, Token};
 use crate::calls::At::First;
 use crate::calls::By::{One, Two};
-use crate::calls::Call::{
+use crate::calls::RowCall::{
     Calls, Decide, EarlyCalls, Join, JoinAll, Meet, Page, Settled, SettledEarly, Verdict,
 };
 use crate::calls::Step;

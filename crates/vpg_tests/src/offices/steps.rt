@@ -1,9 +1,9 @@
 //! Days of two sessions of an office, as tables of calls with the answers that they have to have.
 ghost use Rattle.std.specs.Prelude.{◌≡◌, length};
 
-use crate::calls::{Answer, By, Call, Calls, Step, carry_out};
+use crate::calls::{Answer, By, Calls, RowCall, Step, carry_out};
 use crate::given::{given, require};
-use crate::offices::hands::{Hand, Held, free, hand_of, joined};
+use crate::offices::hands::{Hand, OfficeToken, free, hand_of, joined};
 use std::mem;
 use std::process::Abort;
 use std::sync::{Arc, Wait};
@@ -50,12 +50,12 @@ fn refused<L: Terms, R: Wait + Abort>(rt: &R, office: Office<L>, hand: &mut Hand
 }
 
 /// Returns the token of a change, if one is held.
-fn undos_of<L: Terms, R: Abort + AllocGlobal>(rt: &R, held: Held<L>) -> Vec<Undo<L>> {
+fn undos_of<L: Terms, R: Abort + AllocGlobal>(rt: &R, held: OfficeToken<L>) -> Vec<Undo<L>> {
     let mut undos = Vec::new(rt.alloc());
     match held {
-        Held::Nothing => {}
-        Held::Undo(token) => given(rt, undos.push(token)),
-        Held::Redo(_token) => rt.panic("the token of an undone change is held"),
+        OfficeToken::Nothing => {}
+        OfficeToken::Undo(token) => given(rt, undos.push(token)),
+        OfficeToken::Redo(_token) => rt.panic("the token of an undone change is held"),
     }
     undos
 }
@@ -89,7 +89,10 @@ pub fn end<L: Terms, R: Wait + Abort + AllocGlobal>(
     let ended = if closes {
         given(rt, office.share().close(rt))
     } else {
-        let undos = undos_of(rt, mem::replace(&mut hand.tokens.first, Held::Nothing));
+        let undos = undos_of(
+            rt,
+            mem::replace(&mut hand.tokens.first, OfficeToken::Nothing),
+        );
         office.share().end(rt, undos, Vec::new(rt.alloc()))
     };
     require(rt, ended.further() == 0, "no token is out");
@@ -98,15 +101,15 @@ pub fn end<L: Terms, R: Wait + Abort + AllocGlobal>(
 /// Whether the session's front at the end of a day has all calls, and a watch reads nothing.
 fn is_over<S: Calls>(rt: &impl Abort, hand: &mut S, day: Day) -> bool {
     let by = if day.closes { By::One } else { By::Two };
-    let seen = hand.looks(rt, by, Call::Sees);
-    hand.looks(rt, by, Call::Calls) == Answer::Has(day.calls)
+    let seen = hand.looks(rt, by, RowCall::Sees);
+    hand.looks(rt, by, RowCall::Calls) == Answer::Has(day.calls)
         && matches!(seen, Answer::NoSheet | Answer::NoWatch)
 }
 
 /// The sessions are the first and the second, and have seen nothing.
 const BEGIN: &[Step] = &[
-    (By::One, Call::Number, Answer::Joined(1, 0)),
-    (By::Two, Call::Number, Answer::Joined(2, 0)),
+    (By::One, RowCall::Number, Answer::Joined(1, 0)),
+    (By::Two, RowCall::Number, Answer::Joined(2, 0)),
 ];
 
 /// Makes a day's calls of two sessions on an office, which is ended then: the front has all calls, and a watch reads

@@ -6,7 +6,7 @@ ghost use Rattle.std.specs.Arc.{arc_value};
 ghost use Rattle.std.specs.Prelude.{◌≡◌, ◌≤◌};
 ghost use Rattle.vpg_diagram.specs.FeatureDiagram.{feature_count};
 
-use crate::calls::{Answer, At, By, Call, Calls, hold_harvest};
+use crate::calls::{Answer, At, By, Calls, RowCall, hold_harvest};
 use crate::given::{DIAGRAM, F, GAME, family, given, require};
 use crate::offices::hands::{Seat, free, hand_of, joined};
 use crate::offices::steps::end;
@@ -81,17 +81,17 @@ impl Places {
 }
 
 /// Returns the call of a session in rounds after this many: a feature is decided and retracted, in four calls.
-fn call_of(feature: u16, before: u32) -> Call {
+fn call_of(feature: u16, before: u32) -> RowCall {
     match before % 4 {
-        0 => Call::Decide(At::First, feature, true),
-        2 => Call::Retract(At::First, feature),
-        _ => Call::Keep(At::First),
+        0 => RowCall::Decide(At::First, feature, true),
+        2 => RowCall::Retract(At::First, feature),
+        _ => RowCall::Keep(At::First),
     }
 }
 
 /// Returns the number of the front's calls.
 fn calls<S: Calls>(rt: &impl Abort, hand: &mut S) -> usize {
-    match hand.looks(rt, By::One, Call::Calls) {
+    match hand.looks(rt, By::One, RowCall::Calls) {
         Answer::Has(calls) => calls,
         _ => rt.panic("no front"),
     }
@@ -164,12 +164,12 @@ fn decide<S: Calls, R: Wait + Abort + AllocGlobal>(
     shared: &Shared,
 ) -> Answer {
     require(rt, is_set(&shared.ordered), "an order was taken");
-    let call = Call::Decide(At::First, F, value);
+    let call = RowCall::Decide(At::First, F, value);
     let answer = hand.changes(rt, office, By::One, At::First, call);
     shared.decided.store(1, Ordering::SeqCst);
     require(rt, is_set(&shared.committed), "a harvest was committed");
     if matches!(answer, Answer::Token(_)) {
-        hand.changes(rt, office, By::One, At::First, Call::Keep(At::First));
+        hand.changes(rt, office, By::One, At::First, RowCall::Keep(At::First));
     }
     answer
 }
@@ -192,12 +192,12 @@ fn commit_late<S: Calls, R: Threads + Wait + Abort + AllocGlobal + Sync>(
     hand: &mut S,
     shared: &Shared,
 ) -> Answer {
-    hand.asks(rt, office, By::One, Call::Bare);
+    hand.asks(rt, office, By::One, RowCall::Bare);
     shared.ordered.store(1, Ordering::SeqCst);
     swept(rt, hand.harvest(), shared);
     let has_passed = shared.passed.load(Ordering::SeqCst) == 1;
     require(rt, has_passed, "the lifter went on");
-    let answer = hand.asks(rt, office, By::One, Call::Commit);
+    let answer = hand.asks(rt, office, By::One, RowCall::Commit);
     require(rt, calls(rt, hand) == 3, "a commit that comes third");
     shared.committed.store(1, Ordering::SeqCst);
     answer
@@ -209,7 +209,7 @@ fn read_on<S: Calls, R: Wait + Abort>(rt: &R, hand: &mut S, shared: &Shared) -> 
     let mut last = 0;
     for _ in rt.forever() {
         let has_ended = shared.ended.load(Ordering::SeqCst) != 0;
-        let answer = hand.looks(rt, By::One, Call::Sees);
+        let answer = hand.looks(rt, By::One, RowCall::Sees);
         let Answer::Sheet(at, _) = answer else {
             rt.panic("no sheet")
         };
@@ -336,7 +336,7 @@ fn is_left<S: Calls, R: Wait + Abort + AllocGlobal>(
     }
     match rush.page {
         Some(text) => {
-            hand.asks(rt, office, By::One, Call::Page(text)) == Answer::Is(true)
+            hand.asks(rt, office, By::One, RowCall::Page(text)) == Answer::Is(true)
                 && calls(rt, hand) == rush.calls.saturating_add(1)
         }
         None => true,

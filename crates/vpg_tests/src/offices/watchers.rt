@@ -6,7 +6,7 @@ use crate::calls::Answer::{
 };
 use crate::calls::At::{First, Second};
 use crate::calls::By::{One, Two};
-use crate::calls::Call::{
+use crate::calls::RowCall::{
     Calls, Commit, Decide, Forget, Keep, Order, Page, Redo, Retract, Sees, Settled, Undo, Verdict,
     Watch, WatchAll,
 };

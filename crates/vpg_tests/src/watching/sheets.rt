@@ -4,7 +4,7 @@ ghost use Rattle.std.specs.Thread.{IsSync};
 
 use crate::given::{given, require, require_at};
 use crate::watching::sheets::Step::{Clear, Publish, Reads, Watches};
-use crate::watching::steps::{Steps, Told, sheet, sheet_of, told};
+use crate::watching::steps::{SheetValues, Steps, sheet, sheet_of, told};
 use std::process::Abort;
 use std::sync::Wait;
 use std::test::*;
@@ -44,7 +44,7 @@ fn add_watches<R: Abort>(
 }
 
 /// Returns the sheet that the watch at a place reads.
-fn read_at(watches: &mut Vec<Watch<Steps>>, place: usize) -> Option<Told> {
+fn read_at(watches: &mut Vec<Watch<Steps>>, place: usize) -> Option<SheetValues> {
     match watches.get_mut(place) {
         Some(watch) => told(watch),
         None => None,
@@ -77,7 +77,7 @@ enum Step {
     /// The sheet of this many steps is published.
     Publish(u32),
     /// The watch at this place reads such a sheet.
-    Reads(usize, Told),
+    Reads(usize, SheetValues),
     /// All watches are dropped.
     Clear,
 }

@@ -3,7 +3,7 @@ use Rattle.vpg_desk.specs.Book as book
 use Rattle.vpg_desk.specs.Book.{Book}
 use Rattle.vpg_desk.specs.Faults.{retract_refusal}
 use Rattle.vpg_office.specs.Made.{IsMade}
-use Rattle.vpg_office.specs.declared.asked.Asked.TheVariants as ask
+use Rattle.vpg_office.specs.declared.asked.SessionCall.TheVariants as ask
 use Rattle.vpg_office.proofs.Calling.{refused_is}
 use Rattle.vpg_office.proofs.changes.RetractCallCall.carry_out.Goals as goal
 

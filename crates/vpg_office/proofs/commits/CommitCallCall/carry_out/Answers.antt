@@ -9,7 +9,7 @@ use Rattle.vpg_desk.specs.Lawful.{IsLawful}
 use Rattle.vpg_desk.specs.State.{IsStep}
 use Rattle.vpg_office.specs.Fronts.{family_between}
 use Rattle.vpg_office.specs.Story.{IsOf, tells_other}
-use Rattle.vpg_office.specs.declared.asked.Asked.TheVariants as ask
+use Rattle.vpg_office.specs.declared.asked.SessionCall.TheVariants as ask
 use Rattle.vpg_office.proofs.Committing.{lawful_harvest, refused_harvest}
 use Rattle.vpg_office.proofs.commits.CommitCallCall.carry_out.Goals as goal
 

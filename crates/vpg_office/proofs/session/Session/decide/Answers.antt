@@ -5,8 +5,8 @@ use Rattle.vpg_desk.specs.Faults.{decide_refusal}
 use Rattle.vpg_desk.specs.History.{gives_undo}
 use Rattle.vpg_office.specs.Faults.{Tells, logged}
 use Rattle.vpg_office.specs.Fronts.{Extends, family_between}
-use Rattle.vpg_office.specs.Token.{Held}
-use Rattle.vpg_office.specs.declared.asked.Asked.TheVariants as ask
+use Rattle.vpg_office.specs.Token.{TokenView}
+use Rattle.vpg_office.specs.declared.asked.SessionCall.TheVariants as ask
 use Rattle.vpg_office.proofs.Calling.{entered_ends, entered_extends, leaves_tells}
 use Rattle.vpg_office.proofs.session.Session.decide.Goals as goal
 
@@ -19,7 +19,7 @@ of-requires-clause-ends g c = entered_ends (λ reply. IsTrue (gives_undo c.in-Ok
 pub returns-in-Ok-clause-done : goal.returns-in-Ok-clause-done
 returns-in-Ok-clause-done g c =
     let F = family_between g.L.Terms.game g.L.Terms.diagram in
-    (coe 0 1 (k. Extends F c.args.front.now c.args.self.now.number (book.Decide c.args.feature c.args.value) (book.Changed ((sym c.of.ensures) k).serial) c.make.new.front) (entered_extends c.in-Ok.ensures.made.1.0 c.in-Ok.ensures.made.1.1.1.0), ap (λ (t : Held). t.history) c.of.ensures)
+    (coe 0 1 (k. Extends F c.args.front.now c.args.self.now.number (book.Decide c.args.feature c.args.value) (book.Changed ((sym c.of.ensures) k).serial) c.make.new.front) (entered_extends c.in-Ok.ensures.made.1.0 c.in-Ok.ensures.made.1.1.1.0), ap (λ (t : TokenView). t.history) c.of.ensures)
 
 pub returns-in-Err-clause-fault : goal.returns-in-Err-clause-fault
 returns-in-Err-clause-fault g c =

@@ -3,7 +3,7 @@ use mathlib.Core.List.{IsPrefix}
 use Rattle.vpg_desk.specs.Book as book
 use Rattle.vpg_office.specs.Faults.{never_refused}
 use Rattle.vpg_office.specs.Fronts.{event}
-use Rattle.vpg_office.specs.declared.asked.Asked.TheVariants as ask
+use Rattle.vpg_office.specs.declared.asked.SessionCall.TheVariants as ask
 use Rattle.vpg_office.proofs.Calling.{entered_extends, leaves_tells, prefix_more}
 use Rattle.vpg_office.proofs.session.Session.forget.Goals as goal
 

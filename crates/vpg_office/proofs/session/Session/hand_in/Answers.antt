@@ -6,7 +6,7 @@ use Rattle.vpg_desk.specs.Book as book
 use Rattle.vpg_desk.specs.Commit.{handed_in}
 use Rattle.vpg_office.specs.Fronts.{Extends, family_between}
 use Rattle.vpg_office.specs.Story.{IsOf, tells_other}
-use Rattle.vpg_office.specs.declared.asked.Asked.TheVariants as ask
+use Rattle.vpg_office.specs.declared.asked.SessionCall.TheVariants as ask
 use Rattle.vpg_office.proofs.Calling.{entered_extends}
 use Rattle.vpg_office.proofs.Committing.{leaves_commit}
 use Rattle.vpg_office.proofs.session.Session.hand_in.Goals as goal

@@ -2,7 +2,7 @@ use Rattle.std.proofs.Common.{refl, sym, ap, ◌∙◌, length, ◌≡◌, ◌+�
 use Rattle.vpg_desk.specs.Book as book
 use Rattle.vpg_office.specs.Faults.{Tells, never_refused, logged}
 use Rattle.vpg_office.specs.Fronts.{Extends, family_between}
-use Rattle.vpg_office.specs.declared.asked.Asked.TheVariants as ask
+use Rattle.vpg_office.specs.declared.asked.SessionCall.TheVariants as ask
 use Rattle.vpg_office.proofs.Calling.{entered_extends, leaves_tells}
 use Rattle.std.specs.Arc.{arc_value}
 use Rattle.vpg_measure.specs.Games.{ArePageGames}

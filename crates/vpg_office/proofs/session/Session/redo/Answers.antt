@@ -6,8 +6,8 @@ use Rattle.vpg_desk.specs.Faults.{redo_refusal}
 use Rattle.vpg_desk.specs.History.{gives_undo}
 use Rattle.vpg_office.specs.Fronts.{Extends, event, family_between}
 use Rattle.vpg_office.specs.Kept.{IsLastGiven}
-use Rattle.vpg_office.specs.Token.{Held}
-use Rattle.vpg_office.specs.declared.asked.Asked.TheVariants as ask
+use Rattle.vpg_office.specs.Token.{TokenView}
+use Rattle.vpg_office.specs.declared.asked.SessionCall.TheVariants as ask
 use Rattle.vpg_office.proofs.Calling.{entered_ends, entered_extends, leaves_begins, leaves_tells, prefix_more}
 use Rattle.vpg_office.proofs.Swinging.{redone_back}
 use Rattle.vpg_office.proofs.session.Session.redo.Goals as goal
@@ -24,7 +24,7 @@ of-requires-clause-ends g c = entered_ends (λ reply. IsTrue (gives_undo c.in-Ok
 pub returns-in-Ok-clause-done : goal.returns-in-Ok-clause-done
 returns-in-Ok-clause-done g c =
     let F = family_between g.L.Terms.game g.L.Terms.diagram in
-    (coe 0 1 (k. Extends F c.args.front.now c.args.self.now.number (book.Redo c.args.token.serial) (book.Redone ((sym c.of.ensures) k).serial) c.make.new.front) (entered_extends c.in-Ok.ensures.made.1.0 c.in-Ok.ensures.made.1.1.1.0), ap (λ (t : Held). t.history) c.of.ensures)
+    (coe 0 1 (k. Extends F c.args.front.now c.args.self.now.number (book.Redo c.args.token.serial) (book.Redone ((sym c.of.ensures) k).serial) c.make.new.front) (entered_extends c.in-Ok.ensures.made.1.0 c.in-Ok.ensures.made.1.1.1.0), ap (λ (t : TokenView). t.history) c.of.ensures)
 
 pub returns-in-Ok-clause-goes_back : goal.returns-in-Ok-clause-goes_back
 returns-in-Ok-clause-goes_back g c =

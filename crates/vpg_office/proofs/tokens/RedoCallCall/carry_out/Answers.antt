@@ -6,8 +6,8 @@ use Rattle.vpg_desk.specs.Desk.{family_of}
 use Rattle.vpg_desk.specs.History.{gives_redo}
 use Rattle.vpg_desk.specs.Faults.{redo_refusal}
 use Rattle.vpg_desk.specs.State.{IsStep, Replies, setting_of}
-use Rattle.vpg_office.specs.Token.{EndsWith, Held}
-use Rattle.vpg_office.specs.declared.asked.Asked.TheVariants as ask
+use Rattle.vpg_office.specs.Token.{EndsWith, TokenView}
+use Rattle.vpg_office.specs.declared.asked.SessionCall.TheVariants as ask
 use Rattle.vpg_office.proofs.Calling.{refused_is}
 use Rattle.vpg_office.proofs.Swinging.{redone_same, redone_tokens}
 use Rattle.vpg_office.proofs.tokens.RedoCallCall.carry_out.Goals as goal
@@ -49,12 +49,12 @@ invariant_of-token g c = (
 pub returns-in-Err-clause-refused : goal.returns-in-Err-clause-refused
 returns-in-Err-clause-refused g c =
     refused_is g.L.Terms.game g.L.Terms.diagram c.args.desk.now (ask.Redo c.args.self.token.serial) (book.Redo c.args.self.token.serial) redo_refusal c.redo_cause.result c.in-Err.refused.fault c.reason.result (λ r. refl) (λ r. (tt, tt)) c.redo_cause.ensures c.reason.ensures.some
-    (subst (λ (t : Held). IfSome (redo_refusal c.in-Err.refused.fault) (λ r. Replies c.args.desk.now (book.Redo t.serial) (book.Refused r))) c.token.view_is c.in-Err.ensures.refused)
+    (subst (λ (t : TokenView). IfSome (redo_refusal c.in-Err.refused.fault) (λ r. Replies c.args.desk.now (book.Redo t.serial) (book.Refused r))) c.token.view_is c.in-Err.ensures.refused)
 
 pub returns-in-Err-clause-counted : goal.returns-in-Err-clause-counted
 returns-in-Err-clause-counted g c = c.audit.ensures.same ∙ c.requires.counted ∙ (λ k. ((sym c.in-Err.ensures.err) k).book.tokens)
 
 pub returns-in-Err-clause-back : goal.returns-in-Err-clause-back
 returns-in-Err-clause-back g c =
-    let same : ◌≡◌ {A = Held} (record { serial = c.in-Err.refused.token; history = c.token.inside.place }) c.args.self.token = (λ k. record { serial = c.in-Err.ensures.back k; history = c.token.inside.place }) ∙ c.token.view_is in
+    let same : ◌≡◌ {A = TokenView} (record { serial = c.in-Err.refused.token; history = c.token.inside.place }) c.args.self.token = (λ k. record { serial = c.in-Err.ensures.back k; history = c.token.inside.place }) ∙ c.token.view_is in
     λ k. record { alloc = c.args.self.alloc; token = same k }

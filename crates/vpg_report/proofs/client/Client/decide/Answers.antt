@@ -1,5 +1,5 @@
 use Rattle.std.proofs.Common.{◌+◌, ◌∙◌, ◌≡◌, None, Option, length}
-use Rattle.vpg_office.specs.Token.{Held}
+use Rattle.vpg_office.specs.Token.{TokenView}
 use Rattle.vpg_desk.specs.Book as book
 use Rattle.vpg_desk.specs.Faults.{decide_refusal}
 use Rattle.vpg_office.specs.Fronts.{family_between}
@@ -47,4 +47,4 @@ returns-in-Err-clause-fault g c =
     absent_tells g.L.Terms.game g.L.Terms.diagram c.self.inside.front c.self.inside.unseated c.seat.new.unseated c.args.self.now c.self.view_is g.L.Terms.limit decide_refusal c.args.label (book.Decide c.args.feature c.args.value) c.in-Err.fault c.in-Err.ensures.absent
 
 pub returns-in-Err-clause-back : goal.returns-in-Err-clause-back
-returns-in-Err-clause-back g c = given_back {X = Option Held} c.in-Err.fault None
+returns-in-Err-clause-back g c = given_back {X = Option TokenView} c.in-Err.fault None

@@ -1,7 +1,7 @@
 use Rattle.std.proofs.Common.{◌≡◌, ℕ, List, Option, Some, refl, sym, ap, ◌∙◌, subst, arith, None}
 use Rattle.std.specs.Prelude.{IfSome}
 use Rattle.std.specs.List.{insert}
-use Rattle.vpg_office.specs.Token.{Held as Token}
+use Rattle.vpg_office.specs.Token.{TokenView as Token}
 use Rattle.vpg_office.specs.Faults.{never_refused}
 use Rattle.vpg_desk.specs.Book.{Forget}
 use Rattle.vpg_script.specs.Script as script

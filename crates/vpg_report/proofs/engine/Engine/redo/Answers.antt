@@ -1,5 +1,5 @@
 use Rattle.std.proofs.Common.{ℕ, List, ◌++◌, ◌∷◌, [], Option, Some, None, refl, sym, ap, ap₂, ◌∙◌, subst, arith}
-use Rattle.vpg_office.specs.Token.{Held as Token}
+use Rattle.vpg_office.specs.Token.{TokenView as Token}
 use Rattle.vpg_report.specs.Held.{Held, redo_meant}
 use Rattle.vpg_report.specs.Serials.{serials}
 use Rattle.vpg_report.specs.Engine.{IsPlaceOf}

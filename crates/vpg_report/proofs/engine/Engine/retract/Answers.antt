@@ -3,7 +3,7 @@ use Rattle.std.specs.Prelude.{IfNone}
 use Rattle.vpg_features.specs.Names.{index_of}
 use Rattle.vpg_desk.specs.Book.{Retract}
 use Rattle.vpg_desk.specs.Faults.{retract_refusal}
-use Rattle.vpg_office.specs.Token.{Held as Token}
+use Rattle.vpg_office.specs.Token.{TokenView as Token}
 use Rattle.vpg_script.specs.Script as script
 use Rattle.vpg_report.specs.Held.{Held}
 use Rattle.vpg_report.specs.Serials.{serials}
