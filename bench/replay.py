@@ -278,7 +278,7 @@ def replay(family, output):
 
 
 def look(lines, pages, published):
-    """What watches read is so, and fronts that meet become the longer one. A new watch has a sheet of the whole log, and
+    """What watches read is so, and fronts that meet become the longer one. A new watch has a sheet of the whole log;
     after a change that a session made its watch has that or a later one."""
     seen = {}
     anew = min((place for _, words, place in lines if words[0] == "watches"), default=len(pages))
