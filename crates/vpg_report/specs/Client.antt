@@ -19,12 +19,14 @@ pub record ClientState : Type 0 where
 
 -- a client of a desk that was opened, before its first call
 abbrev pub client_of : NamedGame → NamedDiagram → ClientState
-client_of game diagram = record { desk = record { game = game; diagram = diagram; book = opened }; calls = 0; unseated = false }
+client_of game diagram =
+    record { desk = record { game = game; diagram = diagram; book = opened }; calls = 0; unseated = false }
 
 -- the client that has made these calls
 abbrev pub client_after : NamedGame → NamedDiagram → Bool → List Event → ClientState
 client_after game diagram unseated events =
-    record { desk = record { game = game; diagram = diagram; book = book_after (family_between game diagram) opened events }; calls = length events; unseated = unseated }
+    record { desk = record { game = game; diagram = diagram; book = book_after (family_between game diagram) opened events };
+    calls = length events; unseated = unseated }
 
 -- The log, with room for `room` calls, had room for this one. The call is one step of the desk under the label, and is
 -- counted.

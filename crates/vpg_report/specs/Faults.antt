@@ -18,8 +18,8 @@ abbrev pub HasStrayed : ClientState → ClientState → Type 0
 HasStrayed old new = (old.calls < new.calls) ⊎ IsUnseated old new
 
 -- The log is full exactly if it has as many calls as it takes; then nothing changes. The desk's own refusal is logged.
--- Out of memory, nothing changes. A stray shows in the log, which has a call more at least, or the office had no session
--- of the label's number. It leaves the desk's game and diagram.
+-- Out of memory, nothing changes. A stray shows in the log, which has a call more at least, or the office had no
+-- session of the label's number. It leaves the desk's game and diagram.
 abbrev pub Tells : {F : Type 0} → ℕ → (F → Option Refusal) → ClientState → ℕ → Call → ClientState → ClientFault F →
     Type 0
 Tells room refusal old label call new LogFull = (old.calls ≡ room) × (new ≡ old)
