@@ -4,7 +4,7 @@ ghost use Rattle.vpg_desk.specs.Book.{Book};
 ghost use Rattle.vpg_desk.specs.Desk.{family_of};
 ghost use Rattle.vpg_desk.specs.Setting.{Setting};
 ghost use Rattle.vpg_office.specs.Told.{AgreeOnTops, AreAlike, Leads};
-ghost use Rattle.vpg_office.specs.declared.asked.SessionCall.{Asked as Call};
+ghost use Rattle.vpg_office.specs.declared.asked.SessionCall.{SessionCall as Call};
 
 use crate::asked::Answer;
 
