@@ -1,5 +1,5 @@
-//! What the words of a formula are in the middle of, as far as actions go: an action after `can`, `will` or `after`, or
-//! the actions between `<` and `>`, or `[` and `]`.
+//! The place in a formula where its words break off: among the actions between `<` and `>`, or `[` and `]`; in the
+//! action after `can`, `will` or `after`; or outside both.
 use crate::tokens::{is_one_of, word};
 use vpg_places::Word;
 

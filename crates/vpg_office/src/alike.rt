@@ -8,7 +8,7 @@ ghost use Rattle.vpg_office.specs.declared.asked.SessionCall.{SessionCall as Cal
 
 use crate::asked::Answer;
 
-/// How many of the newest past pages, and of the nearest future pages, are known to have the present page's verdicts.
+/// Two numbers of pages known to have the present page's verdicts: the newest past ones, and the nearest future ones.
 #[derive(Clone, Copy)]
 pub struct Alike {
     pub(crate) past: u32,
