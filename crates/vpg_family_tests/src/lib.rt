@@ -1,5 +1,5 @@
 //! Tests of families in two files, of the games of systems, of the words that the program is called with, of lines that
-//! are typed, and of names beside answers.
+//! are typed, of walks over a game, and of names beside answers.
 //!
 //! A crate that has tests is proved once more with them, so the tests of the crates below stand here, in a crate that
 //! has nothing else.
@@ -13,5 +13,7 @@ mod games;
 mod said;
 #[cfg(test)]
 mod typing;
+#[cfg(test)]
+mod walks;
 #[cfg(test)]
 mod words;

@@ -23,6 +23,3 @@ pub use answering::put_answer;
 pub use taking::{Taken, step_between};
 pub use walking::{End, MOST_DEPTH, MOST_VISITS, Trace, Visit, follow};
 pub use writing::put_trace;
-
-#[cfg(test)]
-mod tests;
