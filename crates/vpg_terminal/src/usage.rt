@@ -62,6 +62,9 @@ number, N a number):
   plan V                 the same of Even
   trace V                where V is hopeless or sure, how the winner wins there,
                          as steps of the system that stands in place of a game
+  winners V              which products that are left Even wins at V, and which
+                         Odd, in parts
+  decide V               who wins at V in the products that are left, exactly
   forced                 what every product has that is left
   empty                  decisions that leave no product; else the first left
   # ..                   a comment
