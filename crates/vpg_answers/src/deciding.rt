@@ -68,7 +68,8 @@ pub(crate) fn decided(
 {
     let names = names(order);
     let identifier = identifier(order, vertex);
-    match decide(alloc, order, vertex, order.decisions(), limits)? {
+    let found = decide(alloc, order, vertex, order.decisions(), limits)?;
+    match found {
         Decided::Won => fact(Which::Dual, identifier, out),
         Decided::Lost => fact(Which::Hopeful, identifier, out),
         Decided::Mixed { won, lost } => mixed(names, identifier, &won, &lost, out),
