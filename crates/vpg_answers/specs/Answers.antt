@@ -337,8 +337,8 @@ IsWithin behaviour vertices features (queries.OfChoice feature value) = feature 
 IsWithin behaviour vertices features (queries.OfPage question) = ⊤
 
 -- A limit was met. Some line says that fewer decisions may do, or the text's end says that there may be more lines. Or
--- the text gives some product, or only says that it is unsettled; or it is unsettled what some decision would change. Or
--- a product of a mixed vertex need not be the first.
+-- the text gives some product, or only says that it is unsettled; or it is unsettled what some decision would change.
+-- Or a product of a mixed vertex need not be the first.
 abbrev pub HasDoubt : List ℕ → Type 0
 HasDoubt text =
     ((before : List ℕ) × (behind : List ℕ) × (text ≡ before ++ codes " or fewer\n" ++ behind))

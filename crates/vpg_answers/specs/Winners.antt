@@ -30,7 +30,8 @@ pub record AreWinners (scene : Scene) (limits : Limits) (vertex : ℕ) (choices 
   pub settled : SplitEnds scene limits choices → AreSettled parts
 
 -- A product that agrees with the choices and meets the aim; it is the first one, if that is shown.
-pub record IsExample (scene : Scene) (aim : Aim) (choices : List Literal) (set : List Bool) (first : Bool) : Type 0 where
+pub record IsExample (scene : Scene) (aim : Aim) (choices : List Literal) (set : List Bool) (first : Bool) :
+    Type 0 where
   pub remaining : IsRemaining scene.lines choices set
   pub meets : MeetsIn scene.game aim set
   pub is_first : IsTrue first → IsFirstIn scene.game scene.lines aim choices set

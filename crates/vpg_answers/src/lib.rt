@@ -16,8 +16,9 @@
 //! more` lines to which others may belong; `some product` one that need not be the first; `unsettled` a fact that was
 //! not shown.
 //!
-//! The texts are defined in `specs/Texts`, their meaning for a page in `specs/Answers`, `specs/Offers`, `specs/Repairs`,
-//! `specs/Parts` and `specs/Winners`, and the room of limits in `specs/Room`. All are this project's own.
+//! The texts are defined in `specs/Texts`, their meaning for a page in `specs/Answers`, `specs/Offers`,
+//! `specs/Repairs`, `specs/Parts` and `specs/Winners`, and the room of limits in `specs/Room`. All are this project's
+//! own.
 #![tactic(auto)]
 
 mod answering;
