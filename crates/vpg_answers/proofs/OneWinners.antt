@@ -106,9 +106,9 @@ module _ (scene : Scene) (limits others : Limits) (vertex : ℕ) (decisions : Li
       let x : b.2 ≡ true = won_first scene.names (identifier_of scene vertex) b.0 b.1 b.2 b.3 other b.6 also in
       let y : b.3 ≡ true = lost_first scene.names (identifier_of scene vertex) b.0 b.1 b.2 b.3 other b.6 also in
       let won : a.0 ≡ b.0 = first_products_are_one scene.game scene.lines (aims.Won Hopeful vertex) (choices decisions) a.0 b.0
-          a.4.remaining a.4.meets (a.4.is_first w) b.4.remaining b.4.meets (b.4.is_first x) in
+      a.4.remaining a.4.meets (a.4.is_first w) b.4.remaining b.4.meets (b.4.is_first x) in
       let lost : a.1 ≡ b.1 = first_products_are_one scene.game scene.lines (aims.Won Dual vertex) (choices decisions) a.1 b.1
-          a.5.remaining a.5.meets (a.5.is_first l) b.5.remaining b.5.meets (b.5.is_first y) in
+      a.5.remaining a.5.meets (a.5.is_first l) b.5.remaining b.5.meets (b.5.is_first y) in
       a.6
       ∙ ap₂ (λ (s : List Bool) (f : Bool). mixed_text scene.names (identifier_of scene vertex) s f a.1 a.3) won (w ∙ sym x)
       ∙ ap₂ (λ (s : List Bool) (f : Bool). mixed_text scene.names (identifier_of scene vertex) b.0 b.2 s f) lost (l ∙ sym y)

@@ -141,8 +141,7 @@ module _ (order : OrderView) (limits : Limits) (vertex : ℕ) (given : List Deci
         after ≡ before ++ mixed_text names identifier won.features.items won.first lost.features.items lost.first → Appends (TellsDecided page limits vertex order.decisions) before after
     told_mixed d won lost is so settled appended =
         let it = decided_at d (decides.Mixed won lost) is so in
-        let exact : Room → IsTrue won.first × IsTrue lost.first = λ r. settled_at d (decides.Mixed won lost) is settled r in
-        (
+        let exact : Room → IsTrue won.first × IsTrue lost.first = λ r. settled_at d (decides.Mixed won lost) is settled r in (
           mixed_text order.diagram.names (identifier_of page vertex) won.features.items won.first lost.features.items lost.first,
           (
             inr (inr (inl (

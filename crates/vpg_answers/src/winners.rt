@@ -58,12 +58,7 @@ fn part_line(
 }
 
 /// Appends each of the parts.
-fn each(
-    names: &Names,
-    identifier: u32,
-    parts: &[Part],
-    out: &mut Vec<u8>,
-) -> Result<(), AllocError>
+fn each(names: &Names, identifier: u32, parts: &[Part], out: &mut Vec<u8>) -> Result<(), AllocError>
     requires { All (λ p. All (λ l. l.feature < length names.now) p.literals.items) parts.now }
     ensures { OnOk result (out.new.items ≡
         out.old.items ++ flat_map (λ p. part_line names.now identifier (view_of p)) parts.now) }
@@ -138,12 +133,7 @@ fn total(
 }
 
 /// Appends the parts, and their numbers.
-fn tell(
-    names: &Names,
-    identifier: u32,
-    parts: &[Part],
-    out: &mut Vec<u8>,
-) -> Result<(), AllocError>
+fn tell(names: &Names, identifier: u32, parts: &[Part], out: &mut Vec<u8>) -> Result<(), AllocError>
     requires { All (λ p. All (λ l. l.feature < length names.now) p.literals.items) parts.now }
     ensures { OnOk result
         (out.new.items ≡ out.old.items ++ winners_text names.now identifier (views parts.now)) }

@@ -62,7 +62,7 @@ module _ (behaviour : Option Behaviour) (game : NamedGame) (diagram : NamedDiagr
         hopeful,
         dual,
         subst (λ (ds : List Decision). IsAnswer behaviour scene answer_limits (queries.OfVertex question v) ds hopeful dual text) same
-        (subst (λ (q : Query). IsAnswer behaviour scene answer_limits q decisions hopeful dual text) is answer),
+            (subst (λ (q : Query). IsAnswer behaviour scene answer_limits q decisions hopeful dual text) is answer),
       )
 
   -- the decisions that an order has
