@@ -45,7 +45,7 @@ pub use explaining::explained;
 pub use family::{Family, conflict};
 pub use fault::Fault;
 pub use files::{
-    GamePaths, ModelPaths, Paths, Texts, open_script, read_family, read_script, read_texts,
+    GamePaths, ModelPaths, Paths, Texts, Unread, open_script, read_family, read_script, read_texts,
 };
 pub use known::{Context, Known, read_known};
 pub use linting::linted;

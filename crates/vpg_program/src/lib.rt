@@ -30,8 +30,8 @@ use std::sync::Wait;
 use std::thread::Threads;
 use std::{env, io};
 use vpg_family::{
-    Context, Family, Fault, Known, Paths, Pictured, Texts, checked, drawn, explained, line_of,
-    linted, open_script, read_family, read_known, read_script, read_texts, system_drawn,
+    Context, Family, Fault, Known, Paths, Pictured, Texts, Unread, checked, drawn, explained,
+    line_of, linted, open_script, read_known, read_script, read_texts, system_drawn,
 };
 use vpg_report::{
     DIAGRAM, End, GAME, drawn_after, end_of, ended, refused_line, run_script, status,
@@ -84,6 +84,29 @@ fn put_made(rt: &HostRuntime, made: Result<Vec<u8>, Fault>) -> Result<End, Fault
     match made {
         Ok(text) => put_out(rt, &text),
         Err(fault) => Err(fault),
+    }
+}
+
+/// Returns the fault of files that are no family, and keeps their texts for its explanation.
+fn kept(unread: Unread, texts: &mut Texts) -> Fault {
+    let Unread { fault, texts: read } = unread;
+    *texts = read;
+    fault
+}
+
+/// Reads the texts of some files.
+fn read_into(
+    rt: &HostRuntime,
+    alloc: Global,
+    paths: Paths<'_>,
+    texts: &mut Texts,
+) -> Result<(), Fault> {
+    match read_texts(rt, alloc, paths) {
+        Ok(read) => {
+            *texts = read;
+            Ok(())
+        }
+        Err(unread) => Err(kept(unread, texts)),
     }
 }
 
@@ -218,12 +241,13 @@ fn run_named_files<T: Threads + Wait + Sync>(
     script: &str,
     lifters: u32,
     manner: Manner,
+    texts: &mut Texts,
 ) -> Result<End, Fault>
     requires { (1 ≤ lifters) × (lifters ≤ 64) }
 {
     match read_known(rt, alloc, paths) {
         Ok(known) => run_named(rt, threads, alloc, &known, script, lifters, manner),
-        Err(fault) => Err(fault),
+        Err(unread) => Err(kept(unread, texts)),
     }
 }
 
@@ -262,12 +286,13 @@ fn run_files<T: Threads + Wait + Sync>(
     script: &str,
     lifters: u32,
     manner: Manner,
+    texts: &mut Texts,
 ) -> Result<End, Fault>
     requires { (1 ≤ lifters) × (lifters ≤ 64) }
 {
     match read_known(rt, alloc, paths) {
         Ok(known) => run_known(rt, threads, alloc, &known, script, lifters, manner),
-        Err(fault) => Err(fault),
+        Err(unread) => Err(kept(unread, texts)),
     }
 }
 
@@ -386,41 +411,61 @@ fn sit<T: Threads + Wait + Sync>(
     paths: Paths<'_>,
     lifters: u32,
     shows_names: bool,
+    texts: &mut Texts,
 ) -> Result<End, Fault>
     requires { (1 ≤ lifters) × (lifters ≤ 64) }
 {
     match read_known(rt, alloc, paths) {
         Ok(known) => sit_at(rt, threads, alloc, &known, lifters, shows_names),
-        Err(fault) => Err(fault),
+        Err(unread) => Err(kept(unread, texts)),
     }
 }
 
-/// Returns the plain game of the product that has these features.
-fn projected(
-    rt: &HostRuntime,
-    alloc: Global,
-    paths: Paths<'_>,
-    features: &[&str],
-) -> Result<Vec<u8>, Fault> {
-    match read_family(rt, alloc, paths) {
+/// Returns the plain game of the product that has these features, of a family of these texts.
+fn projected_of(alloc: Global, texts: &Texts, features: &[&str]) -> Result<Vec<u8>, Fault> {
+    match Family::read(alloc, &texts.diagram, &texts.game) {
         Ok(family) => family.projected(alloc, features),
         Err(fault) => Err(fault),
     }
 }
 
+/// Returns the plain game of the product that has these features, of a family of some files.
+fn projected(
+    rt: &HostRuntime,
+    alloc: Global,
+    paths: Paths<'_>,
+    features: &[&str],
+    texts: &mut Texts,
+) -> Result<Vec<u8>, Fault> {
+    match read_into(rt, alloc, paths, texts) {
+        Ok(()) => projected_of(alloc, texts, features),
+        Err(fault) => Err(fault),
+    }
+}
+
 /// Returns the line that counts a family, and a line for each requirement if its game is made for some.
-fn counted(rt: &HostRuntime, alloc: Global, paths: Paths<'_>) -> Result<Vec<u8>, Fault> {
-    match read_texts(rt, alloc, paths) {
-        Ok(texts) => checked(alloc, &texts),
+fn counted(
+    rt: &HostRuntime,
+    alloc: Global,
+    paths: Paths<'_>,
+    texts: &mut Texts,
+) -> Result<Vec<u8>, Fault> {
+    match read_into(rt, alloc, paths, texts) {
+        Ok(()) => checked(alloc, texts),
         Err(fault) => Err(fault),
     }
 }
 
 /// Returns the text of a family's game.
-fn game_text(rt: &HostRuntime, alloc: Global, paths: Paths<'_>) -> Result<Vec<u8>, Fault> {
+fn game_text(
+    rt: &HostRuntime,
+    alloc: Global,
+    paths: Paths<'_>,
+    texts: &mut Texts,
+) -> Result<Vec<u8>, Fault> {
     match read_texts(rt, alloc, paths) {
         Ok(Texts { game, .. }) => Ok(game),
-        Err(fault) => Err(fault),
+        Err(unread) => Err(kept(unread, texts)),
     }
 }
 
@@ -438,17 +483,23 @@ fn picture_of_files(
     alloc: Global,
     paths: Paths<'_>,
     picture: Picture,
+    texts: &mut Texts,
 ) -> Result<Vec<u8>, Fault> {
-    match read_texts(rt, alloc, paths) {
-        Ok(texts) => picture_of(alloc, &texts, picture),
+    match read_into(rt, alloc, paths, texts) {
+        Ok(()) => picture_of(alloc, texts, picture),
         Err(fault) => Err(fault),
     }
 }
 
 /// Returns the warnings of a family.
-fn warned(rt: &HostRuntime, alloc: Global, paths: Paths<'_>) -> Result<Vec<u8>, Fault> {
-    match read_texts(rt, alloc, paths) {
-        Ok(texts) => linted(alloc, paths, &texts),
+fn warned(
+    rt: &HostRuntime,
+    alloc: Global,
+    paths: Paths<'_>,
+    texts: &mut Texts,
+) -> Result<Vec<u8>, Fault> {
+    match read_into(rt, alloc, paths, texts) {
+        Ok(()) => linted(alloc, paths, texts),
         Err(fault) => Err(fault),
     }
 }
@@ -515,9 +566,10 @@ fn drawn_after_files<T: Threads + Wait + Sync>(
     paths: Paths<'_>,
     picture: Picture,
     script: &str,
+    texts: &mut Texts,
 ) -> Result<(Ending, Vec<u8>), Fault> {
-    match read_texts(rt, alloc, paths) {
-        Ok(texts) => drawn_after_texts(rt, threads, alloc, picture, &texts, script),
+    match read_into(rt, alloc, paths, texts) {
+        Ok(()) => drawn_after_texts(rt, threads, alloc, picture, texts, script),
         Err(fault) => Err(fault),
     }
 }
@@ -530,8 +582,9 @@ fn draw_after<T: Threads + Wait + Sync>(
     paths: Paths<'_>,
     picture: Picture,
     script: &str,
+    texts: &mut Texts,
 ) -> Result<End, Fault> {
-    match drawn_after_files(rt, threads, alloc, paths, picture, script) {
+    match drawn_after_files(rt, threads, alloc, paths, picture, script, texts) {
         Ok((ending, text)) => match put_out(rt, &text) {
             Ok(_) => Ok(ended(ending)),
             Err(fault) => Err(fault),
@@ -540,13 +593,14 @@ fn draw_after<T: Threads + Wait + Sync>(
     }
 }
 
-/// Carries out the task of the words. The runtime is handed in twice: for its files, and for the threads of the
-/// lifters.
+/// Carries out the task of the words. The texts of its files are kept in `texts`, to explain a fault. The runtime is
+/// handed in twice: for its files, and for the threads of the lifters.
 fn carry_out<T: Threads + Wait + Sync>(
     rt: &HostRuntime,
     threads: &T,
     alloc: Global,
     task: &Task<'_>,
+    texts: &mut Texts,
 ) -> Result<End, Fault> {
     match task {
         Task::BuiltIn => run_built_in(rt, threads, alloc),
@@ -565,9 +619,9 @@ fn carry_out<T: Threads + Wait + Sync>(
             // The parser takes no other number of lifters.
             let lifters = (*lifters).clamp(1, 64);
             if *names {
-                run_named_files(rt, threads, alloc, *paths, script, lifters, manner)
+                run_named_files(rt, threads, alloc, *paths, script, lifters, manner, texts)
             } else {
-                run_files(rt, threads, alloc, *paths, script, lifters, manner)
+                run_files(rt, threads, alloc, *paths, script, lifters, manner, texts)
             }
         }
         Task::Desk {
@@ -576,33 +630,39 @@ fn carry_out<T: Threads + Wait + Sync>(
             names,
         } => {
             let lifters = (*lifters).clamp(1, 64);
-            sit(rt, threads, alloc, *paths, lifters, *names)
+            sit(rt, threads, alloc, *paths, lifters, *names, texts)
         }
-        Task::Model { paths } => put_made(rt, game_text(rt, alloc, *paths)),
+        Task::Model { paths } => put_made(rt, game_text(rt, alloc, *paths, texts)),
         Task::Project { paths, features } => {
-            put_made(rt, projected(rt, alloc, *paths, features))
+            put_made(rt, projected(rt, alloc, *paths, features, texts))
         }
-        Task::Check { paths } => put_made(rt, counted(rt, alloc, *paths)),
+        Task::Check { paths } => put_made(rt, counted(rt, alloc, *paths, texts)),
         Task::Draw {
             paths,
             picture,
             script: None,
-        } => put_made(rt, picture_of_files(rt, alloc, *paths, *picture)),
+        } => put_made(rt, picture_of_files(rt, alloc, *paths, *picture, texts)),
         Task::Draw {
             paths,
             picture,
             script: Some(script),
-        } => draw_after(rt, threads, alloc, *paths, *picture, script),
-        Task::Lint { paths } => put_made(rt, warned(rt, alloc, *paths)),
+        } => draw_after(rt, threads, alloc, *paths, *picture, script, texts),
+        Task::Lint { paths } => put_made(rt, warned(rt, alloc, *paths, texts)),
     }
 }
 
 /// Returns lines that say where and why an input is refused. There are none if memory runs out.
-fn explanation_of(rt: &HostRuntime, alloc: Global, task: &Task<'_>, fault: &Fault) -> Vec<u8> {
+fn explanation_of(
+    rt: &HostRuntime,
+    alloc: Global,
+    task: &Task<'_>,
+    texts: &Texts,
+    fault: &Fault,
+) -> Vec<u8> {
     let Some(paths) = task.paths() else {
         return Vec::new(alloc);
     };
-    match explained(rt, alloc, paths, task.script(), fault) {
+    match explained(rt, alloc, paths, texts, task.script(), fault) {
         Ok(lines) => lines,
         Err(_) => Vec::new(alloc),
     }
@@ -616,10 +676,11 @@ fn carry_out_asked<T: Threads + Wait + Sync>(
     asked: &Invocation<'_>,
     lines: &mut Vec<u8>,
 ) -> Result<End, Fault> {
-    let ended = carry_out(rt, threads, alloc, &asked.task);
+    let mut texts = Texts::none(alloc);
+    let ended = carry_out(rt, threads, alloc, &asked.task, &mut texts);
     if let Err(fault) = &ended {
         if asked.explains {
-            *lines = explanation_of(rt, alloc, &asked.task, fault);
+            *lines = explanation_of(rt, alloc, &asked.task, &texts, fault);
         }
     }
     ended
