@@ -4,7 +4,8 @@
 //! diagram, and writes the answers to standard output. `run` does so with the files of a game, a diagram and a script.
 //! `project` writes the plain game of one product, `check` writes the counts and top measures of a game, and `lint`
 //! warns of a family. `draw` writes a picture, of the page that a script leaves if one is named. A system and its
-//! requirements may stand in place of the game, which `model` writes; and `draw` draws the system itself.
+//! requirements may stand in place of the game, which `model` writes; and `draw` draws the system itself, with a trace
+//! if one is asked for.
 //!
 //! The status is 0 if all goes well. It is 1 if the input is refused or something fails. Then one line on standard
 //! error, `vpgdesk: ` and the fault, says so, and with `--explain` further lines say where and why. It is 2 if the
@@ -35,7 +36,7 @@ use vpg_family::{
 };
 use vpg_report::{
     DIAGRAM, End, GAME, drawn_after, end_of, ended, refused_line, run_script, status,
-    system_drawn_after,
+    system_drawn_after, traced_after,
 };
 use vpg_script::{Device, Sink, Source};
 use vpg_serving::{Ending, Manner};
@@ -522,6 +523,88 @@ fn drawn_after_files<T: Threads + Wait + Sync>(
     }
 }
 
+/// Returns the lines of a script's file, none if there is no script.
+fn script_of(rt: &HostRuntime, alloc: Global, script: Option<&str>) -> Result<Vec<u8>, Fault> {
+    match script {
+        Some(path) => read_script(rt, path),
+        None => Ok(Vec::new(alloc)),
+    }
+}
+
+/// Returns the picture of the system of a family with the marks of the trace of a vertex, on the page that a script
+/// leaves, and the script's end.
+fn traced_known<T: Threads + Wait + Sync>(
+    rt: &HostRuntime,
+    threads: &T,
+    alloc: Global,
+    known: &Known,
+    system: &[u8],
+    vertex: &str,
+    script: Option<&str>,
+) -> Result<(Ending, Vec<u8>), Fault>
+    requires { (arc_value known.now.family.game).features ≡ feature_count (arc_value known.now.family.diagram).lines }
+{
+    match script_of(rt, alloc, script) {
+        Ok(lines) => traced_after(
+            threads,
+            alloc,
+            system,
+            &known.family,
+            &known.context,
+            vertex.as_bytes(),
+            &lines,
+        ),
+        Err(fault) => Err(fault),
+    }
+}
+
+/// Returns the picture of the system of the family of these texts with the marks of a trace, and the script's end.
+fn traced_texts<T: Threads + Wait + Sync>(
+    rt: &HostRuntime,
+    threads: &T,
+    alloc: Global,
+    texts: Texts,
+    vertex: &str,
+    script: Option<&str>,
+) -> Result<(Ending, Vec<u8>), Fault> {
+    match Known::read(alloc, &texts) {
+        Ok(mut known) => {
+            let Texts {
+                system, behaviour, ..
+            } = texts;
+            known.context.behaviour = behaviour;
+            traced_known(rt, threads, alloc, &known, &system, vertex, script)
+        }
+        Err(fault) => Err(fault),
+    }
+}
+
+/// Returns the picture of the system of the family of some files with the marks of a trace, and the script's end.
+fn traced_files<T: Threads + Wait + Sync>(
+    rt: &HostRuntime,
+    threads: &T,
+    alloc: Global,
+    paths: Paths<'_>,
+    vertex: &str,
+    script: Option<&str>,
+) -> Result<(Ending, Vec<u8>), Fault> {
+    match read_texts(rt, alloc, paths) {
+        Ok(texts) => traced_texts(rt, threads, alloc, texts, vertex, script),
+        Err(fault) => Err(fault),
+    }
+}
+
+/// Writes a picture, if it was made, and returns the end of its script.
+fn put_drawn(rt: &HostRuntime, drawn: Result<(Ending, Vec<u8>), Fault>) -> Result<End, Fault> {
+    match drawn {
+        Ok((ending, text)) => match put_out(rt, &text) {
+            Ok(_) => Ok(ended(ending)),
+            Err(fault) => Err(fault),
+        },
+        Err(fault) => Err(fault),
+    }
+}
+
 /// Writes a picture of a family on the page that a script of a file leaves.
 fn draw_after<T: Threads + Wait + Sync>(
     rt: &HostRuntime,
@@ -531,13 +614,7 @@ fn draw_after<T: Threads + Wait + Sync>(
     picture: Picture,
     script: &str,
 ) -> Result<End, Fault> {
-    match drawn_after_files(rt, threads, alloc, paths, picture, script) {
-        Ok((ending, text)) => match put_out(rt, &text) {
-            Ok(_) => Ok(ended(ending)),
-            Err(fault) => Err(fault),
-        },
-        Err(fault) => Err(fault),
-    }
+    put_drawn(rt, drawn_after_files(rt, threads, alloc, paths, picture, script))
 }
 
 /// Carries out the task of the words. The runtime is handed in twice: for its files, and for the threads of the
@@ -585,13 +662,21 @@ fn carry_out<T: Threads + Wait + Sync>(
         Task::Check { paths } => put_made(rt, counted(rt, alloc, *paths)),
         Task::Draw {
             paths,
+            picture: _,
+            script,
+            trace: Some(vertex),
+        } => put_drawn(rt, traced_files(rt, threads, alloc, *paths, vertex, *script)),
+        Task::Draw {
+            paths,
             picture,
             script: None,
+            trace: None,
         } => put_made(rt, picture_of_files(rt, alloc, *paths, *picture)),
         Task::Draw {
             paths,
             picture,
             script: Some(script),
+            trace: None,
         } => draw_after(rt, threads, alloc, *paths, *picture, script),
         Task::Lint { paths } => put_made(rt, warned(rt, alloc, *paths)),
     }
