@@ -31,7 +31,7 @@ ok_to P Q (Err e) f p = tt
 
 -- ---- paths
 
-trail : List Step → List ℕ → List ℕ → Trail
+abbrev pub trail : List Step → List ℕ → List ℕ → Trail
 trail steps loops stands = record { steps = steps; loops = loops; stands = stands }
 
 pub trail_is : (a b : List Step) (c d e f : List ℕ) → a ≡ b → c ≡ d → e ≡ f → trail a c e ≡ trail b d f
