@@ -1,6 +1,6 @@
 -- Paths of walks, and texts that end in them.
 use Rattle.std.proofs.Common.{◌≡◌, ℕ, Bool, List, [], ◌++◌, length, take, Option, refl, ap, subst, ◌∙◌}
-use Rattle.std.specs.Prelude.{Result, Ok, Err, IfOk}
+use Rattle.std.specs.Prelude.{Result, Ok, Err, IfOk, Some, None, IfSome}
 use Rattle.vpg_guards.specs.declared.tri.Tri.{Tri}
 use Rattle.vpg_diagram.specs.DiagramText.{NamedDiagram}
 use Rattle.vpg_game.specs.Game.{NamedGame, graph_of}
@@ -10,12 +10,13 @@ use Rattle.vpg_partial.specs.declared.decision.Decision.{Decision}
 use Rattle.vpg_parts.specs.declared.part.Part.{Part}
 use Rattle.vpg_model.specs.Departures.{Departure}
 use Rattle.vpg_checking.specs.Behaviours.{Behaviour}
-use Rattle.vpg_measure.specs.Orders.{OrderView}
+use Rattle.vpg_measure.specs.Orders.{OrderView, other_table}
 use Rattle.vpg_verdict.specs.declared.which.Which.{Which}
 use Rattle.vpg_why.specs.Explained.{choices}
 use Rattle.vpg_why.specs.Moves.{AreWinning}
-use Rattle.vpg_trace.specs.Answering.{TellsWalk, IsWalkTold, page_of, walk_along, walk_text}
-use Rattle.vpg_trace.specs.Walks.{IsWalkFrom, walk_from}
+use Rattle.vpg_trace.specs.Answering.{TellsWalk, family_on, head_line, identifier_of, page_of, walk_along, walk_text}
+use Rattle.vpg_trace.specs.Texts.{trace_text}
+use Rattle.vpg_trace.specs.Walks.{IsWalkFrom, Walked, is_left, walk_from}
 use Rattle.vpg_trace.specs.declared.walking.Visit.{Visit}
 use Rattle.vpg_system_draw.specs.Traced.{Trail}
 use Rattle.vpg_system_draw.specs.declared.marks.Step.{Step}
@@ -28,6 +29,10 @@ always_ok (Err e) P p = tt
 pub ok_to : {T E : Type 0} (P Q : T → Type 0) (r : Result T E) → ((t : T) → P t → Q t) → IfOk r P → IfOk r Q
 ok_to P Q (Ok t) f p = f t p
 ok_to P Q (Err e) f p = tt
+
+pub some_to : {T : Type 0} (P Q : T → Type 0) (o : Option T) → ((t : T) → P t → Q t) → IfSome o P → IfSome o Q
+some_to P Q (Some t) f p = f t p
+some_to P Q None f p = tt
 
 -- ---- paths
 
@@ -48,18 +53,27 @@ trail_told behaviour game arena moves vertex visits seen is_cut values known sta
 
 -- ---- texts
 
--- a text that ends in the walk that was told
-pub retold_along : (order : OrderView) (behaviour : Behaviour) (mover : Which) (vertex : ℕ) (moves : List (Option ℕ)) (text told end earlier : List ℕ) (path : Trail) →
-    (walk : IsWalkTold (page_of order) behaviour mover vertex moves [] told) → end ≡ told → text ≡ earlier ++ end →
-    path ≡ trail_of walk.known behaviour (walk_along (page_of order) walk.known mover vertex moves).visits →
-    IsRetoldAlong (page_of order) behaviour mover vertex moves text path
-retold_along order behaviour mover vertex moves text told end earlier path walk same is path_is = record {
-  known = walk.known;
-  is_known = walk.is_known;
-  earlier = earlier;
-  text_is = is ∙ ap (λ (t : List ℕ). earlier ++ t) (same ∙ walk.appended);
-  trail_is = path_is;
-}
+-- a text that ends in the walk that was written
+module _ (order : OrderView) (behaviour : Behaviour) (mover : Which) (vertex : ℕ) (moves : List (Option ℕ)) (known : List Tri) where
+  abbrev walked : Walked
+  walked = walk_along (page_of order) known mover vertex moves
+
+  abbrev lines : List ℕ
+  lines = trace_text (family_on (page_of order) known behaviour) walked.visits (is_left walked.waiting)
+
+  pub retold_along : (identifier : ℕ) (text told end earlier first none : List ℕ) (path : Trail) → IsKnownTable order.diagram.lines (choices order.decisions) known →
+      identifier ≡ identifier_of (page_of order) vertex → none ≡ [] → first ≡ none ++ head_line (other_table mover) identifier → told ≡ first ++ lines → end ≡ told → text ≡ earlier ++ end →
+      path ≡ trail_of known behaviour walked.visits → IsRetoldAlong (page_of order) behaviour mover vertex moves text path
+  retold_along identifier text told end earlier first none path is_known same empty first_is told_is end_is text_is path_is = record {
+    known = known;
+    is_known = is_known;
+    earlier = earlier;
+    text_is = text_is ∙ ap (λ (t : List ℕ). earlier ++ t) (end_is ∙ (told_is ∙ ap (λ (t : List ℕ). t ++ lines) head_is));
+    trail_is = path_is;
+  }
+    where
+      head_is : first ≡ head_line (other_table mover) (identifier_of (page_of order) vertex)
+      head_is = first_is ∙ (ap (λ (t : List ℕ). t ++ head_line (other_table mover) identifier) empty ∙ ap (λ (n : ℕ). head_line (other_table mover) n) same)
 
 -- and these moves win
 pub retold : (order : OrderView) (behaviour : Behaviour) (mover : Which) (vertex : ℕ) (moves items : List (Option ℕ)) (text : List ℕ) (path : Trail) → moves ≡ items →
