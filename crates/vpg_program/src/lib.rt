@@ -570,7 +570,9 @@ fn traced_texts<T: Threads + Wait + Sync>(
     match Known::read(alloc, &texts) {
         Ok(mut known) => {
             let Texts {
-                system, behaviour, ..
+                system,
+                behaviour,
+                ..
             } = texts;
             known.context.behaviour = behaviour;
             traced_known(rt, threads, alloc, &known, &system, vertex, script)
@@ -614,7 +616,10 @@ fn draw_after<T: Threads + Wait + Sync>(
     picture: Picture,
     script: &str,
 ) -> Result<End, Fault> {
-    put_drawn(rt, drawn_after_files(rt, threads, alloc, paths, picture, script))
+    put_drawn(
+        rt,
+        drawn_after_files(rt, threads, alloc, paths, picture, script),
+    )
 }
 
 /// Carries out the task of the words. The runtime is handed in twice: for its files, and for the threads of the
@@ -665,7 +670,10 @@ fn carry_out<T: Threads + Wait + Sync>(
             picture: _,
             script,
             trace: Some(vertex),
-        } => put_drawn(rt, traced_files(rt, threads, alloc, *paths, vertex, *script)),
+        } => put_drawn(
+            rt,
+            traced_files(rt, threads, alloc, *paths, vertex, *script),
+        ),
         Task::Draw {
             paths,
             picture,

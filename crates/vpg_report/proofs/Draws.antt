@@ -1,5 +1,5 @@
 -- Pages that scripts leave, drawn.
-use Rattle.std.proofs.Common.{◌≡◌, ℕ, List, [], map, take, Option, Some, Ok, sym, subst}
+use Rattle.std.proofs.Common.{◌≡◌, ℕ, ◌<◌, List, [], All, map, take, Option, Some, Ok, sym, subst}
 use Rattle.vpg_diagram.specs.DiagramText.{NamedDiagram}
 use Rattle.vpg_game.specs.Game.{NamedGame}
 use Rattle.vpg_serving.specs.declared.serving.Ending.{Ending}
@@ -13,6 +13,9 @@ use Rattle.vpg_partial.specs.Known.{literal_of}
 use Rattle.vpg_partial.specs.declared.decision.Decision.{Decision}
 use Rattle.vpg_checking.specs.Behaviours.{Behaviour}
 use Rattle.vpg_verdict.specs.declared.verdict.Verdict.{Verdict}
+use Rattle.vpg_diagram.specs.FeatureDiagram.{feature_count}
+use Rattle.vpg_partial.specs.TableLaws.{AreChoicesOf}
+use Rattle.vpg_family.proofs.Choices.{choices_below}
 use Rattle.vpg_family.specs.Pages.{IsSight}
 use Rattle.vpg_family.specs.Systems.{IsSystemTraced}
 use Rattle.vpg_system_draw.specs.Traced.{Trail}
@@ -53,6 +56,19 @@ system_drawn diagram seen game sighted context system_text script written text p
 )
 
 -- ---- traces
+
+pub choices_of : (diagram again : NamedDiagram) (decisions copied : List Decision) → All (λ d. d.feature < feature_count diagram.lines) decisions → again ≡ diagram → copied ≡ decisions
+    → AreChoicesOf again.lines (map literal_of copied)
+choices_of diagram again decisions copied below same all =
+    subst (λ (x : NamedDiagram). AreChoicesOf x.lines (map literal_of copied)) (sym same)
+    (subst (λ (ds : List Decision). AreChoicesOf diagram.lines (map literal_of ds)) (sym all) (choices_below diagram.lines decisions below))
+
+pub retold_of : (game other : NamedGame) (diagram again : NamedDiagram) (decisions copied : List Decision) (behaviour : Behaviour) (told : List ℕ) (trail : Trail)
+    → IsRetold (page_with other again copied) behaviour told trail → other ≡ game → again ≡ diagram → copied ≡ decisions → IsRetold (page_with game diagram decisions) behaviour told trail
+retold_of game other diagram again decisions copied behaviour told trail is g d ds =
+    subst (λ (x : NamedGame). IsRetold (page_with x diagram decisions) behaviour told trail) g
+    (subst (λ (x : NamedDiagram). IsRetold (page_with other x decisions) behaviour told trail) d
+    (subst (λ (x : List Decision). IsRetold (page_with other again x) behaviour told trail) ds is))
 
 pub traced : (diagram seen drawn : NamedDiagram) (game sighted : NamedGame) (behaviour : Behaviour) (system_text written told picture : List ℕ) (begins : ℕ) (known : List Tri) (decisions shown : List Decision) (verdicts : List Verdict) (trail : Trail)
     → IsSight seen sighted written begins known decisions verdicts → IsRetold (page_with game diagram shown) behaviour told trail → IsSystemTraced drawn system_text known (map literal_of decisions) trail picture

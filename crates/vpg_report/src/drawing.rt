@@ -145,6 +145,7 @@ fn untraced(alloc: Global, answer: &[u8]) -> Fault {
 }
 
 /// Returns the path of the trace that a text ends in, on the page of these decisions.
+#[tactic(auto, using(crate::proofs::Draws::choices_of, crate::proofs::Draws::retold_of))]
 fn path_in(
     alloc: Global,
     family: &Family,
@@ -175,6 +176,7 @@ fn path_in(
 
 /// Returns the picture of the system that a text spells, with the marks of the trace, on the page that a script left,
 /// from the text that was written for the script, the trace and the picture of its game.
+#[tactic(auto, using(crate::proofs::Draws::traced))]
 fn traced(
     alloc: Global,
     system: &[u8],
@@ -193,8 +195,9 @@ fn traced(
 }
 
 /// Returns the picture of the system that a text spells, on the page that a script leaves, and the script's end. It has
-/// the marks of the trace of the vertex that a word names, as a line `trace` tells it on this page. `NoTrace` comes if
+/// the marks of the trace of the vertex that a word names, as a line `trace` writes it on this page. `NoTrace` comes if
 /// that line has no trace as its answer. The script's lines are read in this context.
+#[tactic(auto, using(crate::proofs::Draws::traced_after))]
 pub fn traced_after<T: Threads + Wait + Sync>(
     rt: &T,
     alloc: Global,

@@ -1,4 +1,4 @@
--- The path of a walk through the system, and the text that tells the walk. This project's own.
+-- The path of a walk through the system, and texts that end in a walk. This project's own.
 use Rattle.std.specs.Prelude.{◌≡◌, ℕ, zero, suc, Bool, Option, Some, None, List, [], ◌∷◌, ◌++◌, length}
 use Rattle.vpg_guards.specs.declared.tri.Tri.{Tri}
 use Rattle.vpg_diagram.specs.DiagramText.{NamedDiagram}

@@ -1,5 +1,5 @@
--- The marks of a trace on the picture of a system. Each step of the trace leaves a state by the transition at some place
--- among those from there, in file order. This project's own.
+-- The marks of a trace on the picture of a system. Each step leaves a state by the transition at some place among those
+-- from there, in file order. This project's own.
 use Rattle.std.specs.Prelude.{ℕ, zero, suc, ◌+◌, ◌&&◌, ◌==◌, Bool, true, false, List, [], ◌∷◌, ◌++◌, length, slice_index_or}
 use Rattle.std.specs.List.{list_any}
 use Rattle.vpg_system.specs.SystemText.{Transition, NamedSystem}
@@ -71,11 +71,12 @@ ends_below transitions marks (suc n) =
 
 -- ---- marks
 
--- Exactly the transitions that some step takes are marked, and the states at their ends. So are the states that the
--- trace comes back to, and those where it stands.
+-- for each transition whether some step takes it
 abbrev pub taken_of : NamedSystem → List Step → List Bool
 taken_of system steps = taken_below system.transitions steps (length system.transitions)
 
+-- Exactly the transitions that some step takes are marked, and the states at their ends. So are the states that the
+-- trace comes back to, and those where it stands.
 abbrev pub marking_of : NamedSystem → Trail → Marking
 marking_of system trail = record {
   transitions = taken_of system trail.steps;

@@ -7,9 +7,9 @@
 //! may be there; the others are grey. A trace may be marked: `Marks::of` returns the marks of its steps and ends.
 //!
 //! `specs/SystemDrawing` defines the picture, `specs/Arrows` the arrows and their labels, `specs/Reached` the states
-//! that can be reached, and `specs/Traced` the marks of a trace. `specs/Laws` has the statements of the laws in `laws`, on the meaning of arrows for
-//! products. `specs/Searched` has words for private functions. Labels and styles are those of pictures of games, of the
-//! crate below.
+//! that can be reached, and `specs/Traced` the marks of a trace. `specs/Laws` has the statements of the laws in `laws`,
+//! on the meaning of arrows for products. `specs/Searched` has words for private functions. Labels and styles are those
+//! of pictures of games, of the crate below.
 #![tactic(auto)]
 
 mod arrows;

@@ -142,7 +142,15 @@ fn marked_arrows(
     ensures { OnOk result (out.new.items ≡ out.old.items
         ++ all_arrows_text names.now known.now system.now marks.now.transitions is_marked) }
 {
-    all_arrows(alloc, names, known, system, &marks.transitions, is_marked, out)
+    all_arrows(
+        alloc,
+        names,
+        known,
+        system,
+        &marks.transitions,
+        is_marked,
+        out,
+    )
 }
 
 #[tactic(auto, unfolding(crate::specs::SystemDrawing::system_opening))]

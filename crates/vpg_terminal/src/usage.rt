@@ -161,6 +161,6 @@ pub(crate) const FEATURES_HELP: &str = "Draw the feature diagram in place of the
 
 pub(crate) const STATES_HELP: &str = "Draw the system in place of its game";
 
-pub(crate) const TRACE_HELP: &str = "Mark the trace that `trace V` tells on the page";
+pub(crate) const TRACE_HELP: &str = "Mark the trace that `trace V` writes on the page";
 
 pub(crate) const EXPLAIN_HELP: &str = "Say where and why an input is refused";
