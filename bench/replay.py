@@ -4,17 +4,24 @@
     replay.py VPG_PLAY [CALLS] [SEED]      runs VPG_PLAY on families until there were so many calls (100,000)
     replay.py --check OUTPUT GAME DIAGRAM  compares the calls of one run; `--check OUTPUT` those of the stored one
 
-In a run 1 to 63 sessions, each in a thread of its own, decide, retract, undo, redo, keep, forget, take orders, lift
+In a run 1 to 63 sessions, each in a thread of its own, decide, retract, undo, redo, keep, forget, take orders, raise
 them by one lifter or several, commit, look, read by watches, and hand tokens, harvests and fronts on to one another.
 Each tells its calls, with their answers and their places in the log. Here the calls of all are put in the order of
 these places, one for each place, and made again, one after another, on a book that copies whole pages. It has to give
-each answer, refusals and their numbers too. A harvest has to lie below the least tables of its decisions. What a watch
-reads has to be true of the page after so many calls; its reads never go back, and have each change of the session
-itself. No token is missing at the end.
+each answer, refusals and their numbers too. Beside that:
 
-The closure and the lifts are those of oracle.py; the book is its own. Prints what differs and exits with 1 where
-anything does.
+- A session's calls stand behind its front, and fronts that meet become the longer one. A call with a front that has
+  not the session's last call is refused as doubled.
+- An order that is raised becomes what its lifts, rounds or lifters may make of it, and what is committed was raised
+  before, by that session or another.
+- What a watch reads is true of the page after so many calls. Its reads never go back, and have each change of the
+  session itself.
+- No token is missing at the end.
+
+The closure and the lifts are those of oracle.py; the book is its own. Prints how many calls of each kind there were,
+or what differs, and exits with 1 then.
 """
+import collections
 import os
 import random
 import re
@@ -29,6 +36,7 @@ TOP = os.path.join(os.path.dirname(os.path.abspath(__file__)), "..")
 EXAMPLES = os.path.join(TOP, "examples")
 STORED = os.path.join(TOP, "crates", "vpg_play", "src", "main.rt")
 CHANGES = ("select", "exclude", "retract", "undo", "redo", "commit")
+SPENDS = ("undo", "redo", "keep", "forget")
 
 
 class Family:
@@ -79,6 +87,9 @@ class Page:
     def choices(self):
         return [(feature, value) for _, feature, value, _, _ in self.decided]
 
+    def signed(self):
+        return [signed(*choice) for choice in self.choices()]
+
     def games(self):
         return self.family.tables_of(self.choices())
 
@@ -106,6 +117,11 @@ def signed(feature, value):
     return f"{'+' if value else '-'} {feature}"
 
 
+def tables_in(words):
+    cut = words.index("and")
+    return [list(map(int, words[:cut])), list(map(int, words[cut + 1:]))]
+
+
 def choices_in(words):
     return [(int(feature), sign == "+") for sign, feature in zip(words[::2], words[1::2])]
 
@@ -117,9 +133,11 @@ class Book:
         self.family, self.page = family, Page(family, [])
         self.past, self.future, self.changes = [], [], 0
         self.undos, self.redos = set(), set()
+        self.makers = {}  # the session of each change, by its serial
 
-    def change(self, entries):
+    def change(self, session, entries):
         self.changes += 1
+        self.makers[self.changes] = session
         self.past.append((self.changes, self.page))
         self.page, self.future = Page(self.family, entries), []
         self.undos.add(self.changes)
@@ -131,9 +149,9 @@ class Book:
                 return f"refused AlreadyDecided {serial}"
         if oracle.has_conflict(self.family.known(self.page.choices() + [(feature, value)])):
             return f"refused Conflict {feature}"
-        return self.change(self.page.entries + [("decide", feature, value, self.changes + 1, session)])
+        return self.change(session, self.page.entries + [("decide", feature, value, self.changes + 1, session)])
 
-    def retract(self, feature):
+    def retract(self, session, feature):
         if all(decided != feature for _, decided, _, _, _ in self.page.decided):
             return "refused NotDecided"
         kept, tables = [], [[0] * len(self.family.game), [0] * len(self.family.game)]
@@ -144,7 +162,7 @@ class Book:
                 table, vertex = tables[entry[0] == "dual"], entry[1]
                 kept.append((entry[0], vertex, table[vertex], entry[3], entry[4]))
                 table[vertex] = entry[3]
-        return self.change(kept)
+        return self.change(session, kept)
 
     def undo(self, serial):
         if serial not in [past for past, _ in self.past]:
@@ -195,18 +213,14 @@ class Book:
         self.page = Page(self.family, self.page.entries + lifts)
         return f"added {len(lifts)}"
 
-    def tables_in(self, words):
-        cut = words.index("and")
-        return [list(map(int, words[:cut])), list(map(int, words[cut + 1:]))]
-
     def make(self, session, words):
         """The words of a call up to its answer, and the answer."""
         word, rest = words[0], words[1:]
         if word in ("select", "exclude"):
             return 2, self.decide(session, int(rest[0]), word == "select")
         if word == "retract":
-            return 2, self.retract(int(rest[0]))
-        if word in ("undo", "redo", "keep", "forget"):
+            return 2, self.retract(session, int(rest[0]))
+        if word in SPENDS:
             held = self.undos if word in ("undo", "keep") else self.redos
             if int(rest[0]) not in held:
                 return 2, f"no token {rest[0]}"
@@ -216,11 +230,11 @@ class Book:
         if word == "page":
             return 1, self.page.written()
         if word == "order":
-            return 1, " ".join([signed(*c) for c in self.page.choices()] + ["tables", self.page.written_tables()])
+            return 1, " ".join([*self.page.signed(), "tables", self.page.written_tables()])
         if word == "commit":
             cut = words.index("tables")
             end = next(i for i in range(cut, len(words)) if words[i] in ("added", "refused"))
-            return end, self.commit(choices_in(words[1:cut]), self.tables_in(words[cut + 1:end]))
+            return end, self.commit(choices_in(words[1:cut]), tables_in(words[cut + 1:end]))
         return len(words), "no such call"
 
 
@@ -243,24 +257,46 @@ def told(output):
     return lines, last
 
 
+# Lines that are no calls of the log: whether each may stand behind a front of this length (None: not known yet).
+BESIDE = {
+    "raised": lambda front, words, place: place == front,
+    "watches": lambda front, words, place: place == int(words[1]) and front in (None, place),
+    "meets": lambda front, words, place: front in (None, int(words[1])) and place == max(map(int, words[1:])),
+    "doubled": lambda front, words, place: int(words[1]) < front <= place,
+}
+
+
 def in_order(lines):
-    """The calls in the order of their places. Those of a session come one after another."""
-    calls, last = {}, {}
+    """The calls in the order of their places, each with its session. A session's front is as long as the place of its
+    last call, or as another that it met."""
+    calls, fronts = {}, {}
     for session, words, place in lines:
-        if words[0] in ("reads", "meets", "watches"):
+        front = fronts.get(session)
+        if words[0] == "reads":
             continue
-        if place in calls:
-            raise Differs(f"two calls at {place}")
-        if place <= last.get(session, 0):
-            raise Differs(f"session {session} has a call at {place} after one at {last[session]}")
-        calls[place], last[session] = (session, words), place
-    if sorted(calls) != list(range(1, len(calls) + 1)):
+        if words[0] in BESIDE:
+            if not BESIDE[words[0]](front, words, place):
+                raise Differs(f"session {session} has a front of {front}, and then {' '.join(words)} at {place}")
+        elif place in calls or front is not None and place <= front:
+            raise Differs(f"session {session} has a call at {place}, taken by {calls.get(place)} or in its front")
+        else:
+            calls[place] = (session, words)
+        fronts[session] = place
+    if sorted(calls) != list(range(1, len(calls) + 1)) or max(fronts.values()) > len(calls):
         raise Differs("a place of the log has no call")
     return [calls[place] for place in range(1, len(calls) + 1)]
 
 
-def replay(family, output):
-    """Makes the calls of a play again, and returns how many there were."""
+def kind_of(book, session, words, answer):
+    """The kind of a call that was answered so: whether it was refused and why, and whether its token is of another."""
+    ended = answer.split()[: 2 if answer.startswith("refused") else 1]
+    kind = " ".join([words[0], *ended]) if words[0] not in ("settled", "page", "order") else words[0]
+    is_of_another = words[0] in SPENDS and book.makers[int(words[1])] != session
+    return f"{kind}, another's change" if is_of_another else kind
+
+
+def replay(family, output, kinds):
+    """Makes the calls of a play again, and returns how many there were. Counts their kinds."""
     lines, last = told(output)
     calls, book = in_order(lines), Book(family)
     pages, published = [book.page], {0}
@@ -268,23 +304,62 @@ def replay(family, output):
         cut, answer = book.make(session, words)
         if " ".join(words[cut:]) != answer:
             raise Differs(f"call {place} of session {session}: {' '.join(words)}\nand the book: {answer}")
+        kinds[kind_of(book, session, words, answer)] += 1
         pages.append(book.page)
         if words[0] in CHANGES and not answer.startswith("refused"):
             published.add(place)
     look(lines, pages, published)
+    kinds.update(words[0] for _, words, _ in lines if words[0] in ("reads", "meets", "watches", "doubled"))
+    check_harvests(family, lines, pages, kinds)
     if last != f"calls {len(calls)} whole true further 0":
         raise Differs(f"{len(calls)} calls, and the last line: {last}")
     return len(calls)
 
 
+def may_be_raised(page, way, number, harvest):
+    """Whether the tables of a page's order may be raised to these, by one lift, by rounds or by lifters."""
+    games, tables = page.games(), [list(table) for table in page.tables]
+    if way == "lifters":
+        least = page.family.least_tables(page.choices())
+        for game, old, new, most in zip(games, tables, harvest, least):
+            if any(not max(old[v], game.lift(old, v)) <= new[v] <= most[v] for v in range(len(old))):
+                return False
+        return harvest != tables or page.is_settled()
+    if way == "rounds":
+        for game, table in zip(games, tables):
+            for _ in range(number):
+                game.round(table)
+    else:
+        game, table = games[way == "dual"], tables[way == "dual"]
+        table[number] = max(table[number], game.lift(table, number))
+    return harvest == tables
+
+
+def check_harvests(family, lines, pages, kinds):
+    """Checks what orders are raised to, and that what is committed was raised from an order before."""
+    raised = collections.defaultdict(list)
+    for session, words, place in lines:
+        if words[0] == "raised":
+            page = pages[place]
+            kinds[f"raised {words[1]}"] += 1
+            if not may_be_raised(page, words[1], int(words[2]), tables_in(words[4:])):
+                raise Differs(f"session {session} at {place}, from {page.written_tables()}: {' '.join(words)}")
+            raised[" ".join([*page.signed(), *words[3:]])].append((place, session))
+    for session, words, place in lines:
+        if words[0] == "commit":
+            end = next(i for i, word in enumerate(words) if word in ("added", "refused"))
+            by = [one for at, one in raised[" ".join(words[1:end])] if at < place]
+            if not by:
+                raise Differs(f"session {session} at {place} has what nobody raised: {' '.join(words)}")
+            kinds["commit, another's harvest"] += session not in by
+
+
 def look(lines, pages, published):
-    """Checks what watches read, and that fronts that meet become the longer one. A new watch has a sheet of the whole
-    log, and after a change that a session made its watch has that or a later one."""
+    """Checks what watches read. A new watch has a sheet of the whole log, and after a change that a session made its
+    watch has that or a later one."""
     seen = {}
     anew = min((place for _, words, place in lines if words[0] == "watches"), default=len(pages))
     for session, words, place in lines:
-        if words[0] == "meets" and place != max(int(words[1]), int(words[2])):
-            raise Differs(f"fronts of {words[1]} and {words[2]} met, and that of session {session} has {place}")
         if words[0] == "watches" or words[0] in CHANGES and "refused" not in words:
             seen[session] = max(place, seen.get(session, 0))
         if words[0] != "reads":
@@ -329,9 +404,10 @@ def stored_family():
 
 
 def main():
+    kinds = collections.Counter()
     if len(sys.argv) in (3, 5) and sys.argv[1] == "--check":
         output, *family = [open(path, encoding="utf-8").read() for path in sys.argv[2:]]
-        print(f"{replay(Family(*family or stored_family()), output)} calls, each as the book answers")
+        print(f"{replay(Family(*family or stored_family()), output, kinds)} calls, each as the book answers")
         return
     if not 2 <= len(sys.argv) <= 4:
         sys.exit(__doc__)
@@ -341,7 +417,9 @@ def main():
         for texts in families(rng):
             if calls >= most:
                 break
-            calls, runs = calls + replay(Family(*texts), run(sys.argv[1], folder, texts, rng)), runs + 1
+            calls, runs = calls + replay(Family(*texts), run(sys.argv[1], folder, texts, rng), kinds), runs + 1
+    for kind, count in sorted(kinds.items()):
+        print(f"{count:8} {kind}")
     print(f"{calls} calls in {runs} runs, each as the book answers")
 
 
@@ -349,4 +427,5 @@ if __name__ == "__main__":
     try:
         main()
     except Differs as why:
-        sys.exit(f"{why}")
+        print(why)
+        sys.exit(1)

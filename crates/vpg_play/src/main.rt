@@ -4,13 +4,14 @@
 //!
 //! On an office on the files' game 1 to 63 sessions take STEPS steps each, 16,000 at most. Their dice, by SEED, say
 //! which: decide, retract, undo, redo, keep, forget, take an order and lift it by one lifter or several, commit, ask,
-//! read by a watch, watch anew, or hand a token, a harvest or a front on to whoever comes next. HOW is `free`, or
-//! `turns` if they take turns, so that each run is the same.
+//! ask with a front that is too short, read by a watch, watch anew, or hand a token, a harvest or a front on to whoever
+//! comes next. HOW is `free`, or `turns` if they take turns, so that each run is the same.
 //!
-//! Each session prints its calls, a line for each: its number, the call, the answer, and the place in the log. Reads of
-//! a watch stand among them with the place of the sheet, and meetings of fronts with the length of the longer one. At
-//! the end all tokens are given up. The last line has the number of calls, whether nothing was missing, and how many
-//! tokens `end` misses. `bench/replay.py` makes the calls of all sessions again, in the order of their places.
+//! Each session prints its calls, a line for each: its number, the call, the answer, and the place in the log. Among
+//! them stand what is no call of the log, with the length of the front then: how an order was raised, reads of a watch
+//! (with the place of the sheet), new watches, meetings of fronts, and calls that the office refused as doubled. At the
+//! end all tokens are given up. The last line has the number of calls, whether nothing was missing, and how many tokens
+//! `end` misses. `bench/replay.py` makes the calls of all sessions again, in the order of their places.
 //!
 //! Without words five sessions take turns on a built-in family. Other words are refused.
 #![tactic(auto)]
@@ -20,10 +21,12 @@ mod noting;
 mod office;
 mod playing;
 mod tokens;
+mod words;
 
 use crate::noting::Notes;
 use crate::office::play_on_texts;
 use crate::playing::Play;
+use crate::words::play_of;
 use anyhow::{Result, bail};
 use std::sync::Wait;
 use std::thread::Threads;
@@ -41,30 +44,6 @@ const A_LITTLE: Play = Play {
     in_turn: true,
     features: 1,
 };
-
-/// Returns the number that a word spells, from a least to a most.
-fn number_of(word: &str, least: u64, most: u64) -> Result<u64> {
-    match word.parse::<u64>() {
-        Ok(number) if least <= number && number <= most => Ok(number),
-        _ => bail!("{word} is no number from {least} to {most}"),
-    }
-}
-
-/// Returns the play that the words after `GAME DIAGRAM` name.
-fn play_of(seed: &str, sessions: &str, steps: &str, how: &str) -> Result<Play> {
-    let in_turn = match how {
-        "turns" => true,
-        "free" => false,
-        _ => bail!("{how} is no way to play"),
-    };
-    Ok(Play {
-        seed: number_of(seed, 0, u64::MAX)?,
-        sessions: number_of(sessions, 1, 63)? as u32,
-        steps: number_of(steps, 0, 16_000)? as u32,
-        in_turn,
-        features: 1,
-    })
-}
 
 /// Plays on the family of these texts, and prints what was noted and the end.
 fn play<T: Threads + Wait + Sync>(

@@ -134,11 +134,16 @@ pub(crate) fn put_order(notes: &mut Notes, order: &Order) {
     put_table(notes, "and", order.dual());
 }
 
+/// Notes both tables of a harvest.
+pub(crate) fn put_tables(notes: &mut Notes, harvest: &Harvest) {
+    put_table(notes, "tables", harvest.table(Which::Hopeful));
+    put_table(notes, "and", harvest.table(Which::Dual));
+}
+
 /// Notes a harvest: the decisions of its order, and its own tables.
 pub(crate) fn put_harvest(notes: &mut Notes, harvest: &Harvest) {
     put_decisions(notes, harvest.order().decisions());
-    put_table(notes, "tables", harvest.table(Which::Hopeful));
-    put_table(notes, "and", harvest.table(Which::Dual));
+    put_tables(notes, harvest);
 }
 
 /// Notes verdicts.

@@ -1,20 +1,20 @@
 //! Sessions that play, each in a thread of its own. Each makes the calls that its dice name, reads by a watch, and
 //! hands tokens, harvests and fronts on to the others. It notes each call with its answer and its place in the log.
 
-ghost use Rattle.std.specs.Prelude.{◌<◌};
+ghost use Rattle.std.specs.Prelude.{◌<◌, ◌≤◌};
 
 use crate::counter::Counter;
 use crate::noting::{
-    Notes, put_failure, put_fault, put_harvest, put_order, put_page, put_verdicts,
+    Notes, put_failure, put_fault, put_harvest, put_order, put_page, put_tables, put_verdicts,
 };
 use crate::tokens::{Change, Seat, Token, give_up, make_change, turn};
 use std::alloc::Global;
 use std::mem;
 use std::sync::Wait;
-use std::thread::{Threads, for_each_mut};
+use std::thread::{Threads, for_each_mut, yield_now};
 use vpg_board::{OpenGate, sweep};
 use vpg_measure::{Harvest, Order};
-use vpg_office::{Front, Office, Returned, Terms, read};
+use vpg_office::{Fault, Front, Office, Returned, Terms, read};
 use vpg_verdict::Which;
 use vpg_watch::Watch;
 
@@ -52,7 +52,7 @@ impl Dice {
 }
 
 /// A session in its thread, which joined there.
-struct Player<L: Terms> {
+struct Actor<L: Terms> {
     seat: Seat<L>,
     watch: Watch<Front<L>>,
     harvest: Option<Harvest>,
@@ -61,9 +61,9 @@ struct Player<L: Terms> {
 }
 
 // Not derived: a derived `drop` would be proved again at each exit that owns such a value.
-impl<L: Terms> Drop for Player<L> {
+impl<L: Terms> Drop for Actor<L> {
     fn drop(self) {
-        let Player {
+        let Actor {
             seat: _,
             watch: _,
             harvest: _,
@@ -112,14 +112,14 @@ fn turn_token<L: Terms, R: Wait>(
     rt: &R,
     alloc: Global,
     office: &Office<L>,
-    player: &mut Player<L>,
+    actor: &mut Actor<L>,
     slot: &mut Token<L>,
     notes: &mut Notes,
 ) {
-    let goes_on = player.dice.below(4) != 0;
-    let feature = player.dice.below(player.play.features.clamp(1, 512)) as u16;
-    let change = change_by(&mut player.dice);
-    let seat = &mut player.seat;
+    let goes_on = actor.dice.below(4) != 0;
+    let feature = actor.dice.below(actor.play.features.clamp(1, 512)) as u16;
+    let change = change_by(&mut actor.dice);
+    let seat = &mut actor.seat;
     let token = match mem::replace(slot, Token::Absent) {
         Token::Absent => make_change(rt, alloc, office, seat, notes, feature, change),
         token => turn(rt, alloc, office, seat, notes, token, goes_on),
@@ -128,45 +128,83 @@ fn turn_token<L: Terms, R: Wait>(
     give_up(rt, office, seat, notes, rest);
 }
 
-/// Returns an order raised in a random way, by one lifter if each run has to be the same.
+/// Notes the way in which an order is raised, with a number.
+fn put_way(notes: &mut Notes, way: &str, number: u32) {
+    notes.put(way);
+    notes.put(number);
+}
+
+/// Returns an order that lifters raised together, which is noted.
+fn swept<R: Threads + Wait + Sync>(
+    rt: &R,
+    alloc: Global,
+    order: Order,
+    lifters: u32,
+    notes: &mut Notes,
+) -> Harvest
+    requires { (1 ≤ lifters) × (lifters ≤ 64) }
+{
+    put_way(notes, "lifters", lifters);
+    sweep(rt, alloc, order, lifters, &OpenGate)
+}
+
+/// Returns an order raised in a random way, which is noted. By one lifter if each run has to be the same.
 fn raised<R: Threads + Wait + Sync>(
     rt: &R,
     alloc: Global,
     order: Order,
     dice: &mut Dice,
     in_turn: bool,
+    notes: &mut Notes,
 ) -> Harvest {
     let vertices = order.game().vertices() as u32;
-    let rounds = u64::from(dice.below(3));
     match dice.below(if in_turn { 4 } else { 6 }) {
-        0 if vertices > 0 => Harvest::one(order, Which::Hopeful, dice.below(vertices)),
-        1 if vertices > 0 => Harvest::one(order, Which::Dual, dice.below(vertices)),
-        3 => sweep(rt, alloc, order, 1, &OpenGate),
-        4 => sweep(rt, alloc, order, 2, &OpenGate),
-        5 => sweep(rt, alloc, order, 3, &OpenGate),
-        _ => Harvest::alone(order, rounds),
+        0 if vertices > 0 => {
+            let v = dice.below(vertices);
+            put_way(notes, "hopeful", v);
+            Harvest::one(order, Which::Hopeful, v)
+        }
+        1 if vertices > 0 => {
+            let v = dice.below(vertices);
+            put_way(notes, "dual", v);
+            Harvest::one(order, Which::Dual, v)
+        }
+        2 => {
+            let rounds = dice.below(3);
+            put_way(notes, "rounds", rounds);
+            Harvest::alone(order, u64::from(rounds))
+        }
+        3 => swept(rt, alloc, order, 1, notes),
+        _ => {
+            let others = dice.below(4);
+            swept(rt, alloc, order, others + 1, notes)
+        }
     }
 }
 
-/// Takes an order, and lifts it.
+/// Takes an order, and raises it.
 fn take_order<L: Terms, R: Threads + Wait + Sync>(
     rt: &R,
     alloc: Global,
     office: &Office<L>,
-    player: &mut Player<L>,
+    actor: &mut Actor<L>,
     notes: &mut Notes,
 ) {
-    let Seat { session, front } = &mut player.seat;
+    let Seat { session, front } = &mut actor.seat;
     notes.begin(session.number(), "order");
     match session.order(rt, alloc, office, front) {
         Ok(order) => {
             put_order(notes, &order);
-            let harvest = raised(rt, alloc, order, &mut player.dice, player.play.in_turn);
-            hold(&mut player.harvest, harvest);
+            notes.end(front.len());
+            notes.begin(session.number(), "raised");
+            let in_turn = actor.play.in_turn;
+            let harvest = raised(rt, alloc, order, &mut actor.dice, in_turn, notes);
+            put_tables(notes, &harvest);
+            hold(&mut actor.harvest, harvest);
         }
         Err(fault) => put_failure(notes, fault),
     }
-    notes.end(player.seat.front.len());
+    notes.end(actor.seat.front.len());
 }
 
 /// Commits a harvest. One that is refused is held again or dropped.
@@ -174,12 +212,12 @@ fn commit<L: Terms, R: Wait>(
     rt: &R,
     alloc: Global,
     office: &Office<L>,
-    player: &mut Player<L>,
+    actor: &mut Actor<L>,
     notes: &mut Notes,
     harvest: Harvest,
 ) {
-    let holds = player.dice.below(2) == 0;
-    let Seat { session, front } = &mut player.seat;
+    let holds = actor.dice.below(2) == 0;
+    let Seat { session, front } = &mut actor.seat;
     notes.begin(session.number(), "commit");
     put_harvest(notes, &harvest);
     match session.commit(rt, alloc, office, front, harvest) {
@@ -190,13 +228,13 @@ fn commit<L: Terms, R: Wait>(
         Err(Returned { fault, value }) => {
             put_fault(notes, fault);
             if holds {
-                hold(&mut player.harvest, value);
+                hold(&mut actor.harvest, value);
             } else {
                 let_go(value);
             }
         }
     }
-    notes.end(player.seat.front.len());
+    notes.end(actor.seat.front.len());
 }
 
 /// Commits the harvest that is held, or takes an order for one.
@@ -204,12 +242,12 @@ fn lift<L: Terms, R: Threads + Wait + Sync>(
     rt: &R,
     alloc: Global,
     office: &Office<L>,
-    player: &mut Player<L>,
+    actor: &mut Actor<L>,
     notes: &mut Notes,
 ) {
-    match player.harvest.take() {
-        Some(harvest) => commit(rt, alloc, office, player, notes, harvest),
-        None => take_order(rt, alloc, office, player, notes),
+    match actor.harvest.take() {
+        Some(harvest) => commit(rt, alloc, office, actor, notes, harvest),
+        None => take_order(rt, alloc, office, actor, notes),
     }
 }
 
@@ -220,6 +258,27 @@ fn ask<L: Terms, R: Wait>(rt: &R, office: &Office<L>, seat: &mut Seat<L>, notes:
     match session.settled(rt, office, front) {
         Ok(settled) => notes.put(settled),
         Err(fault) => put_failure(notes, fault),
+    }
+    notes.end(front.len());
+}
+
+/// Asks twice whether the page is settled, the second time with the front from before. The log has a call of the
+/// session since, so the office refuses that, with the whole log as it is then. The seat takes that front.
+fn ask_late<L: Terms, R: Wait>(
+    rt: &R,
+    office: &Office<L>,
+    seat: &mut Seat<L>,
+    notes: &mut Notes,
+) {
+    let mut late = seat.front.copy();
+    ask(rt, office, seat, notes);
+    let Seat { session, front } = seat;
+    notes.begin(session.number(), "doubled");
+    notes.put(late.len());
+    match session.settled(rt, office, &mut late) {
+        Err(Fault::Doubled { front: whole }) => office.meet(rt, front, &whole),
+        Err(fault) => put_failure(notes, fault),
+        Ok(_) => notes.is_whole = false,
     }
     notes.end(front.len());
 }
@@ -242,9 +301,9 @@ fn ask_page<L: Terms, R: Wait>(
 }
 
 /// Notes the sheet that the watch reads. That is no call of the log: the place is that of the sheet.
-fn look<L: Terms>(player: &mut Player<L>, notes: &mut Notes) {
-    notes.begin(player.seat.session.number(), "reads");
-    match read(&mut player.watch) {
+fn look<L: Terms>(actor: &mut Actor<L>, notes: &mut Notes) {
+    notes.begin(actor.seat.session.number(), "reads");
+    match read(&mut actor.watch) {
         Ok(sheet) => {
             notes.put(sheet.settled);
             put_verdicts(notes, sheet.verdicts.as_slice());
@@ -259,12 +318,12 @@ fn watch_anew<L: Terms, R: Wait>(
     rt: &R,
     alloc: Global,
     office: &Office<L>,
-    player: &mut Player<L>,
+    actor: &mut Actor<L>,
     notes: &mut Notes,
 ) {
-    let Seat { session, front } = &mut player.seat;
+    let Seat { session, front } = &mut actor.seat;
     if let Ok(watch) = office.watch_from(rt, alloc, front) {
-        player.watch = watch;
+        actor.watch = watch;
         notes.begin(session.number(), "watches");
         notes.put(front.len());
         notes.end(front.len());
@@ -277,28 +336,29 @@ fn step<L: Terms, R: Threads + Wait + Sync>(
     alloc: Global,
     office: &Office<L>,
     counter: &Counter<L>,
-    player: &mut Player<L>,
+    actor: &mut Actor<L>,
     pocket: &mut Pocket<L>,
     notes: &mut Notes,
 ) {
-    let slot = pocket.at(player.dice.below(3));
-    match player.dice.below(18) {
+    let slot = pocket.at(actor.dice.below(3));
+    match actor.dice.below(19) {
         0 | 1 => counter.exchange_token(rt, slot),
-        2 => counter.exchange_harvest(rt, &mut player.harvest),
-        3 => counter.meet(rt, office, &mut player.seat, notes),
-        4 => watch_anew(rt, alloc, office, player, notes),
-        5 | 6 => look(player, notes),
-        7 => ask(rt, office, &mut player.seat, notes),
-        8 => ask_page(rt, alloc, office, &mut player.seat, notes),
-        9 | 10 | 11 => lift(rt, alloc, office, player, notes),
-        _ => turn_token(rt, alloc, office, player, slot, notes),
+        2 => counter.exchange_harvest(rt, &mut actor.harvest),
+        3 => counter.meet(rt, office, &mut actor.seat, notes),
+        4 => watch_anew(rt, alloc, office, actor, notes),
+        5 | 6 => look(actor, notes),
+        7 => ask(rt, office, &mut actor.seat, notes),
+        8 => ask_late(rt, office, &mut actor.seat, notes),
+        9 => ask_page(rt, alloc, office, &mut actor.seat, notes),
+        10 | 11 | 12 => lift(rt, alloc, office, actor, notes),
+        _ => turn_token(rt, alloc, office, actor, slot, notes),
     }
 }
 
 /// A session that is to play.
 #[derive(Drop)]
 pub(crate) struct Part {
-    /// The place among the players, from 0.
+    /// The place among the actors, from 0.
     number: u64,
     play: Play,
     notes: Notes,
@@ -319,13 +379,13 @@ fn steps<L: Terms, R: Threads + Wait + Sync>(
     alloc: Global,
     office: &Office<L>,
     counter: &Counter<L>,
-    player: &mut Player<L>,
+    actor: &mut Actor<L>,
     pocket: &mut Pocket<L>,
     part: &mut Part,
 ) {
     for k in 0..part.play.steps {
         wait(counter, part, u64::from(k).saturating_add(1));
-        step(rt, alloc, office, counter, player, pocket, &mut part.notes);
+        step(rt, alloc, office, counter, actor, pocket, &mut part.notes);
         counter.ends();
     }
 }
@@ -348,16 +408,30 @@ fn empty<L: Terms, R: Wait>(
     give_up(rt, office, seat, notes, third);
 }
 
-/// Returns the player of a part, if there is a place for it and its watch.
-fn player_of<L: Terms, R: Wait>(rt: &R, office: &Office<L>, part: &Part) -> Option<Player<L>> {
+/// The number of times that a session asks for its first watch.
+const MOST_ASKS: u32 = 1_000_000;
+
+/// Returns a watch. While others watch anew there may be no place for it, so it is asked for again, but not for ever.
+fn first_watch<L: Terms, R: Wait>(rt: &R, office: &Office<L>) -> Option<Watch<Front<L>>> {
+    for _ in 0..MOST_ASKS {
+        if let Ok(watch) = office.watch(rt) {
+            return Some(watch);
+        }
+        yield_now();
+    }
+    None
+}
+
+/// Returns the actor of a part, if there is a place for it and its watch.
+fn actor_of<L: Terms, R: Wait>(rt: &R, office: &Office<L>, part: &Part) -> Option<Actor<L>> {
     let (session, front) = office.join(rt).ok()?;
     let seat = Seat { session, front };
-    let watch = office.watch(rt).ok()?;
+    let watch = first_watch(rt, office)?;
     let mixed = part.number.wrapping_mul(0x9E37_79B9_7F4A_7C15);
     let dice = Dice {
         state: part.play.seed.wrapping_add(mixed),
     };
-    Some(Player {
+    Some(Actor {
         seat,
         watch,
         harvest: None,
@@ -372,7 +446,7 @@ fn play_part<L: Terms, R: Threads + Wait + Sync>(
     alloc: Global,
     office: &Office<L>,
     counter: &Counter<L>,
-    player: &mut Player<L>,
+    actor: &mut Actor<L>,
     part: &mut Part,
 ) {
     let mut pocket = Pocket {
@@ -380,14 +454,14 @@ fn play_part<L: Terms, R: Threads + Wait + Sync>(
         second: Token::Absent,
         third: Token::Absent,
     };
-    steps(rt, alloc, office, counter, player, &mut pocket, part);
+    steps(rt, alloc, office, counter, actor, &mut pocket, part);
     let last = u64::from(part.play.steps).saturating_add(1);
     wait(counter, part, last);
-    empty(rt, office, &mut player.seat, pocket, &mut part.notes);
+    empty(rt, office, &mut actor.seat, pocket, &mut part.notes);
     counter.ends();
 }
 
-/// Joins in this thread, and plays a part. Players join in their order if they take turns.
+/// Joins in this thread, and plays a part. Actors join in their order if they take turns.
 fn take_part<L: Terms, R: Threads + Wait + Sync>(
     rt: &R,
     alloc: Global,
@@ -396,15 +470,15 @@ fn take_part<L: Terms, R: Threads + Wait + Sync>(
     part: &mut Part,
 ) {
     wait(counter, part, 0);
-    let player = player_of(rt, office, part);
+    let actor = actor_of(rt, office, part);
     counter.ends();
-    match player {
-        Some(mut player) => play_part(rt, alloc, office, counter, &mut player, part),
+    match actor {
+        Some(mut actor) => play_part(rt, alloc, office, counter, &mut actor, part),
         None => part.notes.is_whole = false,
     }
 }
 
-/// More than there are players.
+/// More than there are actors.
 const MOST_PARTS: usize = 1024;
 
 /// Plays each part in a thread of its own.

@@ -3,9 +3,7 @@ use denote.Param.{param}
 use denote.Param.Send.{IsSend, IsSync, sendable}
 use Rattle.std.proofs.Crossing.{crosses}
 use Rattle.vpg_office.proofs.Crossing.{office_sync}
-use Rattle.vpg_office.proofs.front.Front.TheSendSync.{the_send as front_send, the_sync as front_sync}
-use Rattle.vpg_office.specs.contracts.front.Front as Front
-use Rattle.vpg_play.proofs.counter.Counter.TheSendSync.{the_sync as counter_sync}
+use Rattle.vpg_play.proofs.Crossing.{counter_sync}
 use Rattle.vpg_play.proofs.playing.play_at_once.Goals as goal
 
 -- what each captured value may do stands beside the goal, since a search through all of it takes too many steps
@@ -15,5 +13,5 @@ for_each_mut-requires-sync-F g c κs within =
     let y : IsSync (param 0 g.row.L) = search (rules, sendable) depth 20 in
     let r : IsSync g.row.R = search rules parts 8 in
     let o = office_sync (param 0 g.row.L) g.L.Terms g.L.Ledger l y in
-    let s = counter_sync in
+    let s = counter_sync (param 0 g.row.L) g.L.Terms g.L.Ledger in
     search (crosses, sendable) depth 60 fits 20000
