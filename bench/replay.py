@@ -262,7 +262,7 @@ BESIDE = {
     "raised": lambda front, words, place: place == front,
     "watches": lambda front, words, place: place == int(words[1]) and front in (None, place),
     "meets": lambda front, words, place: front in (None, int(words[1])) and place == max(map(int, words[1:])),
-    "doubled": lambda front, words, place: int(words[1]) < front <= place,
+    "doubled": lambda front, words, place: front is not None and int(words[1]) < front <= place,
 }
 
 
@@ -354,17 +354,27 @@ def check_harvests(family, lines, pages, kinds):
             kinds["commit, another's harvest"] += session not in by
 
 
+def anew(lines, count):
+    """Where new watches had the whole log published: each behind the session's front, and before its next call."""
+    windows, following = [], {}
+    for session, words, place in reversed(lines):
+        if words[0] == "watches":
+            windows.append(range(place, following.get(session, count + 1)))
+        elif words[0] != "reads" and words[0] not in BESIDE:
+            following[session] = place
+    return windows
+
+
 def look(lines, pages, published):
     """Checks what watches read. A new watch has a sheet of the whole log, and after a change that a session made its
     watch has that or a later one."""
-    seen = {}
-    anew = min((place for _, words, place in lines if words[0] == "watches"), default=len(pages))
+    seen, windows = {}, anew(lines, len(pages) - 1)
     for session, words, place in lines:
-        if words[0] == "watches" or words[0] in CHANGES and "refused" not in words:
+        if words[0] == "watches" and words[-1] != "none" or words[0] in CHANGES and "refused" not in words:
             seen[session] = max(place, seen.get(session, 0))
         if words[0] != "reads":
             continue
-        if place < seen.get(session, 0) or place not in published and place < anew:
+        if place < seen.get(session, 0) or place not in published and not any(place in it for it in windows):
             raise Differs(f"session {session} reads a sheet at {place} after one at {seen.get(session, 0)}")
         seen[session] = place
         if " ".join(words[1:]) != f"{str(pages[place].is_settled()).lower()} {pages[place].verdicts()}":

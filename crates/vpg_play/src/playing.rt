@@ -264,12 +264,7 @@ fn ask<L: Terms, R: Wait>(rt: &R, office: &Office<L>, seat: &mut Seat<L>, notes:
 
 /// Asks twice whether the page is settled, the second time with the front from before. The log has a call of the
 /// session since, so the office refuses that, with the whole log as it is then. The seat takes that front.
-fn ask_late<L: Terms, R: Wait>(
-    rt: &R,
-    office: &Office<L>,
-    seat: &mut Seat<L>,
-    notes: &mut Notes,
-) {
+fn ask_late<L: Terms, R: Wait>(rt: &R, office: &Office<L>, seat: &mut Seat<L>, notes: &mut Notes) {
     let mut late = seat.front.copy();
     ask(rt, office, seat, notes);
     let Seat { session, front } = seat;
@@ -313,7 +308,7 @@ fn look<L: Terms>(actor: &mut Actor<L>, notes: &mut Notes) {
     }
 }
 
-/// Watches from its front on, if there is a place for a further watch.
+/// Watches from its front on, if there is a place for a further watch. The whole log's sheet is published in any case.
 fn watch_anew<L: Terms, R: Wait>(
     rt: &R,
     alloc: Global,
@@ -322,12 +317,13 @@ fn watch_anew<L: Terms, R: Wait>(
     notes: &mut Notes,
 ) {
     let Seat { session, front } = &mut actor.seat;
-    if let Ok(watch) = office.watch_from(rt, alloc, front) {
-        actor.watch = watch;
-        notes.begin(session.number(), "watches");
-        notes.put(front.len());
-        notes.end(front.len());
+    notes.begin(session.number(), "watches");
+    notes.put(front.len());
+    match office.watch_from(rt, alloc, front) {
+        Ok(watch) => actor.watch = watch,
+        Err(_) => notes.put("none"),
     }
+    notes.end(front.len());
 }
 
 /// Takes a random step.
