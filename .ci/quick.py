@@ -1,7 +1,8 @@
 #!/usr/bin/env python3
 """What can be told of the repository in seconds, before the gate: each wrong body fits its text, each link leads
 somewhere, each name that a document cites stands in the code, docs/DEFINITIONS.md is that of specs/ and docs/API.md
-that of src/, no file has more over-long lines than its ceiling allows, each file is laid out.
+that of src/, no file has more over-long lines than its ceiling allows, the stored play of crates/vpg_play is as an
+independent book answers it, each file is laid out.
 
     python3 .ci/quick.py        names each fault, one a line, and exits with 1 where there is one
 
@@ -105,8 +106,10 @@ def of_names():
 
 
 def of_scripts():
-    """What the scripts find that count and write by themselves."""
-    for words in (["bench/definitions.py", "--check"], ["bench/reference.py", "--check"], [".ci/ceilings.py"]):
+    """What the scripts find that count and write by themselves, and that replay a stored play."""
+    played = ["bench/replay.py", "--check", "crates/vpg_play/stdout"]
+    checks = ["bench/definitions.py", "--check"], ["bench/reference.py", "--check"], [".ci/ceilings.py"], played
+    for words in checks:
         ran = subprocess.run([sys.executable, *words], stdout=subprocess.PIPE, text=True, cwd=ROOT)
         if ran.returncode:
             yield from ran.stdout.strip().split("\n")

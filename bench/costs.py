@@ -18,7 +18,7 @@ import tempfile
 FEATURES = 24
 DEGREE = 6
 PAGE = ["select f0", "exclude f1", "settle"]
-LINES = "why example counterexample lost won needs offer repair spoil plan draw".split()
+LINES = "why example counterexample lost won needs offer repair spoil plan draw winners decide".split()
 KINDS = {"open": ["possible", "unsure"], "hopeless": ["hopeless", "unsure"], "sure": ["possible", "sure"]}
 
 

@@ -338,7 +338,8 @@ class Walk:
         if kind not in ("some", "every"):
             return f"no move from {state}"
         asked = [name for name in self.actions if formulas.permits(actions, name)]
-        return f"no {' '.join(asked) if len(asked) < len(self.actions) else 'step'} from {state}"
+        some = " ".join(asked) or "such action"
+        return f"no {some if len(asked) < len(self.actions) else 'step'} from {state}"
 
     def end(self, v, before, depth, first):
         """What ends a visit, or None where the walk goes on."""

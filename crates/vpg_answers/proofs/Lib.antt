@@ -6,6 +6,8 @@ pub mod OneOffers
 pub mod OneParts
 pub mod OneRepairs
 pub mod OneTraces
+pub mod OneWinners
+pub mod Parting
 pub mod Pictures
 pub mod Repairing
 pub mod Telling

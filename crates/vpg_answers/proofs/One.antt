@@ -37,6 +37,7 @@ use Rattle.vpg_answers.proofs.OneOffers.{offers_one}
 use Rattle.vpg_answers.proofs.OneParts.{tells_part_one}
 use Rattle.vpg_answers.proofs.OneTraces.{traced_one}
 use Rattle.vpg_answers.proofs.OneRepairs.{forced_one, repair_one}
+use Rattle.vpg_answers.proofs.OneWinners.{tells_decided_one, tells_winners_one}
 
 -- ---- doubts
 
@@ -203,6 +204,8 @@ module _ (scene : Scene) (limits others : Limits) (decisions : List Decision) (i
       tells_moves_one scene limits others mover vertex decisions (table_in hopeful dual (other_table mover)) one other a b sure also
   of_vertex_one behaviour questions.Draw vertex hopeful dual one other a b sure also = tells_part_one scene limits others vertex decisions hopeful dual one other a b sure also
   of_vertex_one behaviour questions.Trace vertex hopeful dual one other a b sure also = traced_one scene limits others vertex decisions hopeful dual behaviour one other a b sure also
+  of_vertex_one behaviour questions.Winners vertex hopeful dual one other a b sure also = tells_winners_one scene limits others vertex decisions one other a b sure also
+  of_vertex_one behaviour questions.Decide vertex hopeful dual one other a b sure also = tells_decided_one scene limits others vertex decisions one other a b sure also
 
   of_page_one : (question : PageQuestion) (one other : List ℕ) → TellsOfPage scene limits question decisions one → TellsOfPage scene others question decisions other → ¬ (HasDoubt one) → ¬ (HasDoubt other) → one ≡ other
   of_page_one whole.Forced one other a b sure also = forced_one scene limits others aims.Any decisions one other a b sure also

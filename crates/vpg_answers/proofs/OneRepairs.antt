@@ -32,7 +32,7 @@ ends_more f w b m n = simp append_assoc
 no_more : (front word : List ℕ) (lines : ℕ) (exact : Bool) (text : List ℕ) → text ≡ front ++ total_line word lines exact → ¬ (HasDoubt text) → exact ≡ true
 no_more front word lines true text is sure = refl
 no_more front word lines false text is sure =
-    absurd (sure (inr (inr (inr (inr (front ++ (word ++ blank_number lines), is ∙ ends_more front word (blank_number lines) (codes " or more") (codes "\n")))))))
+    absurd (sure (inr (inr (inr (inr (inl (front ++ (word ++ blank_number lines), is ∙ ends_more front word (blank_number lines) (codes " or more") (codes "\n"))))))))
 
 fewer_in : (r c d n t : List ℕ) → (r ++ ((c ++ d) ++ n)) ++ t ≡ ((r ++ c) ++ (d ++ n)) ++ t
 fewer_in r c d n t = simp append_assoc

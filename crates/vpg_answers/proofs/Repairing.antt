@@ -33,7 +33,7 @@ use Rattle.vpg_answers.specs.Texts.{none_line, other_line, several_text, singles
 use Rattle.vpg_answers.proofs.Trying.{given_named, repair_weaker, singles_named, singles_weaker}
 
 -- literals of the diagram's features name some
-literals_below : (n m : ℕ) (listed : List Literal) → n ≡ m → AllByRecursion (λ l. l.feature < m) listed → All (λ l. l.feature < n) listed
+pub literals_below : (n m : ℕ) (listed : List Literal) → n ≡ m → AllByRecursion (λ l. l.feature < m) listed → All (λ l. l.feature < n) listed
 literals_below n m [] is named k d less = absurd (omega (arith, less))
 literals_below n m (l ∷ rest) is named zero d less = subst (λ (x : ℕ). l.feature < x) (sym is) named.0
 literals_below n m (l ∷ rest) is named (suc k) d less = literals_below n m rest is named.1 k d (omega (arith, less))

@@ -3,6 +3,7 @@ use Rattle.std.specs.Prelude.{◌≡◌, ◌≢◌, ℕ, ◌<◌, ⊤, ◌⊎◌
 use Rattle.vpg_guards.specs.declared.tri.Tri.{Tri}
 use Rattle.vpg_diagram.specs.FeatureDiagram.{IsDiagram}
 use Rattle.vpg_diagram.specs.declared.clause.Literal.{Literal}
+use Rattle.vpg_players.specs.declared.player.Player.TheVariants.{Even, Odd}
 use Rattle.vpg_measure.specs.Orders.{other_table}
 use Rattle.vpg_measure.specs.TwoGames.{top_for}
 use Rattle.vpg_verdict.specs.declared.which.Which.{Which}
@@ -27,14 +28,17 @@ use Rattle.vpg_why.specs.declared.question.Aim.TheVariants as aims
 use Rattle.vpg_why.specs.declared.question.Limits.{Limits}
 use Rattle.vpg_why.specs.declared.question.Question.{Question}
 use Rattle.vpg_why.specs.declared.question.Question.TheVariants as asks
+use Rattle.vpg_winners.specs.Decided.{HasRemaining, NoneRemains, WinsEach}
+use Rattle.vpg_winners.specs.Joined.{PartView}
 use Rattle.vpg_answers.specs.declared.offers.Offered.{Offered}
 use Rattle.vpg_answers.specs.declared.query.Query.{Query}
 use Rattle.vpg_answers.specs.declared.query.Query.TheVariants as queries
-use Rattle.vpg_answers.specs.Texts.{verdict_line, other_line, lost_head, lost_line, known_line, not_known_line, conflict_line, no_conflict_line, product_line, none_line, unsettled_line, offers_text, forced_text, singles_text, several_text, moves_word, moves_text}
+use Rattle.vpg_answers.specs.Texts.{verdict_line, other_line, lost_head, lost_line, known_line, not_known_line, conflict_line, no_conflict_line, product_line, none_line, unsettled_line, offers_text, forced_text, singles_text, several_text, moves_word, moves_text, winners_text, fact_line, mixed_text, empty_line}
 use Rattle.vpg_answers.specs.Offers.{AreOffers}
 use Rattle.vpg_answers.specs.Parts.{TellsPart}
 use Rattle.vpg_answers.specs.Repairs.{AreSingles}
-use Rattle.vpg_answers.specs.Room.{EachSearchEnds, RoundsSettleEach, SearchEnds}
+use Rattle.vpg_answers.specs.Room.{BothSearchesEnd, EachSearchEnds, RoundsSettleEach, SearchEnds}
+use Rattle.vpg_answers.specs.Winners.{AreWinners, IsExample}
 
 -- these choices alone are the question's reason, in the scene's game and diagram
 abbrev pub MakeSo : Scene → Question → List Literal → Type 0
@@ -229,6 +233,35 @@ TellsTraced None scene limits vertex decisions hopeful dual text = ⊥
 TellsTraced (Some behaviour) scene limits vertex decisions hopeful dual text =
     TellsTrace (page_in scene decisions hopeful dual) behaviour limits vertex text
 
+-- ---- who wins
+
+-- the products left, in parts by the winner at the vertex
+abbrev pub TellsWinners : Scene → Limits → (vertex : ℕ) → List Decision → (text : List ℕ) → Type 0
+TellsWinners scene limits vertex decisions text =
+    (parts : List PartView) × AreWinners scene limits vertex (choices decisions) parts
+    × (text ≡ winners_text scene.names (identifier_of scene vertex) parts)
+
+-- a product left that Even wins, and one that Odd wins, the first ones if the limits leave room
+abbrev pub TellsMixed : Scene → Limits → (vertex : ℕ) → List Decision → (text : List ℕ) → Type 0
+TellsMixed scene limits vertex decisions text =
+    (won : List Bool) × (lost : List Bool) × (first : Bool) × (second : Bool) ×
+    IsExample scene (aims.Won Hopeful vertex) (choices decisions) won first
+    × IsExample scene (aims.Won Dual vertex) (choices decisions) lost second
+    × (text ≡ mixed_text scene.names (identifier_of scene vertex) won first lost second)
+    × (BothSearchesEnd scene limits vertex (choices decisions) → IsTrue first × IsTrue second)
+
+-- Even wins in each product left, or Odd does, and there is one; or each of them wins in some; or no product is left;
+-- or the limits leave no room.
+abbrev pub TellsDecided : Scene → Limits → (vertex : ℕ) → List Decision → (text : List ℕ) → Type 0
+TellsDecided scene limits vertex decisions text =
+    (HasRemaining scene.lines (choices decisions) × WinsEach scene.game scene.lines (choices decisions) Even vertex
+    × (text ≡ fact_line Dual (identifier_of scene vertex)))
+    ⊎ (HasRemaining scene.lines (choices decisions) × WinsEach scene.game scene.lines (choices decisions) Odd vertex
+    × (text ≡ fact_line Hopeful (identifier_of scene vertex)))
+    ⊎ TellsMixed scene limits vertex decisions text
+    ⊎ (NoneRemains scene.lines (choices decisions) × (text ≡ empty_line))
+    ⊎ (¬ (BothSearchesEnd scene limits vertex (choices decisions)) × (text ≡ unsettled_line))
+
 -- ---- any
 
 -- the answer to a question about a vertex
@@ -252,6 +285,10 @@ TellsOfVertex behaviour scene limits questions.Draw vertex decisions hopeful dua
     TellsPart scene limits vertex decisions hopeful dual text
 TellsOfVertex behaviour scene limits questions.Trace vertex decisions hopeful dual text =
     TellsTraced behaviour scene limits vertex decisions hopeful dual text
+TellsOfVertex behaviour scene limits questions.Winners vertex decisions hopeful dual text =
+    TellsWinners scene limits vertex decisions text
+TellsOfVertex behaviour scene limits questions.Decide vertex decisions hopeful dual text =
+    TellsDecided scene limits vertex decisions text
 
 -- the answer to a question about the page as a whole: the features that all products left have or lack, or the
 -- decisions that leave none
@@ -301,6 +338,7 @@ IsWithin behaviour vertices features (queries.OfPage question) = ⊤
 
 -- A limit was met. Some line says that fewer decisions may do, or the text's end says that there may be more lines. Or
 -- the text gives some product, or only says that it is unsettled; or it is unsettled what some decision would change.
+-- Or a product of a mixed vertex need not be the first.
 abbrev pub HasDoubt : List ℕ → Type 0
 HasDoubt text =
     ((before : List ℕ) × (behind : List ℕ) × (text ≡ before ++ codes " or fewer\n" ++ behind))
@@ -308,3 +346,4 @@ HasDoubt text =
     ⊎ (text ≡ unsettled_line)
     ⊎ ((before : List ℕ) × (behind : List ℕ) × (text ≡ codes "offer" ++ before ++ codes " unsettled" ++ behind))
     ⊎ ((before : List ℕ) × (text ≡ before ++ codes " or more\n"))
+    ⊎ ((before : List ℕ) × (behind : List ℕ) × (text ≡ codes "mixed" ++ before ++ codes "\nsome product" ++ behind))

@@ -4,4 +4,5 @@ pub mod Offers
 pub mod Parts
 pub mod Repairs
 pub mod Room
+pub mod Winners
 pub mod Texts

@@ -5,7 +5,9 @@ ghost use Rattle.vpg_diagram.specs.FeatureDiagram.{feature_count};
 ghost use Rattle.vpg_texts.specs.Scene.{scene_of};
 
 use crate::query::Query;
-use crate::{drawing, examples, losses, needs, offers, reasons, repairs, traces, winning};
+use crate::{
+    deciding, drawing, examples, losses, needs, offers, reasons, repairs, traces, winners, winning,
+};
 use std::alloc::{AllocError, Global};
 use vpg_checking::Behaviour;
 use vpg_measure::Order;
@@ -46,6 +48,8 @@ fn of_vertex(
         VertexQuestion::Moves(mover) => winning::moves(alloc, order, mover, vertex, limits, out),
         VertexQuestion::Draw => drawing::part(alloc, order, vertex, limits, out),
         VertexQuestion::Trace => traces::trace(alloc, order, behaviour, vertex, limits, out),
+        VertexQuestion::Winners => winners::partition(alloc, order, vertex, limits, out),
+        VertexQuestion::Decide => deciding::decided(alloc, order, vertex, limits, out),
     }
 }
 

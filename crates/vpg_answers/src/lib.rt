@@ -6,20 +6,23 @@
 //! lack, or for decisions to retract so that it is possible. It asks why it is lost (or won) in every product left, or
 //! by which moves Odd (or Even) wins from it in all of them. It asks for a picture of all that can be reached from it,
 //! by such moves if there are some. Or it asks for a trace of its verdict, as steps of the system that the game was
-//! made of. A `PageQuestion` asks for features that all products left have or lack, or for decisions that leave none.
-//! The crate of scripts has these questions, since its lines spell them. This one asks the crates of reasons and of
-//! moves below, and appends the lines. The layer above answers lines of scripts by it; it changes nothing.
+//! made of. Or it asks who wins from it in the products left, and in which of them. A `PageQuestion` asks for features
+//! that all products left have or lack, or for decisions that leave none. The crate of scripts has these questions,
+//! since its lines spell them. This one asks the crates of reasons and of moves below, and appends the lines. The layer
+//! above answers lines of scripts by it; it changes nothing.
 //!
 //! An answer is a function of the page if no limit was met (`laws::answers_are_one`), and none is met if the limits
 //! leave room. If one was, the text says so. ` or fewer` marks decisions that suffice, some perhaps needlessly; ` or
 //! more` lines to which others may belong; `some product` one that need not be the first; `unsettled` a fact that was
 //! not shown.
 //!
-//! The texts are defined in `specs/Texts`, their meaning for a page in `specs/Answers`, `specs/Offers`, `specs/Repairs`
-//! and `specs/Parts`, and the room of limits in `specs/Room`. All are this project's own.
+//! The texts are defined in `specs/Texts`, their meaning for a page in `specs/Answers`, `specs/Offers`,
+//! `specs/Repairs`, `specs/Parts` and `specs/Winners`, and the room of limits in `specs/Room`. All are this project's
+//! own.
 #![tactic(auto)]
 
 mod answering;
+mod deciding;
 mod drawing;
 mod examples;
 pub mod laws;
@@ -31,6 +34,7 @@ mod query;
 mod reasons;
 mod repairs;
 mod traces;
+mod winners;
 mod winning;
 
 pub use answering::answer;

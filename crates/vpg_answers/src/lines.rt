@@ -274,7 +274,8 @@ pub(crate) fn choice_line(
     out.extend_from_slice(b"\n")
 }
 
-fn more(exact: bool, out: &mut Vec<u8>) -> Result<(), AllocError>
+/// Appends that there may be other lines, if it was not shown that there are none.
+pub(crate) fn more(exact: bool, out: &mut Vec<u8>) -> Result<(), AllocError>
     ensures { OnOk result (out.new.items ≡ out.old.items ++ more_text exact) }
 {
     if !exact {

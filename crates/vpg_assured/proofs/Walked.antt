@@ -19,7 +19,7 @@ use Rattle.vpg_trace.specs.Traces.{IsTrace}
 use Rattle.vpg_trace.specs.Walks.{is_left, walk_from}
 use Rattle.vpg_trace.proofs.Whole.{is_trace}
 use Rattle.vpg_texts.specs.Scene.{Scene, scene_of}
-use Rattle.vpg_family.specs.Made.{IsMadeOf}
+use Rattle.vpg_family.specs.Made.{IsMadeOf, roots_of}
 use Rattle.vpg_answers.specs.Answers.{page_in}
 use Rattle.vpg_assured.specs.Traced.{HasNoWalk, ReportsWalk}
 use Rattle.vpg_assured.proofs.Moved.{move_in_caution, move_in_product}
@@ -56,12 +56,15 @@ module _ (game : NamedGame) (diagram : NamedDiagram) (system_text : List ℕ) (b
     each = visit_reported scene entries made.system walk.known behaviour.states behaviour.sets behaviour.parts
         behaviour.pairs is_diagram walk.is_known made.of_system.departures (caution_for walk.known mover (graph_of game))
         walk.moves vertex visits is
-        (λ v w. move_in_caution behaviour.states behaviour.sets behaviour.parts made.roots behaviour.pairs made.vertices
+        (λ v w. move_in_caution behaviour.states behaviour.sets behaviour.parts roots behaviour.pairs made.vertices
         made.are_vertices.built (graph_of game) made.are_vertices.is_built made.are_vertices.alike v w walk.known mover)
-        (λ v w. move_in_product behaviour.states behaviour.sets behaviour.parts made.roots behaviour.pairs made.vertices
+        (λ v w. move_in_product behaviour.states behaviour.sets behaviour.parts roots behaviour.pairs made.vertices
         made.are_vertices.built (graph_of game) made.are_vertices.is_built made.are_vertices.alike v w);
   }
     where
+      roots : List (ℕ × ℕ)
+      roots = roots_of behaviour made.system made.places
+
       visits : List Visit
       visits = (walk_along page walk.known mover vertex walk.moves).visits
 

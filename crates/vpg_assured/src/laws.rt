@@ -1,5 +1,6 @@
 //! Laws of a run's answers, as contracts of functions that do nothing.
 ghost use Rattle.vpg_assured.specs.Assured.{AnswersSpeakOfRequirements};
+ghost use Rattle.vpg_assured.specs.Parted.{PartsSpeakOfRequirements};
 ghost use Rattle.vpg_assured.specs.Traced.{TracedStepsAreThere};
 
 /// Verdicts in a run's answers are true of the requirements, if the run's game is that of the texts of a system and of
@@ -10,6 +11,13 @@ ghost use Rattle.vpg_assured.specs.Traced.{TracedStepsAreThere};
 /// on it (`vpg_report::run`: `opened`); so nothing else is to be shown.
 pub fn answers_speak_of_requirements()
     ensures { AnswersSpeakOfRequirements }
+{}
+
+/// Parts in a run's answers to `winners` are true of the requirements, if the run's game is that of the texts of a
+/// system and of requirements. At an entry's vertex each product left on the page at that point is in exactly one part.
+/// The entry's requirement holds in each product of a part that is won, and fails in each of one that is lost.
+pub fn parts_speak_of_requirements()
+    ensures { PartsSpeakOfRequirements }
 {}
 
 /// Steps in a run's traces are transitions of the system, if the run's game was made of a system and requirements. A

@@ -146,7 +146,7 @@ fn carry_out_system<T: Threads + Wait + Sync>(
     let script = script_of(rt, alloc, name, "script")?;
     match read_known(rt, alloc, paths) {
         Ok(known) => answer_called(rt, threads, alloc, &known, script),
-        Err(fault) => Err(fault.into()),
+        Err(unread) => Err(unread.fault.into()),
     }
 }
 

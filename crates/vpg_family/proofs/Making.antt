@@ -47,7 +47,7 @@ made_of diagram system_text requirements_text game roots places raw behaviour mo
       features = over;
       actions = actions_are model.system model.is_system;
       of_system = of_system model.system model.is_system;
-      roots = map (pair_for raw.parts model.system.first) places;
+      places = places;
       vertices = roots;
       are_vertices = vertices model.system model.is_system;
     })

@@ -16,13 +16,14 @@ use Rattle.vpg_family.specs.declared.files.GamePaths.{GamePaths}
 use Rattle.vpg_family.specs.declared.files.GamePaths.TheVariants as paths
 
 -- what is told of texts without a game is told of files
-pub unread_model : (text system_text requirements_text : List ℕ) (diagram : NamedDiagram) (fault : Fault) → IsTextOf text diagram → IsModelFault diagram system_text requirements_text fault → IsUnread fault
-unread_model text system_text requirements_text diagram (told.System fault) is h = (text, system_text, requirements_text, diagram, is, h)
-unread_model text system_text requirements_text diagram (told.Requirements fault) is h = (text, system_text, requirements_text, diagram, is, h)
-unread_model text system_text requirements_text diagram (told.TooManyParts name) is h = (text, system_text, requirements_text, diagram, is, h)
-unread_model text system_text requirements_text diagram (told.Model fault) is h = (text, system_text, requirements_text, diagram, is, h)
-unread_model text system_text requirements_text diagram told.Memory is h = tt
-unread_model text system_text requirements_text diagram _ is h = absurd h
+pub unread_model : (diagram_text game_text system_text requirements_text : List ℕ) (diagram : NamedDiagram) (fault : Fault) → IsTextOf diagram_text diagram → IsModelFault diagram system_text requirements_text fault →
+    IsUnread diagram_text game_text system_text requirements_text fault
+unread_model diagram_text game_text system_text requirements_text diagram (told.System fault) is h = (diagram, is, h)
+unread_model diagram_text game_text system_text requirements_text diagram (told.Requirements fault) is h = (diagram, is, h)
+unread_model diagram_text game_text system_text requirements_text diagram (told.TooManyParts name) is h = (diagram, is, h)
+unread_model diagram_text game_text system_text requirements_text diagram (told.Model fault) is h = (diagram, is, h)
+unread_model diagram_text game_text system_text requirements_text diagram told.Memory is h = tt
+unread_model diagram_text game_text system_text requirements_text diagram _ is h = absurd h
 
 -- a family that is the same is modelled as well
 moved : (diagram d : NamedDiagram) (game g : NamedGame) (names : List (List ℕ)) (vertices : List ℕ) → (d ≡ diagram) × (g ≡ game) → IsModelled diagram game names vertices → IsModelled d g names vertices

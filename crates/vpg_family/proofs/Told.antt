@@ -44,21 +44,22 @@ undrawn_contradiction diagram_text game_text diagram game (told.Conflict name) i
 undrawn_contradiction diagram_text game_text diagram game told.Memory is h = tt
 undrawn_contradiction diagram_text game_text diagram game _ is h = absurd h
 
-pub unread_family : (diagram_text game_text : List ℕ) (fault : Fault) → IsFamilyFault diagram_text game_text fault → IsUnread fault
-unread_family diagram_text game_text (told.Game fault) h = (diagram_text, game_text, h)
-unread_family diagram_text game_text (told.Diagram fault) h = (diagram_text, h)
-unread_family diagram_text game_text told.Memory h = tt
-unread_family diagram_text game_text _ h = absurd h
+module _ (diagram_text game_text system_text requirements_text : List ℕ) where
+  pub unread_family : (fault : Fault) → IsFamilyFault diagram_text game_text fault → IsUnread diagram_text game_text system_text requirements_text fault
+  unread_family (told.Game fault) h = h
+  unread_family (told.Diagram fault) h = h
+  unread_family told.Memory h = tt
+  unread_family _ h = absurd h
 
-pub unread_diagram : (text : List ℕ) (fault : Fault) → IsDiagramFault text fault → IsUnread fault
-unread_diagram text (told.Diagram fault) h = (text, h)
-unread_diagram text told.Memory h = tt
-unread_diagram text _ h = absurd h
+  pub unread_diagram : (fault : Fault) → IsDiagramFault diagram_text fault → IsUnread diagram_text game_text system_text requirements_text fault
+  unread_diagram (told.Diagram fault) h = h
+  unread_diagram told.Memory h = tt
+  unread_diagram _ h = absurd h
 
--- out of memory, or a fault that is told of files
-pub unread_as : (fault other : Fault) → IsUnread other → (fault ≡ told.Memory) ⊎ (fault ≡ other) → IsUnread fault
-unread_as fault other h (inl e) = subst IsUnread (sym e) tt
-unread_as fault other h (inr e) = subst IsUnread (sym e) h
+  -- out of memory, or a fault that is told of files
+  pub unread_as : (fault other : Fault) → IsUnread diagram_text game_text system_text requirements_text other → (fault ≡ told.Memory) ⊎ (fault ≡ other) → IsUnread diagram_text game_text system_text requirements_text fault
+  unread_as fault other h (inl e) = subst (IsUnread diagram_text game_text system_text requirements_text) (sym e) tt
+  unread_as fault other h (inr e) = subst (IsUnread diagram_text game_text system_text requirements_text) (sym e) h
 
 -- ---- results that failed or did not
 

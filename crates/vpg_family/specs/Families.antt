@@ -106,26 +106,27 @@ IsFamilyOf (paths.Model files) diagram game =
     (names : List (List ℕ)) × (vertices : List ℕ) × IsModelled diagram game names vertices
 IsFamilyOf (paths.System path) diagram game = ⊤
 
--- the fault of some texts of a system and of requirements that have no game over some diagram
-abbrev pub IsNoModel : Fault → Type 0
-IsNoModel fault = (diagram_text system_text requirements_text : List ℕ) × (diagram : NamedDiagram) ×
+-- the fault of the texts of a system and of requirements that have no game over the diagram that a text spells
+abbrev pub IsNoModel : (diagram_text system_text requirements_text : List ℕ) → Fault → Type 0
+IsNoModel diagram_text system_text requirements_text fault = (diagram : NamedDiagram) ×
     IsTextOf diagram_text diagram × IsModelFault diagram system_text requirements_text fault
 
--- The fault of files that are no family, for some texts. A fault of the game, or of the files in its place, comes only
--- if some text spells the diagram.
-abbrev pub IsUnread : Fault → Type 0
-IsUnread told.DiagramUnreadable = ⊤
-IsUnread (told.Diagram fault) = (text : List ℕ) × IsDiagramFault text (told.Diagram fault)
-IsUnread told.GameUnreadable = (text : List ℕ) × IsSomeDiagram text
-IsUnread (told.Game fault) = (diagram_text : List ℕ) × (game_text : List ℕ) × IsFamilyFault diagram_text game_text (told.Game fault)
-IsUnread told.SystemUnreadable = (text : List ℕ) × IsSomeDiagram text
-IsUnread told.RequirementsUnreadable = (text : List ℕ) × IsSomeDiagram text
-IsUnread (told.System fault) = IsNoModel (told.System fault)
-IsUnread (told.Requirements fault) = IsNoModel (told.Requirements fault)
-IsUnread (told.TooManyParts name) = IsNoModel (told.TooManyParts name)
-IsUnread (told.Model fault) = IsNoModel (told.Model fault)
-IsUnread told.Memory = ⊤
-IsUnread fault = ⊥
+-- The fault of files that are no family, by the texts that were read by then. A fault of the game, or of the files in
+-- its place, comes only if the text of the diagram spells one.
+abbrev pub IsUnread : (diagram_text game_text system_text requirements_text : List ℕ) → Fault → Type 0
+IsUnread diagram_text game_text system_text requirements_text told.DiagramUnreadable = ⊤
+IsUnread diagram_text game_text system_text requirements_text told.GameUnreadable = IsSomeDiagram diagram_text
+IsUnread diagram_text game_text system_text requirements_text told.SystemUnreadable = IsSomeDiagram diagram_text
+IsUnread diagram_text game_text system_text requirements_text told.RequirementsUnreadable = IsSomeDiagram diagram_text
+IsUnread diagram_text game_text system_text requirements_text (told.System fault) =
+    IsNoModel diagram_text system_text requirements_text (told.System fault)
+IsUnread diagram_text game_text system_text requirements_text (told.Requirements fault) =
+    IsNoModel diagram_text system_text requirements_text (told.Requirements fault)
+IsUnread diagram_text game_text system_text requirements_text (told.TooManyParts name) =
+    IsNoModel diagram_text system_text requirements_text (told.TooManyParts name)
+IsUnread diagram_text game_text system_text requirements_text (told.Model fault) =
+    IsNoModel diagram_text system_text requirements_text (told.Model fault)
+IsUnread diagram_text game_text system_text requirements_text fault = IsFamilyFault diagram_text game_text fault
 
 -- the family of some texts
 abbrev pub IsSpelled : NamedDiagram → NamedGame → Type 0

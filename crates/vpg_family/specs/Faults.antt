@@ -104,6 +104,7 @@ fault_text told.NotAProduct = codes "NotAProduct"
 fault_text told.Memory = codes "Memory"
 fault_text told.LogFull = codes "script LogFull"
 fault_text told.Stray = codes "script Stray"
+fault_text (told.NoTrace answer) = codes "NoTrace " ++ answer.items
 
 -- `vpgdesk: `, the fault, and a line feed
 abbrev pub fault_line : Fault → List ℕ

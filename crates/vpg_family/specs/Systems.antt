@@ -10,6 +10,7 @@ use Rattle.vpg_system.specs.TextFaults.{IsFirstFault}
 use Rattle.vpg_system.specs.declared.fault.SystemFault.TheVariants as of_system
 use Rattle.vpg_system_draw.specs.Reached.{AreReached}
 use Rattle.vpg_system_draw.specs.SystemDrawing.{system_drawing}
+use Rattle.vpg_system_draw.specs.Traced.{Marking, Trail, marking_of, no_marking}
 use Rattle.vpg_family.specs.Families.{IsDiagramFault}
 use Rattle.vpg_family.specs.Pages.{Sight, sight_drawing}
 use Rattle.vpg_family.specs.Pictures.{TellsContradiction}
@@ -22,18 +23,19 @@ IsSystemFault names text (told.System fault) = (fault ≢ of_system.Memory) × I
 IsSystemFault names text told.Memory = ⊤
 IsSystemFault names text fault = ⊥
 
--- the system is drawn under these decisions and what they make known; grey is each state that cannot be reached then
+-- the system is drawn under these decisions and what they make known, with these marks; grey is each state without one
+-- that cannot be reached then
 pub record IsSystemDrawn (names : List (List ℕ)) (known : List Tri) (choices : List Literal) (system : NamedSystem)
-    (picture : List ℕ) : Type 0 where
+    (marking : Marking) (picture : List ℕ) : Type 0 where
   pub reached : List Bool
   pub are_reached : AreReached known system reached
-  pub picture_is : picture ≡ system_drawing names known choices system reached []
+  pub picture_is : picture ≡ system_drawing names known choices system reached marking
 
 -- the system is drawn under what the diagram alone makes known
 pub record IsDrawnAlone (diagram : NamedDiagram) (system : NamedSystem) (picture : List ℕ) : Type 0 where
   pub known : List Tri
   pub known_is : IsKnownTable diagram.lines [] known
-  pub drawn : IsSystemDrawn diagram.names known [] system picture
+  pub drawn : IsSystemDrawn diagram.names known [] system no_marking picture
 
 -- The texts spell a diagram and a system over its features, which is drawn under what the diagram alone makes known.
 pub record IsSystemPicture (diagram_text system_text picture : List ℕ) : Type 0 where
@@ -61,4 +63,11 @@ pub record IsSystemRedrawn (diagram : NamedDiagram) (game : NamedGame) (system_t
   pub written_is : written ≡ earlier ++ sight_drawing diagram game sight []
   pub system : NamedSystem
   pub system_spelled : IsSystemText diagram.names system_text system
-  pub drawn : IsSystemDrawn diagram.names sight.known sight.choices system picture
+  pub drawn : IsSystemDrawn diagram.names sight.known sight.choices system no_marking picture
+
+-- the system that a text spells is drawn under these decisions and what they make known, with the marks of a trace
+pub record IsSystemTraced (diagram : NamedDiagram) (system_text : List ℕ) (known : List Tri) (choices : List Literal)
+    (trail : Trail) (picture : List ℕ) : Type 0 where
+  pub system : NamedSystem
+  pub system_spelled : IsSystemText diagram.names system_text system
+  pub drawn : IsSystemDrawn diagram.names known choices system (marking_of system trail) picture

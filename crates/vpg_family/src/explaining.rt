@@ -1,7 +1,7 @@
 //! Lines that say where and why the files of a family, a script over it, or words for its features are refused.
 use crate::family::read_diagram;
 use crate::fault::Fault;
-use crate::files::{GamePaths, ModelPaths, Paths};
+use crate::files::{GamePaths, ModelPaths, Paths, Texts};
 use std::alloc::{AllocError, Global};
 use std::fs;
 use std::rt::Files;
@@ -186,93 +186,77 @@ fn put_of_diagram_file<R: Files + AllocGlobal>(
     }
 }
 
-/// Appends why a game is refused, if the files can be read once more.
-fn put_of_game<R: Files + AllocGlobal>(
-    rt: &R,
+/// Appends the meaning of a fault of requirements that were read from this text.
+fn put_of_requirements(
     alloc: Global,
     path: &str,
-    diagram: &str,
-    fault: GameFault,
-    out: &mut Vec<u8>,
-) -> Result<(), AllocError> {
-    match (text_of(rt, path), text_of(rt, diagram)) {
-        (Some(game), Some(diagram)) => put_game(alloc, path, &game, &diagram, fault, out),
-        _ => Ok(()),
-    }
-}
-
-/// Appends why a system is refused, if the files can be read once more.
-fn put_of_system<R: Files + AllocGlobal>(
-    rt: &R,
-    alloc: Global,
-    path: &str,
-    diagram: &str,
-    fault: SystemFault,
-    out: &mut Vec<u8>,
-) -> Result<(), AllocError> {
-    match (text_of(rt, path), text_of(rt, diagram)) {
-        (Some(system), Some(diagram)) => put_system(alloc, path, &system, &diagram, fault, out),
-        _ => Ok(()),
-    }
-}
-
-/// Appends the meaning of a fault of requirements, if their file can be read once more.
-fn put_of_requirements<R: Files + AllocGlobal>(
-    rt: &R,
-    alloc: Global,
-    path: &str,
+    text: &[u8],
     fault: &Fault,
     out: &mut Vec<u8>,
 ) -> Result<(), AllocError> {
-    let Some(text) = text_of(rt, path) else {
-        return Ok(());
-    };
     match fault {
-        Fault::Requirements { fault } => put_requirements(alloc, path, &text, *fault, out),
-        Fault::TooManyParts { name } => put_long(alloc, path, &text, name, out),
+        Fault::Requirements { fault } => put_requirements(alloc, path, text, *fault, out),
+        Fault::TooManyParts { name } => put_long(alloc, path, text, name, out),
         _ => Ok(()),
     }
 }
 
-/// Appends the meaning of a fault of a system, of its requirements, or of their game.
-fn put_of_model<R: Files + AllocGlobal>(
-    rt: &R,
+/// Appends the meaning of a fault of a system, of its requirements, or of their game, by the texts that were read.
+fn put_of_model(
     alloc: Global,
     files: ModelPaths<'_>,
-    diagram: &str,
+    texts: &Texts,
     fault: &Fault,
     out: &mut Vec<u8>,
 ) -> Result<(), AllocError> {
     match fault {
-        Fault::SystemUnreadable => put_unreadable(files.system, out),
-        Fault::RequirementsUnreadable => put_unreadable(files.requirements, out),
-        Fault::System { fault } => put_of_system(rt, alloc, files.system, diagram, *fault, out),
+        Fault::System { fault } => put_system(
+            alloc,
+            files.system,
+            &texts.system,
+            &texts.diagram,
+            *fault,
+            out,
+        ),
         Fault::Model { fault } => put_limit(files.requirements, *fault, out),
-        _ => put_of_requirements(rt, alloc, files.requirements, fault, out),
+        _ => put_of_requirements(alloc, files.requirements, &texts.requirements, fault, out),
     }
 }
 
-/// Appends the meaning of a fault of a game, or of the files in its place.
-fn put_of_game_files<R: Files + AllocGlobal>(
-    rt: &R,
+/// Appends the meaning of a fault of a game, or of the files in its place, by the texts that were read.
+fn put_of_game(
     alloc: Global,
-    paths: Paths<'_>,
+    paths: GamePaths<'_>,
+    texts: &Texts,
     fault: &Fault,
     out: &mut Vec<u8>,
 ) -> Result<(), AllocError> {
-    match (paths.game, fault) {
-        (GamePaths::Game(path), Fault::GameUnreadable) => put_unreadable(path, out),
+    match (paths, fault) {
         (GamePaths::Game(path), Fault::Game { fault }) => {
-            put_of_game(rt, alloc, path, paths.diagram, *fault, out)
+            put_game(alloc, path, &texts.game, &texts.diagram, *fault, out)
         }
-        (GamePaths::Model(files), _) => {
-            put_of_model(rt, alloc, files, paths.diagram, fault, out)
-        }
-        (GamePaths::System(path), Fault::SystemUnreadable) => put_unreadable(path, out),
+        (GamePaths::Model(files), _) => put_of_model(alloc, files, texts, fault, out),
         (GamePaths::System(path), Fault::System { fault }) => {
-            put_of_system(rt, alloc, path, paths.diagram, *fault, out)
+            put_system(alloc, path, &texts.system, &texts.diagram, *fault, out)
         }
         _ => Ok(()),
+    }
+}
+
+/// Returns the path of the file that can't be read, if this is the fault.
+fn unreadable_path<'a>(
+    paths: Paths<'a>,
+    script: Option<&'a str>,
+    fault: &Fault,
+) -> Option<&'a str> {
+    match (fault, paths.game) {
+        (Fault::DiagramUnreadable, _) => Some(paths.diagram),
+        (Fault::ScriptUnreadable, _) => script,
+        (Fault::GameUnreadable, GamePaths::Game(path)) => Some(path),
+        (Fault::SystemUnreadable, GamePaths::Model(files)) => Some(files.system),
+        (Fault::SystemUnreadable, GamePaths::System(path)) => Some(path),
+        (Fault::RequirementsUnreadable, GamePaths::Model(files)) => Some(files.requirements),
+        _ => None,
     }
 }
 
@@ -290,20 +274,17 @@ fn put_of_script<R: Files + AllocGlobal>(
     }
 }
 
-/// Appends the meaning of a fault.
+/// Appends the meaning of a fault: of texts that were read, or of a file that is read once more.
 fn put_explained<R: Files + AllocGlobal>(
     rt: &R,
     alloc: Global,
     paths: Paths<'_>,
+    texts: &Texts,
     script: Option<&str>,
     fault: &Fault,
     out: &mut Vec<u8>,
 ) -> Result<(), AllocError> {
     match (fault, script) {
-        (Fault::DiagramUnreadable, _) => put_unreadable(paths.diagram, out),
-        (Fault::ScriptUnreadable, Some(path)) => put_unreadable(path, out),
-        (Fault::Diagram { .. } | Fault::Conflict { .. } | Fault::UnknownFeature { .. }, _) =>
-            put_of_diagram_file(rt, alloc, paths.diagram, fault, out),
         (Fault::Line { line, .. }, Some(path)) => put_of_script(
             rt,
             alloc,
@@ -311,22 +292,32 @@ fn put_explained<R: Files + AllocGlobal>(
             *line as usize,
             out,
         ),
-        _ => put_of_game_files(rt, alloc, paths, fault, out),
+        (Fault::Conflict { .. } | Fault::UnknownFeature { .. }, _) if texts.diagram.is_empty() =>
+            put_of_diagram_file(rt, alloc, paths.diagram, fault, out),
+        (Fault::Diagram { .. } | Fault::Conflict { .. } | Fault::UnknownFeature { .. }, _) =>
+            put_of_diagram(alloc, paths.diagram, &texts.diagram, fault, out),
+        _ => put_of_game(alloc, paths.game, texts, fault, out),
     }
 }
 
 /// Returns lines that say where and why a file of a family, a line of a script over it, or a word for one of its
-/// features is refused: `FILE:LINE:COLUMN: ..`, and hints. The files are read once more. There are none for other
-/// faults, nor if a file can't be read once more.
+/// features is refused: `FILE:LINE:COLUMN: ..`, and hints. There are none for other faults. `texts` are those that were
+/// read of the family's files. A script is read once more, if it is a regular file, and so is the diagram if there is
+/// no text of it.
 pub fn explained<R: Files + AllocGlobal>(
     rt: &R,
     alloc: Global,
     paths: Paths<'_>,
+    texts: &Texts,
     script: Option<&str>,
     fault: &Fault,
 ) -> Result<Vec<u8>, AllocError> {
     let mut lines = Vec::new(alloc);
-    match put_explained(rt, alloc, paths, script, fault, &mut lines) {
+    if let Some(path) = unreadable_path(paths, script, fault) {
+        put_unreadable(path, &mut lines)?;
+        return Ok(lines);
+    }
+    match put_explained(rt, alloc, paths, texts, script, fault, &mut lines) {
         Ok(()) => Ok(lines),
         Err(fault) => Err(fault),
     }

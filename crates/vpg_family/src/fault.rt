@@ -30,6 +30,15 @@ fn put_long<W: fmt::Write>(name: &Vec<u8>, f: &mut fmt::Formatter<W>) -> fmt::Re
     Ok(())
 }
 
+/// Writes that a line `trace` was answered so, without a trace.
+fn put_untraced<W: fmt::Write>(answer: &Vec<u8>, f: &mut fmt::Formatter<W>) -> fmt::Result {
+    f.write_str("NoTrace ")?;
+    for b in answer {
+        f.write_char(char::from(*b))?;
+    }
+    Ok(())
+}
+
 /// A fault. `specs/Faults` has the message about each; `line_of` writes it after the program's name.
 #[derive(Debug, Drop, Error)]
 pub enum Fault {
@@ -86,6 +95,9 @@ pub enum Fault {
     /// The office of a run had a call that no line of its script made.
     #[error("script Stray")]
     Stray,
+    /// The line `trace` after a script had this answer, which is no trace.
+    #[error(fmt = put_untraced)]
+    NoTrace { answer: Vec<u8> },
 }
 
 impl From<AllocError> for Fault {

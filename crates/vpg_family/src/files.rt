@@ -1,6 +1,7 @@
 //! The files that the words name.
 ghost use Rattle.std.specs.Arc.{arc_value};
-ghost use Rattle.std.specs.Prelude.{◌≡◌, ◌⊎◌, None, IfOk, IfErr};
+ghost use Rattle.std.specs.IoError.{error_kind};
+ghost use Rattle.std.specs.Prelude.{◌≡◌, ◌⊎◌, [], None, IfOk, IfErr};
 ghost use Rattle.vpg_diagram.specs.DiagramText.{IsTextOf};
 ghost use Rattle.vpg_diagram.specs.FeatureDiagram.{feature_count};
 ghost use Rattle.vpg_formula.specs.EntryCode.{earlier_of};
@@ -45,7 +46,9 @@ pub struct Paths<'a> {
 
 /// Returns the fault for an error: out of memory stays `Memory`, each other failure is this fault.
 fn unreadable(error: Error, fault: Fault) -> Fault
-    ensures { (result ≡ Fault.Memory) ⊎ (result ≡ fault) }
+    ensures memory { error_kind error ≡ ErrorKind.OutOfMemory → result ≡ Fault.Memory }
+    ensures other { ¬ (error_kind error ≡ ErrorKind.OutOfMemory) → result ≡ fault }
+    ensures one { (result ≡ Fault.Memory) ⊎ (result ≡ fault) }
 {
     match error.kind() {
         ErrorKind::OutOfMemory => Fault::Memory,
@@ -80,16 +83,65 @@ pub struct Texts {
     pub behaviour: Option<Behaviour>,
 }
 
+impl Texts {
+    /// Returns the texts of no file: each is empty.
+    pub fn none(alloc: Global) -> Texts {
+        Texts {
+            diagram: Vec::new(alloc),
+            game: Vec::new(alloc),
+            entries: Vec::new(alloc),
+            vertices: Vec::new(alloc),
+            system: Vec::new(alloc),
+            requirements: Vec::new(alloc),
+            behaviour: None,
+        }
+    }
+}
+
+/// A family that is not read: why, and its texts so far. A text is empty if it was not read.
+#[derive(Drop)]
+pub struct Unread {
+    pub fault: Fault,
+    pub texts: Texts,
+}
+
+/// Returns the fault of texts before there is a game, beside them.
+fn not_read(
+    alloc: Global,
+    fault: Fault,
+    diagram: Vec<u8>,
+    system: Vec<u8>,
+    requirements: Vec<u8>,
+) -> Unread
+    requires { IsUnread diagram.items [] system.items requirements.items fault }
+    ensures { IsUnread result.texts.diagram.items result.texts.game.items result.texts.system.items
+        result.texts.requirements.items result.fault }
+{
+    Unread {
+        fault,
+        texts: Texts {
+            diagram,
+            game: Vec::new(alloc),
+            entries: Vec::new(alloc),
+            vertices: Vec::new(alloc),
+            system,
+            requirements,
+            behaviour: None,
+        },
+    }
+}
+
 /// Returns the text of a diagram, and that of a game's file.
 fn game_texts<R: Files + AllocGlobal>(
     rt: &R,
     alloc: Global,
     diagram: Vec<u8>,
     path: &str,
-) -> Result<Texts, Fault>
+) -> Result<Texts, Unread>
     requires { IsSomeDiagram diagram.items }
     ensures none { IfOk result (λ texts. texts.behaviour ≡ None) }
-    ensures refused { IfErr result IsUnread }
+    ensures refused { IfErr result (λ unread. IsUnread unread.texts.diagram.items unread.texts.game.items
+        unread.texts.system.items unread.texts.requirements.items unread.fault) }
 {
     match read_file(rt, path, Fault::GameUnreadable) {
         Ok(game) => Ok(Texts {
@@ -101,7 +153,7 @@ fn game_texts<R: Files + AllocGlobal>(
             requirements: Vec::new(alloc),
             behaviour: None,
         }),
-        Err(fault) => Err(fault),
+        Err(fault) => Err(not_read(alloc, fault, diagram, Vec::new(alloc), Vec::new(alloc))),
     }
 }
 
@@ -111,10 +163,11 @@ fn system_texts<R: Files + AllocGlobal>(
     alloc: Global,
     diagram: Vec<u8>,
     path: &str,
-) -> Result<Texts, Fault>
+) -> Result<Texts, Unread>
     requires { IsSomeDiagram diagram.items }
     ensures none { IfOk result (λ texts. texts.behaviour ≡ None) }
-    ensures refused { IfErr result IsUnread }
+    ensures refused { IfErr result (λ unread. IsUnread unread.texts.diagram.items unread.texts.game.items
+        unread.texts.system.items unread.texts.requirements.items unread.fault) }
 {
     match read_file(rt, path, Fault::SystemUnreadable) {
         Ok(system) => Ok(Texts {
@@ -126,7 +179,7 @@ fn system_texts<R: Files + AllocGlobal>(
             requirements: Vec::new(alloc),
             behaviour: None,
         }),
-        Err(fault) => Err(fault),
+        Err(fault) => Err(not_read(alloc, fault, diagram, Vec::new(alloc), Vec::new(alloc))),
     }
 }
 
@@ -137,12 +190,13 @@ fn made_texts(
     diagram: &Diagram,
     system: Vec<u8>,
     requirements: Vec<u8>,
-) -> Result<Texts, Fault>
+) -> Result<Texts, Unread>
     requires { IsTextOf text.items diagram.now }
     ensures model { IfOk result (λ texts.
         IsModelledBy texts.diagram.items texts.game.items (earlier_of texts.entries.items) texts.vertices.items) }
     ensures made { IfOk result (λ texts. IsMadeBy texts.diagram.items texts.game.items texts.behaviour) }
-    ensures refused { IfErr result IsUnread }
+    ensures refused { IfErr result (λ unread. IsUnread unread.texts.diagram.items unread.texts.game.items
+        unread.texts.system.items unread.texts.requirements.items unread.fault) }
 {
     match model_of(alloc, diagram, &system, &requirements) {
         Ok(
@@ -161,7 +215,7 @@ fn made_texts(
             requirements,
             behaviour: Some(behaviour),
         }),
-        Err(fault) => Err(fault),
+        Err(fault) => Err(not_read(alloc, fault, text, system, requirements)),
     }
 }
 
@@ -172,47 +226,55 @@ fn model_texts<R: Files + AllocGlobal>(
     text: Vec<u8>,
     diagram: &Diagram,
     files: ModelPaths<'_>,
-) -> Result<Texts, Fault>
+) -> Result<Texts, Unread>
     requires { IsTextOf text.items diagram.now }
     ensures model { IfOk result (λ texts.
         IsModelledBy texts.diagram.items texts.game.items (earlier_of texts.entries.items) texts.vertices.items) }
     ensures made { IfOk result (λ texts. IsMadeBy texts.diagram.items texts.game.items texts.behaviour) }
-    ensures refused { IfErr result IsUnread }
+    ensures refused { IfErr result (λ unread. IsUnread unread.texts.diagram.items unread.texts.game.items
+        unread.texts.system.items unread.texts.requirements.items unread.fault) }
 {
     let system = match read_file(rt, files.system, Fault::SystemUnreadable) {
         Ok(system) => system,
-        Err(fault) => return Err(fault),
+        Err(fault) => return Err(not_read(alloc, fault, text, Vec::new(alloc), Vec::new(alloc))),
     };
     let requirements = match read_file(rt, files.requirements, Fault::RequirementsUnreadable) {
         Ok(requirements) => requirements,
-        Err(fault) => return Err(fault),
+        Err(fault) => return Err(not_read(alloc, fault, text, system, Vec::new(alloc))),
     };
     made_texts(alloc, text, diagram, system, requirements)
 }
 
 /// Returns the texts of a family's files. That of the diagram is read, and refused, before any other is. If a system
 /// and its requirements stand in place of the game, it is made: they are read, and then the system is refused before
-/// the requirements are.
+/// the requirements are. The fault is that of the texts that come back with it.
 pub fn read_texts<R: Files + AllocGlobal>(
     rt: &R,
     alloc: Global,
     paths: Paths<'_>,
-) -> Result<Texts, Fault>
+) -> Result<Texts, Unread>
     // A game that is made is the model-checking game of some texts.
     ensures model { IfOk result (λ texts.
         AreTextsOf paths.entry.game texts.diagram.items texts.game.items (earlier_of texts.entries.items)
         texts.vertices.items) }
     ensures made { IfOk result (λ texts.
         AreTextsMadeOf paths.entry.game texts.diagram.items texts.game.items texts.behaviour) }
-    ensures refused { IfErr result IsUnread }
+    ensures refused { IfErr result (λ unread. IsUnread unread.texts.diagram.items unread.texts.game.items
+        unread.texts.system.items unread.texts.requirements.items unread.fault) }
 {
     let text = match read_file(rt, paths.diagram, Fault::DiagramUnreadable) {
         Ok(text) => text,
-        Err(fault) => return Err(fault),
+        Err(fault) => return Err(not_read(
+            alloc,
+            fault,
+            Vec::new(alloc),
+            Vec::new(alloc),
+            Vec::new(alloc),
+        )),
     };
     let diagram = match read_diagram(alloc, &text) {
         Ok(diagram) => diagram,
-        Err(fault) => return Err(fault),
+        Err(fault) => return Err(not_read(alloc, fault, text, Vec::new(alloc), Vec::new(alloc))),
     };
     match paths.game {
         GamePaths::Game(path) => game_texts(rt, alloc, text, path),
@@ -221,18 +283,20 @@ pub fn read_texts<R: Files + AllocGlobal>(
     }
 }
 
-/// Returns the family of some files. The diagram is read, and refused, before the game, or the files in its place.
+/// Returns the family of some files. The diagram is read, and refused, before the game, or the files in its place. The
+/// fault is that of the texts that come back with it.
 pub fn read_family<R: Files + AllocGlobal>(
     rt: &R,
     alloc: Global,
     paths: Paths<'_>,
-) -> Result<Family, Fault>
+) -> Result<Family, Unread>
     ensures spelled { IfOk result (λ family. IsSpelled (arc_value family.diagram) (arc_value family.game)) }
     // A game that is made is the model-checking game of some texts.
     ensures model { IfOk result (λ family.
         IsFamilyOf paths.entry.game (arc_value family.diagram) (arc_value family.game)) }
     ensures features { IfOk result (λ family. (arc_value family.game).features ≡ feature_count (arc_value family.diagram).lines) }
-    ensures refused { IfErr result IsUnread }
+    ensures refused { IfErr result (λ unread. IsUnread unread.texts.diagram.items unread.texts.game.items
+        unread.texts.system.items unread.texts.requirements.items unread.fault) }
 {
     let texts = match read_texts(rt, alloc, paths) {
         Ok(texts) => texts,
@@ -240,13 +304,15 @@ pub fn read_family<R: Files + AllocGlobal>(
     };
     match Family::read(alloc, &texts.diagram, &texts.game) {
         Ok(family) => Ok(family),
-        Err(fault) => Err(fault),
+        Err(fault) => Err(Unread { fault, texts }),
     }
 }
 
 /// Returns the fault of a script that cannot be opened, or read as a whole.
 fn no_script(error: Error) -> Fault
-    ensures { (result ≡ Fault.Memory) ⊎ (result ≡ Fault.ScriptUnreadable) }
+    ensures memory { error_kind error ≡ ErrorKind.OutOfMemory → result ≡ Fault.Memory }
+    ensures other { ¬ (error_kind error ≡ ErrorKind.OutOfMemory) → result ≡ Fault.ScriptUnreadable }
+    ensures one { (result ≡ Fault.Memory) ⊎ (result ≡ Fault.ScriptUnreadable) }
 {
     unreadable(error, Fault::ScriptUnreadable)
 }

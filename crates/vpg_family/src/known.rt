@@ -12,7 +12,7 @@ ghost use Rattle.vpg_family.specs.Families.{IsFamilyFault, IsUnread, SpellsFamil
 
 use crate::family::Family;
 use crate::fault::Fault;
-use crate::files::{Paths, Texts, read_texts};
+use crate::files::{Paths, Texts, Unread, read_texts};
 use std::alloc::{AllocError, Global};
 use std::rt::Files;
 use vpg_checking::Behaviour;
@@ -213,12 +213,12 @@ impl Known {
 }
 
 /// Returns the family of some files, with the names of its vertices. The diagram is read, and refused, before the game,
-/// or the files in its place.
+/// or the files in its place. The fault is that of the texts that come back with it.
 pub fn read_known<R: Files + AllocGlobal>(
     rt: &R,
     alloc: Global,
     paths: Paths<'_>,
-) -> Result<Known, Fault>
+) -> Result<Known, Unread>
     // Each requirement's name stands for its vertex, if a system and requirements stand in place of the game.
     ensures called { IfOk result (λ known. IsCalledFamily paths.entry.game (arc_value known.family.diagram)
         (arc_value known.family.game) known.context.callings) }
@@ -227,7 +227,8 @@ pub fn read_known<R: Files + AllocGlobal>(
         (arc_value known.family.game) known.context.behaviour) }
     ensures features { IfOk result (λ known.
         (arc_value known.family.game).features ≡ feature_count (arc_value known.family.diagram).lines) }
-    ensures refused { IfErr result IsUnread }
+    ensures refused { IfErr result (λ unread. IsUnread unread.texts.diagram.items unread.texts.game.items
+        unread.texts.system.items unread.texts.requirements.items unread.fault) }
 {
     let texts = match read_texts(rt, alloc, paths) {
         Ok(texts) => texts,
@@ -239,6 +240,6 @@ pub fn read_known<R: Files + AllocGlobal>(
             known.context.behaviour = behaviour;
             Ok(known)
         }
-        Err(fault) => Err(fault),
+        Err(fault) => Err(Unread { fault, texts }),
     }
 }

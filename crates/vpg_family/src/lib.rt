@@ -6,7 +6,8 @@
 //! diagram without a product, and of features that are in no product or that no guard names. It warns of vertices
 //! without moves or that the game never reaches, and of a start that is no vertex. `redrawn` returns the picture of the
 //! page that a script left, from the text that the script wrote. `Pictured` is a sink that passes answers on with the
-//! names of vertices in pictures. `system_drawn` and `system_redrawn` draw a system in place of its game. Each fault of
+//! names of vertices in pictures. `system_drawn` and `system_redrawn` draw a system in place of its game, and
+//! `system_traced` with the marks of a trace, on the page that `sight_in` reads from a run's text. Each fault of
 //! the program is a `Fault`, `line_of` returns the line that reports it, and `explained` lines that say where and why.
 //! `Known` is a family with the names that lines of scripts may give its vertices, and `read_known` returns that of
 //! some files. The crate knows no desk: scripts are carried out above it.
@@ -45,11 +46,11 @@ pub use explaining::explained;
 pub use family::{Family, conflict};
 pub use fault::Fault;
 pub use files::{
-    GamePaths, ModelPaths, Paths, Texts, open_script, read_family, read_script, read_texts,
+    GamePaths, ModelPaths, Paths, Texts, Unread, open_script, read_family, read_script, read_texts,
 };
 pub use known::{Context, Known, read_known};
 pub use linting::linted;
-pub use pages::redrawn;
+pub use pages::{Seen, redrawn, sight_in};
 pub use pictured::Pictured;
-pub use systems::{system_drawn, system_redrawn};
+pub use systems::{system_drawn, system_redrawn, system_traced};
 pub use telling::line_of;

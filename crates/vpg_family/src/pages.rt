@@ -46,11 +46,11 @@ struct Shown {
 /// The shown parts of a page, the features that the decisions make known, and the place where the picture begins in the
 /// written text.
 #[derive(Drop)]
-pub(crate) struct Seen {
-    pub(crate) decisions: Vec<Decision>,
-    verdicts: Vec<Verdict>,
-    pub(crate) known: Partial,
-    begins: usize,
+pub struct Seen {
+    pub decisions: Vec<Decision>,
+    pub verdicts: Vec<Verdict>,
+    pub known: Partial,
+    pub begins: usize,
 }
 
 /// Returns the last picture of a game in a text, and the text after it.
@@ -253,7 +253,8 @@ fn begin_of(
 }
 
 /// Returns the parts of the page that are drawn, if the written text ends in the picture of its game without names.
-pub(crate) fn sight_in(
+/// `LogFull` comes if it has another end.
+pub fn sight_in(
     alloc: Global,
     diagram: &Diagram,
     game: &GuardedGame,

@@ -204,6 +204,14 @@ fn put_unknown(word: &[u8], out: &mut Vec<u8>) -> Result<(), AllocError>
     put_shown(word, out)
 }
 
+/// Appends that a line `trace` had this answer.
+fn put_untraced(answer: &[u8], out: &mut Vec<u8>) -> Result<(), AllocError>
+    ensures { OnOk result (out.new.items ≡ out.old.items ++ codes "NoTrace " ++ answer.now) }
+{
+    out.extend_from_slice(b"NoTrace ")?;
+    out.extend_from_slice(answer)
+}
+
 fn put_fault(fault: &Fault, out: &mut Vec<u8>) -> Result<(), AllocError>
     ensures { OnOk result (out.new.items ≡ out.old.items ++ fault_text fault.now) }
 {
@@ -238,6 +246,7 @@ fn put_fault(fault: &Fault, out: &mut Vec<u8>) -> Result<(), AllocError>
         Fault::Memory => out.extend_from_slice(b"Memory"),
         Fault::LogFull => out.extend_from_slice(b"script LogFull"),
         Fault::Stray => out.extend_from_slice(b"script Stray"),
+        Fault::NoTrace { answer } => put_untraced(answer, out),
     }
 }
 

@@ -118,6 +118,13 @@ draw --system s --requirements r d --states = draw --system s --requirements r d
 draw --states --system s d x --requirements r = draw --system s --requirements r d x, states
 draw --system s --requirements r d --states --features = wrong
 draw --system s --requirements r --states = wrong
+draw --system s --requirements r d --states --trace v = draw --system s --requirements r d, states, trace v
+draw --trace=-1 --states --system s d x --requirements r = draw --system s --requirements r d x, states, trace -1
+draw --system s --requirements r d --trace v = wrong
+draw --system s --requirements r d --states --trace = wrong
+draw --system s --requirements r d --states --trace v --trace v = wrong
+draw --system s d --states --trace v = wrong
+draw g d --trace v = wrong
 draw --system s d = draw --system s d, states
 draw d --system s --explain = draw --system s d, states, explained
 draw --system s d --states = draw --system s d, states
@@ -228,6 +235,14 @@ fn put_picture(picture: Picture, said: &mut Said) {
     put_where(picture == Picture::System, "states", said);
 }
 
+/// Writes the vertex of a trace, if there is one.
+fn put_trace(trace: Option<&str>, said: &mut Said) {
+    if let Some(vertex) = trace {
+        said.put(", trace ");
+        said.put(vertex);
+    }
+}
+
 /// Writes the words of a task beside its files.
 fn put_options(task: &Task<'_>, said: &mut Said) {
     match task {
@@ -248,7 +263,10 @@ fn put_options(task: &Task<'_>, said: &mut Said) {
             put_where(*names, "names", said);
         }
         Task::Project { features, .. } => put_features(features, said),
-        Task::Draw { picture, .. } => put_picture(*picture, said),
+        Task::Draw { picture, trace, .. } => {
+            put_picture(*picture, said);
+            put_trace(*trace, said);
+        }
         _ => {}
     }
 }
@@ -353,6 +371,11 @@ Usage: vpgdesk check [OPTIONS] <GAME> <DIAGRAM>
 For more information, try '--help'.
 ";
 
+/// Words with a vertex that would be two lines of a script.
+const BROKEN: &str = "draw --system s --requirements r d --states --trace v\nw";
+
+const IN_ONE_LINE: &str = "wrong\nerror: the vertex of a trace is in one line\n";
+
 /// Whether the version, help and words that are not text get these messages.
 fn are_told(version: &str, help: &str, no_text: &str) -> bool {
     version == "shown\nvpgdesk 0.1.0\n"
@@ -372,5 +395,8 @@ fn told_texts(rt: HostRuntime) -> Result<(), Fail> {
     let are_told = are_told(version.text(), help.text(), no_text.text());
     assert!(rt; are_told);
     assert_eq!(rt; too_many.text(), TOO_MANY);
+    let broken = taken(rt.alloc(), BROKEN);
+    let is_told = broken.text().starts_with(IN_ONE_LINE);
+    assert!(rt; is_told);
     Ok(())
 }

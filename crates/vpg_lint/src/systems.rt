@@ -161,6 +161,18 @@ fn departure(faulty: &Faulty<'_>) -> (usize, &'static [u8]) {
     }
 }
 
+/// Whether a guard stands directly after the quotes of a label.
+fn has_guard_outside(faulty: &Faulty<'_>) -> bool {
+    let mut is_quoted = false;
+    for word in &faulty.words {
+        if is_quoted && matches!(word.bytes.first(), Some(b'[')) {
+            return true;
+        }
+        is_quoted = matches!(word.bytes.last(), Some(b'"'));
+    }
+    false
+}
+
 /// Appends why a line is no transition. Returns the place in the line.
 fn put_syntax(faulty: &Faulty<'_>, out: &mut Said) -> usize {
     let (place, expected) = departure(faulty);
@@ -169,6 +181,12 @@ fn put_syntax(faulty: &Faulty<'_>, out: &mut Said) -> usize {
         b"a transition is written `(SOURCE, \"LABEL\", TARGET)`",
         out,
     );
+    if has_guard_outside(faulty) {
+        put_hint(
+            b"a guard stands within the quotes: `\"ACTION [GUARD]\"`",
+            out,
+        );
+    }
     at
 }
 

@@ -238,7 +238,7 @@ pub static LINES: [Form; 8] = [
 ];
 
 /// The commands of scripts.
-pub static COMMANDS: [Form; 32] = [
+pub static COMMANDS: [Form; 34] = [
     Form {
         word: "select",
         written: "select F",
@@ -445,6 +445,20 @@ pub static COMMANDS: [Form; 32] = [
     Form {
         word: "trace",
         written: "trace V",
+        parts: &[Part::Vertex],
+        optional: 0,
+        rest: None,
+    },
+    Form {
+        word: "winners",
+        written: "winners V",
+        parts: &[Part::Vertex],
+        optional: 0,
+        rest: None,
+    },
+    Form {
+        word: "decide",
+        written: "decide V",
         parts: &[Part::Vertex],
         optional: 0,
         rest: None,

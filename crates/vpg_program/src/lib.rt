@@ -4,7 +4,8 @@
 //! diagram, and writes the answers to standard output. `run` does so with the files of a game, a diagram and a script.
 //! `project` writes the plain game of one product, `check` writes the counts and top measures of a game, and `lint`
 //! warns of a family. `draw` writes a picture, of the page that a script leaves if one is named. A system and its
-//! requirements may stand in place of the game, which `model` writes; and `draw` draws the system itself.
+//! requirements may stand in place of the game, which `model` writes; and `draw` draws the system itself, with a trace
+//! if one is asked for.
 //!
 //! The status is 0 if all goes well. It is 1 if the input is refused or something fails. Then one line on standard
 //! error, `vpgdesk: ` and the fault, says so, and with `--explain` further lines say where and why. It is 2 if the
@@ -30,12 +31,12 @@ use std::sync::Wait;
 use std::thread::Threads;
 use std::{env, io};
 use vpg_family::{
-    Context, Family, Fault, Known, Paths, Pictured, Texts, checked, drawn, explained, line_of,
-    linted, open_script, read_family, read_known, read_script, read_texts, system_drawn,
+    Context, Family, Fault, Known, Paths, Pictured, Texts, Unread, checked, drawn, explained,
+    line_of, linted, open_script, read_known, read_script, read_texts, system_drawn,
 };
 use vpg_report::{
     DIAGRAM, End, GAME, drawn_after, end_of, ended, refused_line, run_script, status,
-    system_drawn_after,
+    system_drawn_after, traced_after,
 };
 use vpg_script::{Device, Sink, Source};
 use vpg_serving::{Ending, Manner};
@@ -84,6 +85,29 @@ fn put_made(rt: &HostRuntime, made: Result<Vec<u8>, Fault>) -> Result<End, Fault
     match made {
         Ok(text) => put_out(rt, &text),
         Err(fault) => Err(fault),
+    }
+}
+
+/// Returns the fault of files that are no family, and keeps their texts for its explanation.
+fn kept(unread: Unread, texts: &mut Texts) -> Fault {
+    let Unread { fault, texts: read } = unread;
+    *texts = read;
+    fault
+}
+
+/// Reads the texts of some files.
+fn read_into(
+    rt: &HostRuntime,
+    alloc: Global,
+    paths: Paths<'_>,
+    texts: &mut Texts,
+) -> Result<(), Fault> {
+    match read_texts(rt, alloc, paths) {
+        Ok(read) => {
+            *texts = read;
+            Ok(())
+        }
+        Err(unread) => Err(kept(unread, texts)),
     }
 }
 
@@ -218,12 +242,13 @@ fn run_named_files<T: Threads + Wait + Sync>(
     script: &str,
     lifters: u32,
     manner: Manner,
+    texts: &mut Texts,
 ) -> Result<End, Fault>
     requires { (1 ≤ lifters) × (lifters ≤ 64) }
 {
     match read_known(rt, alloc, paths) {
         Ok(known) => run_named(rt, threads, alloc, &known, script, lifters, manner),
-        Err(fault) => Err(fault),
+        Err(unread) => Err(kept(unread, texts)),
     }
 }
 
@@ -262,12 +287,13 @@ fn run_files<T: Threads + Wait + Sync>(
     script: &str,
     lifters: u32,
     manner: Manner,
+    texts: &mut Texts,
 ) -> Result<End, Fault>
     requires { (1 ≤ lifters) × (lifters ≤ 64) }
 {
     match read_known(rt, alloc, paths) {
         Ok(known) => run_known(rt, threads, alloc, &known, script, lifters, manner),
-        Err(fault) => Err(fault),
+        Err(unread) => Err(kept(unread, texts)),
     }
 }
 
@@ -386,41 +412,61 @@ fn sit<T: Threads + Wait + Sync>(
     paths: Paths<'_>,
     lifters: u32,
     shows_names: bool,
+    texts: &mut Texts,
 ) -> Result<End, Fault>
     requires { (1 ≤ lifters) × (lifters ≤ 64) }
 {
     match read_known(rt, alloc, paths) {
         Ok(known) => sit_at(rt, threads, alloc, &known, lifters, shows_names),
-        Err(fault) => Err(fault),
+        Err(unread) => Err(kept(unread, texts)),
     }
 }
 
-/// Returns the plain game of the product that has these features.
-fn projected(
-    rt: &HostRuntime,
-    alloc: Global,
-    paths: Paths<'_>,
-    features: &[&str],
-) -> Result<Vec<u8>, Fault> {
-    match read_family(rt, alloc, paths) {
+/// Returns the plain game of the product that has these features, of a family of these texts.
+fn projected_of(alloc: Global, texts: &Texts, features: &[&str]) -> Result<Vec<u8>, Fault> {
+    match Family::read(alloc, &texts.diagram, &texts.game) {
         Ok(family) => family.projected(alloc, features),
         Err(fault) => Err(fault),
     }
 }
 
+/// Returns the plain game of the product that has these features, of a family of some files.
+fn projected(
+    rt: &HostRuntime,
+    alloc: Global,
+    paths: Paths<'_>,
+    features: &[&str],
+    texts: &mut Texts,
+) -> Result<Vec<u8>, Fault> {
+    match read_into(rt, alloc, paths, texts) {
+        Ok(()) => projected_of(alloc, texts, features),
+        Err(fault) => Err(fault),
+    }
+}
+
 /// Returns the line that counts a family, and a line for each requirement if its game is made for some.
-fn counted(rt: &HostRuntime, alloc: Global, paths: Paths<'_>) -> Result<Vec<u8>, Fault> {
-    match read_texts(rt, alloc, paths) {
-        Ok(texts) => checked(alloc, &texts),
+fn counted(
+    rt: &HostRuntime,
+    alloc: Global,
+    paths: Paths<'_>,
+    texts: &mut Texts,
+) -> Result<Vec<u8>, Fault> {
+    match read_into(rt, alloc, paths, texts) {
+        Ok(()) => checked(alloc, texts),
         Err(fault) => Err(fault),
     }
 }
 
 /// Returns the text of a family's game.
-fn game_text(rt: &HostRuntime, alloc: Global, paths: Paths<'_>) -> Result<Vec<u8>, Fault> {
+fn game_text(
+    rt: &HostRuntime,
+    alloc: Global,
+    paths: Paths<'_>,
+    texts: &mut Texts,
+) -> Result<Vec<u8>, Fault> {
     match read_texts(rt, alloc, paths) {
         Ok(Texts { game, .. }) => Ok(game),
-        Err(fault) => Err(fault),
+        Err(unread) => Err(kept(unread, texts)),
     }
 }
 
@@ -438,17 +484,23 @@ fn picture_of_files(
     alloc: Global,
     paths: Paths<'_>,
     picture: Picture,
+    texts: &mut Texts,
 ) -> Result<Vec<u8>, Fault> {
-    match read_texts(rt, alloc, paths) {
-        Ok(texts) => picture_of(alloc, &texts, picture),
+    match read_into(rt, alloc, paths, texts) {
+        Ok(()) => picture_of(alloc, texts, picture),
         Err(fault) => Err(fault),
     }
 }
 
 /// Returns the warnings of a family.
-fn warned(rt: &HostRuntime, alloc: Global, paths: Paths<'_>) -> Result<Vec<u8>, Fault> {
-    match read_texts(rt, alloc, paths) {
-        Ok(texts) => linted(alloc, paths, &texts),
+fn warned(
+    rt: &HostRuntime,
+    alloc: Global,
+    paths: Paths<'_>,
+    texts: &mut Texts,
+) -> Result<Vec<u8>, Fault> {
+    match read_into(rt, alloc, paths, texts) {
+        Ok(()) => linted(alloc, paths, texts),
         Err(fault) => Err(fault),
     }
 }
@@ -515,9 +567,90 @@ fn drawn_after_files<T: Threads + Wait + Sync>(
     paths: Paths<'_>,
     picture: Picture,
     script: &str,
+    texts: &mut Texts,
 ) -> Result<(Ending, Vec<u8>), Fault> {
-    match read_texts(rt, alloc, paths) {
-        Ok(texts) => drawn_after_texts(rt, threads, alloc, picture, &texts, script),
+    match read_into(rt, alloc, paths, texts) {
+        Ok(()) => drawn_after_texts(rt, threads, alloc, picture, texts, script),
+        Err(fault) => Err(fault),
+    }
+}
+
+/// Returns the lines of a script's file, none if there is no script.
+fn script_of(rt: &HostRuntime, alloc: Global, script: Option<&str>) -> Result<Vec<u8>, Fault> {
+    match script {
+        Some(path) => read_script(rt, path),
+        None => Ok(Vec::new(alloc)),
+    }
+}
+
+/// Returns the picture of the system of a family with the marks of the trace of a vertex, on the page that a script
+/// leaves, and the script's end.
+fn traced_known<T: Threads + Wait + Sync>(
+    rt: &HostRuntime,
+    threads: &T,
+    alloc: Global,
+    known: &Known,
+    system: &[u8],
+    vertex: &str,
+    script: Option<&str>,
+) -> Result<(Ending, Vec<u8>), Fault>
+    requires { (arc_value known.now.family.game).features ≡ feature_count (arc_value known.now.family.diagram).lines }
+{
+    match script_of(rt, alloc, script) {
+        Ok(lines) => traced_after(
+            threads,
+            alloc,
+            system,
+            &known.family,
+            &known.context,
+            vertex.as_bytes(),
+            &lines,
+        ),
+        Err(fault) => Err(fault),
+    }
+}
+
+/// Returns the picture of the system of the family of these texts with the marks of a trace, and the script's end.
+fn traced_texts<T: Threads + Wait + Sync>(
+    rt: &HostRuntime,
+    threads: &T,
+    alloc: Global,
+    texts: &mut Texts,
+    vertex: &str,
+    script: Option<&str>,
+) -> Result<(Ending, Vec<u8>), Fault> {
+    match Known::read(alloc, texts) {
+        Ok(mut known) => {
+            known.context.behaviour = texts.behaviour.take();
+            traced_known(rt, threads, alloc, &known, &texts.system, vertex, script)
+        }
+        Err(fault) => Err(fault),
+    }
+}
+
+/// Returns the picture of the system of the family of some files with the marks of a trace, and the script's end.
+fn traced_files<T: Threads + Wait + Sync>(
+    rt: &HostRuntime,
+    threads: &T,
+    alloc: Global,
+    paths: Paths<'_>,
+    vertex: &str,
+    script: Option<&str>,
+    texts: &mut Texts,
+) -> Result<(Ending, Vec<u8>), Fault> {
+    match read_into(rt, alloc, paths, texts) {
+        Ok(()) => traced_texts(rt, threads, alloc, texts, vertex, script),
+        Err(fault) => Err(fault),
+    }
+}
+
+/// Writes a picture, if it was made, and returns the end of its script.
+fn put_drawn(rt: &HostRuntime, drawn: Result<(Ending, Vec<u8>), Fault>) -> Result<End, Fault> {
+    match drawn {
+        Ok((ending, text)) => match put_out(rt, &text) {
+            Ok(_) => Ok(ended(ending)),
+            Err(fault) => Err(fault),
+        },
         Err(fault) => Err(fault),
     }
 }
@@ -530,23 +663,22 @@ fn draw_after<T: Threads + Wait + Sync>(
     paths: Paths<'_>,
     picture: Picture,
     script: &str,
+    texts: &mut Texts,
 ) -> Result<End, Fault> {
-    match drawn_after_files(rt, threads, alloc, paths, picture, script) {
-        Ok((ending, text)) => match put_out(rt, &text) {
-            Ok(_) => Ok(ended(ending)),
-            Err(fault) => Err(fault),
-        },
-        Err(fault) => Err(fault),
-    }
+    put_drawn(
+        rt,
+        drawn_after_files(rt, threads, alloc, paths, picture, script, texts),
+    )
 }
 
-/// Carries out the task of the words. The runtime is handed in twice: for its files, and for the threads of the
-/// lifters.
+/// Carries out the task of the words. The texts of its files are kept in `texts`, to explain a fault. The runtime is
+/// handed in twice: for its files, and for the threads of the lifters.
 fn carry_out<T: Threads + Wait + Sync>(
     rt: &HostRuntime,
     threads: &T,
     alloc: Global,
     task: &Task<'_>,
+    texts: &mut Texts,
 ) -> Result<End, Fault> {
     match task {
         Task::BuiltIn => run_built_in(rt, threads, alloc),
@@ -565,9 +697,9 @@ fn carry_out<T: Threads + Wait + Sync>(
             // The parser takes no other number of lifters.
             let lifters = (*lifters).clamp(1, 64);
             if *names {
-                run_named_files(rt, threads, alloc, *paths, script, lifters, manner)
+                run_named_files(rt, threads, alloc, *paths, script, lifters, manner, texts)
             } else {
-                run_files(rt, threads, alloc, *paths, script, lifters, manner)
+                run_files(rt, threads, alloc, *paths, script, lifters, manner, texts)
             }
         }
         Task::Desk {
@@ -576,33 +708,50 @@ fn carry_out<T: Threads + Wait + Sync>(
             names,
         } => {
             let lifters = (*lifters).clamp(1, 64);
-            sit(rt, threads, alloc, *paths, lifters, *names)
+            sit(rt, threads, alloc, *paths, lifters, *names, texts)
         }
-        Task::Model { paths } => put_made(rt, game_text(rt, alloc, *paths)),
+        Task::Model { paths } => put_made(rt, game_text(rt, alloc, *paths, texts)),
         Task::Project { paths, features } => {
-            put_made(rt, projected(rt, alloc, *paths, features))
+            put_made(rt, projected(rt, alloc, *paths, features, texts))
         }
-        Task::Check { paths } => put_made(rt, counted(rt, alloc, *paths)),
+        Task::Check { paths } => put_made(rt, counted(rt, alloc, *paths, texts)),
+        Task::Draw {
+            paths,
+            picture: _,
+            script,
+            trace: Some(vertex),
+        } => put_drawn(
+            rt,
+            traced_files(rt, threads, alloc, *paths, vertex, *script, texts),
+        ),
         Task::Draw {
             paths,
             picture,
             script: None,
-        } => put_made(rt, picture_of_files(rt, alloc, *paths, *picture)),
+            trace: None,
+        } => put_made(rt, picture_of_files(rt, alloc, *paths, *picture, texts)),
         Task::Draw {
             paths,
             picture,
             script: Some(script),
-        } => draw_after(rt, threads, alloc, *paths, *picture, script),
-        Task::Lint { paths } => put_made(rt, warned(rt, alloc, *paths)),
+            trace: None,
+        } => draw_after(rt, threads, alloc, *paths, *picture, script, texts),
+        Task::Lint { paths } => put_made(rt, warned(rt, alloc, *paths, texts)),
     }
 }
 
 /// Returns lines that say where and why an input is refused. There are none if memory runs out.
-fn explanation_of(rt: &HostRuntime, alloc: Global, task: &Task<'_>, fault: &Fault) -> Vec<u8> {
+fn explanation_of(
+    rt: &HostRuntime,
+    alloc: Global,
+    task: &Task<'_>,
+    texts: &Texts,
+    fault: &Fault,
+) -> Vec<u8> {
     let Some(paths) = task.paths() else {
         return Vec::new(alloc);
     };
-    match explained(rt, alloc, paths, task.script(), fault) {
+    match explained(rt, alloc, paths, texts, task.script(), fault) {
         Ok(lines) => lines,
         Err(_) => Vec::new(alloc),
     }
@@ -616,10 +765,11 @@ fn carry_out_asked<T: Threads + Wait + Sync>(
     asked: &Invocation<'_>,
     lines: &mut Vec<u8>,
 ) -> Result<End, Fault> {
-    let ended = carry_out(rt, threads, alloc, &asked.task);
+    let mut texts = Texts::none(alloc);
+    let ended = carry_out(rt, threads, alloc, &asked.task, &mut texts);
     if let Err(fault) = &ended {
         if asked.explains {
-            *lines = explanation_of(rt, alloc, &asked.task, fault);
+            *lines = explanation_of(rt, alloc, &asked.task, &texts, fault);
         }
     }
     ended

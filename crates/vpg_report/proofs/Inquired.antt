@@ -53,6 +53,8 @@ has_system features behaviour questions.Repair is = tt
 has_system features behaviour (questions.Lost which) is = tt
 has_system features behaviour (questions.Moves mover) is = tt
 has_system features behaviour questions.Draw is = tt
+has_system features behaviour questions.Winners is = tt
+has_system features behaviour questions.Decide is = tt
 
 -- what is asked of a vertex with it, and without
 pub asked_if : (answerable : Bool) (question : VertexQuestion) (place : Option ℕ) → answerable ≡ true → query_if answerable question place ≡ query_or NoVertex (queries.OfVertex question) place

@@ -1,4 +1,5 @@
 pub mod Fronts
+pub mod Seats
 pub mod Logged
 pub mod Asked
 pub mod Deciding

@@ -1,5 +1,5 @@
 -- The state of an office's client: the desk that it serves, and how many calls it has made. This project's own.
-use Rattle.std.specs.Prelude.{◌≡◌, ℕ, ◌+◌, ◌<◌, Bool, true, false, List, length, slice_index_or}
+use Rattle.std.specs.Prelude.{◌≡◌, ℕ, ◌+◌, ◌<◌, ◌≤◌, ◌==◌, if◌then◌else◌, List, [], ◌∷◌, length, Option, Some, None, slice_index_or}
 use Rattle.vpg_diagram.specs.DiagramText.{NamedDiagram}
 use Rattle.vpg_game.specs.Game.{NamedGame}
 use Rattle.vpg_trail.specs.Page.{Entry}
@@ -9,35 +9,16 @@ use Rattle.vpg_desk.specs.State.{DeskState, IsStep}
 use Rattle.vpg_office.specs.Fronts.{before_last, family_between}
 use Rattle.vpg_office.specs.Token.{Caller, TokenView}
 
--- a desk, and how many calls stand in its office's log
+-- a desk, how many calls stand in its office's log, and whose they are
 pub record ClientState : Type 0 where
   pub desk : DeskState
-  -- how many calls stand in the log
+  -- how many calls stand in the log, and how many of them the client's own sessions made
   pub calls : ℕ
-  -- whether the office had no session of a label's number
-  pub unseated : Bool
+  pub own : ℕ
+  -- the first label whose session has another number
+  pub unseated : Option ℕ
 
--- a client of a desk that was opened, before its first call
-abbrev pub client_of : NamedGame → NamedDiagram → ClientState
-client_of game diagram =
-    record { desk = record { game = game; diagram = diagram; book = opened }; calls = 0; unseated = false }
-
--- the client that has made these calls
-abbrev pub client_after : NamedGame → NamedDiagram → Bool → List Event → ClientState
-client_after game diagram unseated events =
-    record {
-      desk = record { game = game; diagram = diagram; book = book_after (family_between game diagram) opened events };
-      calls = length events;
-      unseated = unseated;
-    }
-
--- The log, with room for `room` calls, had room for this one. The call is one step of the desk under the label, and is
--- counted.
-pub record IsLogged (room : ℕ) (old : ClientState) (label : ℕ) (call : Call) (reply : Reply)
-    (new : ClientState) : Type 0 where
-  pub had_room : old.calls < room
-  pub step : IsStep old.desk label call reply new.desk
-  pub counted : new.calls ≡ old.calls + 1
+-- ---- a client's sessions; that of label N stands at place N - 1
 
 -- a session of no office
 abbrev pub nobody : Caller
@@ -47,11 +28,63 @@ nobody = record { number = 0; calls = 0 }
 abbrev pub IsNumbered : List Caller → ℕ → ℕ → Type 0
 IsNumbered sessions place number = (place < length sessions) × ((slice_index_or sessions place nobody).number ≡ number)
 
--- the office had no session of the label's number, and nothing else changed
-pub record IsUnseated (old new : ClientState) : Type 0 where
+-- how many calls of the log are theirs
+abbrev pub calls_of : List Caller → ℕ
+calls_of [] = 0
+calls_of (s ∷ sessions) = s.calls + calls_of sessions
+
+-- the first label, of those from this one on, whose session has another number
+abbrev pub unseated_from : ℕ → List Caller → Option ℕ
+unseated_from label [] = None
+unseated_from label (s ∷ sessions) = if s.number == label then unseated_from (label + 1) sessions else Some label
+
+-- this label, or one before it, has a session of another number
+abbrev pub IsBeyond : ℕ → Option ℕ → Type 0
+IsBeyond label unseated = (first : ℕ) × ((unseated ≡ Some first) × (first ≤ label))
+
+-- ---- clients
+
+-- a client of a desk that was opened, before its first call
+abbrev pub client_of : NamedGame → NamedDiagram → ClientState
+client_of game diagram =
+    record { desk = record { game = game; diagram = diagram; book = opened }; calls = 0; own = 0; unseated = None }
+
+-- the client with these calls in its log
+abbrev pub client_in : NamedGame → NamedDiagram → (own : ℕ) → (unseated : Option ℕ) → List Event → ClientState
+client_in game diagram own unseated events =
+    record {
+      desk = record { game = game; diagram = diagram; book = book_after (family_between game diagram) opened events };
+      calls = length events;
+      own = own;
+      unseated = unseated;
+    }
+
+-- the client with these sessions, and with these calls in its log
+abbrev pub client_after : NamedGame → NamedDiagram → List Caller → List Event → ClientState
+client_after game diagram sessions events =
+    client_in game diagram (calls_of sessions) (unseated_from 1 sessions) events
+
+-- The log, with room for `room` calls, had room for this one. The call is one step of the desk under the label, and is
+-- counted. A session of the client made it; each stays at its label.
+pub record IsLogged (room : ℕ) (old : ClientState) (label : ℕ) (call : Call) (reply : Reply)
+    (new : ClientState) : Type 0 where
+  pub had_room : old.calls < room
+  pub step : IsStep old.desk label call reply new.desk
+  pub counted : new.calls ≡ old.calls + 1
+  pub own : new.own ≡ old.own + 1
+  pub seats : new.unseated ≡ old.unseated
+
+-- the log grew by a call that no session of the client made
+pub record HasForeignCall (old new : ClientState) : Type 0 where
+  pub more : old.calls + new.own < new.calls + old.own
+  pub seats : new.unseated ≡ old.unseated
+
+-- the label, or one before it, has a session of another number, and nothing else changed
+pub record IsUnseated (old : ClientState) (label : ℕ) (new : ClientState) : Type 0 where
   pub desk : new.desk ≡ old.desk
   pub calls : new.calls ≡ old.calls
-  pub unseated : new.unseated ≡ true
+  pub own : new.own ≡ old.own
+  pub beyond : IsBeyond label new.unseated
 
 -- the present page just before the call that gave the token
 abbrev pub page_of : DeskState → TokenView → List Entry

@@ -1,5 +1,5 @@
 -- Why a client's calls are not answered. This project's own.
-use Rattle.std.specs.Prelude.{◌≡◌, ◌⊎◌, ℕ, ◌+◌, ◌<◌, Bool, true, List, length, Option, Some, Result, Ok, Err, ⊤}
+use Rattle.std.specs.Prelude.{◌≡◌, ◌⊎◌, ℕ, ◌+◌, Bool, true, List, length, Option, Some, Result, Ok, Err, ⊤}
 use Rattle.std.specs.Bool.{Decides}
 use Rattle.vpg_measure.specs.Orders.{HarvestView}
 use Rattle.vpg_desk.specs.Book as book
@@ -9,24 +9,24 @@ use Rattle.vpg_faults.specs.declared.fault.CommitFault.{CommitFault}
 use Rattle.vpg_desk.specs.History.{Event}
 use Rattle.vpg_office.specs.declared.fault.Fault.{Fault}
 use Rattle.vpg_office.specs.declared.fault.Fault.TheVariants as office
-use Rattle.vpg_report.specs.Client.{ClientState, IsLogged, IsUnseated}
+use Rattle.vpg_report.specs.Client.{ClientState, IsLogged, HasForeignCall, IsUnseated, IsBeyond}
 use Rattle.vpg_report.specs.declared.fault.ClientFault.{ClientFault}
 use Rattle.vpg_report.specs.declared.fault.ClientFault.TheVariants.{LogFull, Refused, Stray, Memory}
 
--- the log has a call that the client didn't know of, or the office had no session of the label's number
-abbrev pub HasStrayed : ClientState → ClientState → Type 0
-HasStrayed old new = (old.calls < new.calls) ⊎ IsUnseated old new
+-- the log grew by a call that no session of the client made, or the label's session isn't of its number
+abbrev pub HasStrayed : ClientState → ℕ → ClientState → Type 0
+HasStrayed old label new = HasForeignCall old new ⊎ IsUnseated old label new
 
 -- The log is full exactly if it has as many calls as it takes; then nothing changes. The desk's own refusal is logged.
--- Out of memory, nothing changes. A stray shows in the log, which has a call more at least, or the office had no
--- session of the label's number. It leaves the desk's game and diagram.
+-- Out of memory, nothing changes. A stray shows in the log, which grew by a call that no session of the client made; or
+-- the session of the label, or of one before it, has another number. It leaves the desk's game and diagram.
 abbrev pub Tells : {F : Type 0} → ℕ → (F → Option Refusal) → ClientState → ℕ → Call → ClientState → ClientFault F →
     Type 0
 Tells room refusal old label call new LogFull = (old.calls ≡ room) × (new ≡ old)
 Tells room refusal old label call new (Refused fault) =
     (r : Refusal) × ((refusal fault ≡ Some r) × IsLogged room old label call (book.Refused r) new)
 Tells room refusal old label call new Stray =
-    ((new.desk.game ≡ old.desk.game) × (new.desk.diagram ≡ old.desk.diagram)) × HasStrayed old new
+    ((new.desk.game ≡ old.desk.game) × (new.desk.diagram ≡ old.desk.diagram)) × HasStrayed old label new
 Tells room refusal old label call new Memory = new ≡ old
 
 -- As `Tells`, for a commit of a harvest that may be of another game or diagram.
@@ -45,11 +45,12 @@ UnlessStray fault P = P
 
 -- ---- how the office's faults are sorted
 
--- there is no session of the label: the office had none of its number, or it is out of memory
-abbrev pub IsAbsent : {F : Type 0} → Bool → Bool → ClientFault F → Type 0
-IsAbsent old new Stray = new ≡ true
-IsAbsent old new Memory = new ≡ old
-IsAbsent old new _ = ⊥
+-- There is no session for the label. The first label whose session has another number isn't behind it; or the client
+-- is out of memory, and that first label stays the same.
+abbrev pub IsAbsent : {F : Type 0} → ℕ → (old new : Option ℕ) → ClientFault F → Type 0
+IsAbsent label old new Stray = IsBeyond label new
+IsAbsent label old new Memory = new ≡ old
+IsAbsent label old new _ = ⊥
 
 -- the client's front after the office's fault: the log, where the fault has it
 abbrev pub shown_by : {L F : Type 0} → Fault L F → List Event → List Event

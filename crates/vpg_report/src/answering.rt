@@ -21,7 +21,7 @@ use vpg_serving::{ServeFault, Server};
 
 /// The limits of a question about the page. The bounds of a trial's table may look at 2^27 edges and vertices; if they
 /// do not settle it, it has 1,000 rounds of lifts. A search has 10,000 trials.
-const LIMITS: Limits = Limits {
+pub(crate) const LIMITS: Limits = Limits {
     budget: 134_217_728,
     rounds: 1_000,
     trials: 10_000,

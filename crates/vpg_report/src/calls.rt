@@ -45,13 +45,7 @@ impl<L: Terms> Client<L> {
             (λ r. Tells L.limit decide_refusal self.old label (book.Decide feature value) self.new r.fault) }
         ensures back { IfErr result (λ r. UnlessStray r.fault (r.value ≡ None)) }
     {
-        let place = match seat(
-            rt,
-            &self.office,
-            &mut self.sessions,
-            &mut self.unseated,
-            label,
-        ) {
+        let place = match seat(rt, &self.office, &mut self.sessions, label) {
             Ok(place) => place,
             Err(fault) => return Err(Returned { fault, value: None }),
         };
@@ -84,13 +78,7 @@ impl<L: Terms> Client<L> {
             (λ r. Tells L.limit retract_refusal self.old label (book.Retract feature) self.new r.fault) }
         ensures back { IfErr result (λ r. UnlessStray r.fault (r.value ≡ None)) }
     {
-        let place = match seat(
-            rt,
-            &self.office,
-            &mut self.sessions,
-            &mut self.unseated,
-            label,
-        ) {
+        let place = match seat(rt, &self.office, &mut self.sessions, label) {
             Ok(place) => place,
             Err(fault) => return Err(Returned { fault, value: None }),
         };
@@ -123,13 +111,7 @@ impl<L: Terms> Client<L> {
             (λ r. Tells L.limit undo_refusal self.old label (book.Undo token.serial) self.new r.fault) }
         ensures back { IfErr result (λ r. UnlessStray r.fault (r.value ≡ Token.Undo token)) }
     {
-        let place = match seat(
-            rt,
-            &self.office,
-            &mut self.sessions,
-            &mut self.unseated,
-            label,
-        ) {
+        let place = match seat(rt, &self.office, &mut self.sessions, label) {
             Ok(place) => place,
             Err(fault) => return Err(Returned {
                 fault,
@@ -159,13 +141,7 @@ impl<L: Terms> Client<L> {
             (λ r. Tells L.limit redo_refusal self.old label (book.Redo token.serial) self.new r.fault) }
         ensures back { IfErr result (λ r. UnlessStray r.fault (r.value ≡ Token.Redo token)) }
     {
-        let place = match seat(
-            rt,
-            &self.office,
-            &mut self.sessions,
-            &mut self.unseated,
-            label,
-        ) {
+        let place = match seat(rt, &self.office, &mut self.sessions, label) {
             Ok(place) => place,
             Err(fault) => return Err(Returned {
                 fault,
@@ -190,13 +166,7 @@ impl<L: Terms> Client<L> {
             (λ r. Tells L.limit never_refused self.old label (book.Keep token.serial) self.new r.fault) }
         ensures back { IfErr result (λ r. UnlessStray r.fault (r.value ≡ Some token)) }
     {
-        let place = match seat(
-            rt,
-            &self.office,
-            &mut self.sessions,
-            &mut self.unseated,
-            label,
-        ) {
+        let place = match seat(rt, &self.office, &mut self.sessions, label) {
             Ok(place) => place,
             Err(fault) => return Err(Returned {
                 fault,
@@ -222,13 +192,7 @@ impl<L: Terms> Client<L> {
             (λ r. Tells L.limit never_refused self.old label (book.Forget token.serial) self.new r.fault) }
         ensures back { IfErr result (λ r. UnlessStray r.fault (r.value ≡ Some token)) }
     {
-        let place = match seat(
-            rt,
-            &self.office,
-            &mut self.sessions,
-            &mut self.unseated,
-            label,
-        ) {
+        let place = match seat(rt, &self.office, &mut self.sessions, label) {
             Ok(place) => place,
             Err(fault) => return Err(Returned {
                 fault,
@@ -255,13 +219,7 @@ impl<L: Terms> Client<L> {
         ensures order { IfOk result IsOrder }
         ensures fault { IfErr result (Tells L.limit never_refused self.old label book.Order self.new) }
     {
-        let place = match seat(
-            rt,
-            &self.office,
-            &mut self.sessions,
-            &mut self.unseated,
-            label,
-        ) {
+        let place = match seat(rt, &self.office, &mut self.sessions, label) {
             Ok(place) => place,
             Err(fault) => return Err(fault),
         };
@@ -291,13 +249,7 @@ impl<L: Terms> Client<L> {
         ensures fault { IfErr result (λ r. CommitTells L.limit self.old label harvest self.new r.fault) }
         ensures back { IfErr result (λ r. UnlessStray r.fault (r.value ≡ Some harvest)) }
     {
-        let place = match seat(
-            rt,
-            &self.office,
-            &mut self.sessions,
-            &mut self.unseated,
-            label,
-        ) {
+        let place = match seat(rt, &self.office, &mut self.sessions, label) {
             Ok(place) => place,
             Err(fault) => return Err(Returned {
                 fault,
@@ -327,13 +279,7 @@ impl<L: Terms> Client<L> {
             (λ r. Tells L.limit commit_refusal self.old label (book.Commit (handed_in true harvest)) self.new r.fault) }
         ensures back { IfErr result (λ r. UnlessStray r.fault (r.value ≡ Some harvest)) }
     {
-        let place = match seat(
-            rt,
-            &self.office,
-            &mut self.sessions,
-            &mut self.unseated,
-            label,
-        ) {
+        let place = match seat(rt, &self.office, &mut self.sessions, label) {
             Ok(place) => place,
             Err(fault) => return Err(Returned {
                 fault,
@@ -358,13 +304,7 @@ impl<L: Terms> Client<L> {
             (λ settled. IsLogged L.limit self.old label book.Settled (book.IsSettled settled) self.new) }
         ensures fault { IfErr result (Tells L.limit never_refused self.old label book.Settled self.new) }
     {
-        let place = match seat(
-            rt,
-            &self.office,
-            &mut self.sessions,
-            &mut self.unseated,
-            label,
-        ) {
+        let place = match seat(rt, &self.office, &mut self.sessions, label) {
             Ok(place) => place,
             Err(fault) => return Err(fault),
         };
@@ -398,13 +338,7 @@ impl<L: Terms> Client<L> {
         ensures reached { OnOk result (IsReached (setting_of self.old.desk) self.old.desk.book) }
         ensures fault { IfErr result (Tells L.limit never_refused self.old label book.Page self.new) }
     {
-        let place = match seat(
-            rt,
-            &self.office,
-            &mut self.sessions,
-            &mut self.unseated,
-            label,
-        ) {
+        let place = match seat(rt, &self.office, &mut self.sessions, label) {
             Ok(place) => place,
             Err(fault) => return Err(fault),
         };

@@ -1,12 +1,12 @@
 //! The client: an office, the one front that its sessions share, and the sessions by their labels.
 ghost use Rattle.std.specs.Arc.{arc_value};
-ghost use Rattle.std.specs.Prelude.{◌≡◌, ◌+◌, ◌-◌, ◌<◌, ◌≤◌, ◌↔◌, ℕ, [], length, slice_index_or};
+ghost use Rattle.std.specs.Prelude.{◌≡◌, ◌+◌, ◌<◌, ◌≤◌, ◌↔◌, ◌++◌, ◌∷◌, ℕ, [], length, slice_index_or};
 ghost use Rattle.std.specs.Prelude.{true, false, IfOk, IfErr, IfSome, OnOk};
 ghost use Rattle.vpg_diagram.specs.FeatureDiagram.{feature_count};
 ghost use Rattle.vpg_game.specs.Game.{IsAtLimit};
 ghost use Rattle.vpg_partial.specs.KnownLaws.{HasConflictOf};
 ghost use Rattle.vpg_desk.specs.State.{IsOpened};
-ghost use Rattle.vpg_report.specs.Client.{IsNumbered, client_of, nobody};
+ghost use Rattle.vpg_report.specs.Client.{IsBeyond, IsNumbered, calls_of, client_of, nobody, unseated_from};
 ghost use Rattle.vpg_report.specs.Faults.{IsAbsent};
 
 use crate::fault::ClientFault;
@@ -19,14 +19,13 @@ use vpg_game::GuardedGame;
 use vpg_office::{Front, NotOpened, Office, Redo, Session, Site, Terms, Undo};
 
 /// The one caller of an office, for labels from 1 to 1,024. Contracts see the desk that it serves, the number of calls
-/// in the log, and whether the office had no session of a label's number. A client can't be dropped: `end` ends it.
+/// in the log, how many of them its own sessions made, and the first label whose session has another number. A client
+/// can't be dropped: `end` ends it.
 pub struct Client<L: Terms> {
     pub(crate) office: Office<L>,
     pub(crate) front: Front<L>,
     // that of label N at place N - 1
     pub(crate) sessions: Vec<Session<L>>,
-    // whether the office had no session of a label's number
-    pub(crate) unseated: bool,
 }
 
 impl<L: Terms> Model for Client<L> {
@@ -40,7 +39,7 @@ impl<L: Terms> Model for Client<L> {
 
     ghost use Rattle.vpg_report.specs.Client.{client_after};
 
-    ghost view = { λ c. client_after L.game L.diagram c.unseated c.front };
+    ghost view = { λ c. client_after L.game L.diagram c.sessions.items c.front };
 }
 
 impl<L: Terms> Client<L> {
@@ -73,7 +72,6 @@ impl<L: Terms> Client<L> {
                 office,
                 front: Front::empty(),
                 sessions: Vec::new(alloc),
-                unseated: false,
             }),
             Err(refused) => Err(refused),
         }
@@ -88,7 +86,6 @@ impl<L: Terms> Client<L> {
             office,
             front,
             sessions: _,
-            unseated: _,
         } = self;
         let office = office.unshare();
         let log = office.log();
@@ -101,30 +98,35 @@ impl<L: Terms> Client<L> {
     }
 }
 
-/// Returns the place of a label's session. If the label is new, joins the sessions up to it. `Stray` if the office had
-/// none of this number; that is noted.
+/// Returns the place of a label's session. If the label is new, joins the sessions up to it. `Stray` if the session
+/// there, or an earlier one, has another number than its label; `Memory` also if the office has no session for it: it
+/// has 1,024 at most, from 1.
 pub(crate) fn seat<L: Terms, R: Wait, F>(
     rt: &R,
     office: &Office<L>,
     sessions: &mut Vec<Session<L>>,
-    unseated: &mut bool,
     label: u32,
 ) -> Result<usize, ClientFault<F>>
     ensures within { IfOk result (λ place. place < length sessions.new.items) }
     ensures number { IfOk result (λ place. (slice_index_or sessions.new.items place nobody).number ≡ label) }
-    ensures seated { OnOk result (unseated.new ≡ unseated.old) }
-    ensures absent { IfErr result (IsAbsent unseated.old unseated.new) }
-    ensures missing { IfErr result
-        (λ fault. fault ≡ ClientFault.Stray → ¬ IsNumbered sessions.new.items (label - 1) label) }
+    ensures own { calls_of sessions.new.items ≡ calls_of sessions.old.items }
+    ensures seated { OnOk result (unseated_from 1 sessions.new.items ≡ unseated_from 1 sessions.old.items) }
+    ensures absent { IfErr result
+        (IsAbsent label (unseated_from 1 sessions.old.items) (unseated_from 1 sessions.new.items)) }
 {
-    if join(rt, office, sessions, label).is_err() {
+    if label == 0 {
         return Err(ClientFault::Memory);
     }
-    let place = label.saturating_sub(1) as usize;
+    let Ok(seated) = join(rt, office, sessions, label) else {
+        return Err(ClientFault::Memory);
+    };
+    let place = label as usize - 1;
+    if !seated {
+        return Err(ClientFault::Stray);
+    }
     if has_number(sessions, place, label) {
         return Ok(place);
     }
-    *unseated = true;
     Err(ClientFault::Stray)
 }
 
@@ -139,21 +141,47 @@ fn has_number<L: Terms>(sessions: &[Session<L>], place: usize, number: u32) -> b
     sessions[place].number() == number
 }
 
-/// Joins sessions until there are this many, or the office has no more.
+/// Joins sessions until there is one for the label. `false` if the last one that was joined has another number than its
+/// label: none is joined after it.
 fn join<L: Terms, R: Wait>(
     rt: &R,
     office: &Office<L>,
     sessions: &mut Vec<Session<L>>,
-    count: u32,
-) -> Result<(), AllocError> {
-    for _ in sessions.len()..count as usize {
-        sessions.reserve(1)?;
-        let Ok((session, _log)) = office.join(rt) else {
-            return Ok(());
-        };
-        sessions.push_reserved(session);
+    label: u32,
+) -> Result<bool, AllocError>
+    ensures own { calls_of sessions.new.items ≡ calls_of sessions.old.items }
+    ensures enough { IfOk result (λ seated. seated ≡ true → label ≤ length sessions.new.items) }
+    ensures seated { IfOk result
+        (λ seated. seated ≡ true → unseated_from 1 sessions.new.items ≡ unseated_from 1 sessions.old.items) }
+    ensures beyond { IfOk result (λ seated. seated ≡ false → IsBeyond label (unseated_from 1 sessions.new.items)) }
+    ensures failed { IfErr result (λ _. unseated_from 1 sessions.new.items ≡ unseated_from 1 sessions.old.items) }
+{
+    for next in sessions.len()..label as usize {
+        let number = join_one(rt, office, sessions)?;
+        if number as usize != next + 1 {
+            return Ok(false);
+        }
     }
-    Ok(())
+    Ok(true)
+}
+
+/// Joins one session more, and returns its number.
+fn join_one<L: Terms, R: Wait>(
+    rt: &R,
+    office: &Office<L>,
+    sessions: &mut Vec<Session<L>>,
+) -> Result<u32, AllocError>
+    ensures joined { IfOk result
+        (λ n. sessions.new.items ≡ sessions.old.items ++ record { number = n; calls = 0 } ∷ []) }
+    ensures failed { IfErr result (λ _. sessions.new.items ≡ sessions.old.items) }
+{
+    sessions.reserve(1)?;
+    let Ok((session, _log)) = office.join(rt) else {
+        return Err(AllocError);
+    };
+    let number = session.number();
+    sessions.push_reserved(session);
+    Ok(number)
 }
 
 /// Whether the front has exactly one call more than `calls`.

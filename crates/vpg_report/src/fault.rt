@@ -16,9 +16,11 @@ pub enum ClientFault<F> {
     LogFull,
     #[error("{fault}")]
     Refused { fault: F },
-    /// The log has a call that this client didn't make, or the office has no session of the label's number.
+    /// The log grew by a call that no session of this client made; or the label's session, or that of a lesser label,
+    /// has another number.
     #[error("Stray")]
     Stray,
+    /// A growth was refused, or the office has no session for the label: it has 1,024 at most, from 1.
     #[error("Memory")]
     Memory,
 }

@@ -1,11 +1,12 @@
 //! Runs: they carry a script out on a desk and answer each of its lines. Here is also how the program ends after them.
 //!
 //! The program above uses `run_script`, which carries a script out at an office of a family in a manner and returns the
-//! program's fault. `drawn_after` draws the page that a script leaves, and `system_drawn_after` the system on it. `End`
-//! is the program's end if nothing fails, and `end_of` makes it of a run's result. `status` returns its exit status,
-//! `refused_line` the message about a strict script that was refused. `DIAGRAM` and `GAME` are the built-in family.
-//! Below it, `run_as` opens a desk and carries a script out on it; `run` does so without a manner, and `run_called` for
-//! lines that name vertices. At the end of a run, also after a fault, all tokens are spent and the desk is closed.
+//! program's fault. `drawn_after` draws the page that a script leaves, `system_drawn_after` the system on it, and
+//! `traced_after` the system with the marks of a trace. `End` is the program's end if nothing fails, and `end_of` makes
+//! it of a run's result. `status` returns its exit status, `refused_line` the message about a strict script that was
+//! refused. `DIAGRAM` and `GAME` are the built-in family. Below it, `run_as` opens a desk and carries a script out on
+//! it; `run` does so without a manner, and `run_called` for lines that name vertices. At the end of a run, also after a
+//! fault, all tokens are spent and the desk is closed.
 //!
 //! Texts of a page: `show` writes its decisions, tables and verdicts, `trail` its entries, and `count` how many
 //! vertices have which verdict. `products` writes what is known of each feature, and `put_known` what is known of one.
@@ -52,7 +53,7 @@ mod runs;
 
 pub use built_in::{DIAGRAM, GAME};
 pub use client::Client;
-pub use drawing::{drawn_after, system_drawn_after};
+pub use drawing::{drawn_after, system_drawn_after, traced_after};
 pub use ending::{End, end_of, ended, refused_line, status};
 pub use engine::Engine;
 pub use fault::{ClientFault, Returned, Token};

@@ -159,6 +159,8 @@ verb_of_question w =
     else if bytes_eq w (codes "empty") then Some verbs.Empty
     else if bytes_eq w (codes "spoil") then Some verbs.Spoil
     else if bytes_eq w (codes "trace") then Some verbs.Trace
+    else if bytes_eq w (codes "winners") then Some verbs.Winners
+    else if bytes_eq w (codes "decide") then Some verbs.Decide
     else None
 
 -- the command that a word names, if it is a lookup or such a question
@@ -269,6 +271,8 @@ asked verbs.Plan w = of_vertex (questions.Moves Hopeful) w
 asked verbs.Spoil w = of_vertex (questions.Moves Dual) w
 asked verbs.Draw w = of_vertex questions.Draw w
 asked verbs.Trace w = of_vertex questions.Trace w
+asked verbs.Winners w = of_vertex questions.Winners w
+asked verbs.Decide w = of_vertex questions.Decide w
 asked _ w = None
 
 -- a command with one argument

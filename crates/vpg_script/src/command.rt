@@ -60,6 +60,8 @@ pub enum Verb {
     Empty,
     Spoil,
     Trace,
+    Winners,
+    Decide,
 }
 
 /// A question about a vertex.
@@ -83,6 +85,10 @@ pub enum VertexQuestion {
     Draw,
     /// The trace of its verdict, as steps of the system.
     Trace,
+    /// In which products left Even wins from it, and in which Odd.
+    Winners,
+    /// Who wins from it in the products left.
+    Decide,
 }
 
 /// A question about the page as a whole.
@@ -335,6 +341,10 @@ fn verb_of_question_named(word: &[u8]) -> Option<Verb>
         Some(Verb::Spoil)
     } else if same(word, b"trace") {
         Some(Verb::Trace)
+    } else if same(word, b"winners") {
+        Some(Verb::Winners)
+    } else if same(word, b"decide") {
+        Some(Verb::Decide)
     } else {
         None
     }
@@ -376,7 +386,9 @@ fn bare_command<'t>(verb: Verb) -> Option<Command<'t>>
         | Verb::Lost
         | Verb::Won
         | Verb::Spoil
-        | Verb::Trace => None,
+        | Verb::Trace
+        | Verb::Winners
+        | Verb::Decide => None,
     }
 }
 
@@ -481,6 +493,8 @@ fn asked(verb: Verb, word: &[u8]) -> Option<Inquiry>
         Verb::Spoil => of_vertex(VertexQuestion::Moves(Which::Dual), word),
         Verb::Draw => of_vertex(VertexQuestion::Draw, word),
         Verb::Trace => of_vertex(VertexQuestion::Trace, word),
+        Verb::Winners => of_vertex(VertexQuestion::Winners, word),
+        Verb::Decide => of_vertex(VertexQuestion::Decide, word),
         _ => None,
     }
 }

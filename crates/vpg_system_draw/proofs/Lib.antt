@@ -1,5 +1,6 @@
 pub mod AllRows
 pub mod Joins
+pub mod Marked
 pub mod Noting
 pub mod Numbered
 pub mod Rows

@@ -4,3 +4,4 @@ pub mod Laws
 pub mod Reached
 pub mod Searched
 pub mod SystemDrawing
+pub mod Traced

@@ -8,6 +8,7 @@ use Rattle.vpg_system.specs.SystemText.{NamedSystem}
 use Rattle.vpg_draw.specs.Labels.{choices_text}
 use Rattle.vpg_draw.specs.GameDrawing.{style_text}
 use Rattle.vpg_system_draw.specs.Arrows.{Arrow, arrows_below}
+use Rattle.vpg_system_draw.specs.Traced.{Marking, is_in}
 use Rattle.vpg_system_draw.specs.declared.arrows.Look.{Look}
 
 -- ---- states
@@ -17,20 +18,33 @@ abbrev pub border_text : (is_first : Bool) → List ℕ
 border_text true = codes "penwidth=3, "
 border_text false = []
 
--- a state that cannot be reached is grey
-abbrev pub reached_text : (is_reached : Bool) → List ℕ
-reached_text true = codes "fillcolor=white, color=gray40];\n"
-reached_text false = codes "fillcolor=gray92, color=gray70, fontcolor=gray60];\n"
+-- a state that a trace comes back to has two borders
+abbrev pub loop_text : (is_loop : Bool) → List ℕ
+loop_text true = codes "peripheries=2, "
+loop_text false = []
 
-abbrev pub state_text : ℕ → (is_first is_reached : Bool) → List ℕ
-state_text s is_first is_reached =
-    codes "  " ++ decimal s ++ codes " [" ++ border_text is_first ++ reached_text is_reached
+-- a state where it stands is an octagon
+abbrev pub stand_text : (is_stand : Bool) → List ℕ
+stand_text true = codes "shape=octagon, "
+stand_text false = []
+
+-- a state that a trace passes is yellow, and another one that cannot be reached grey
+abbrev pub reached_text : (is_reached is_passed : Bool) → List ℕ
+reached_text true true = codes "fillcolor=khaki, color=gray40];\n"
+reached_text true false = codes "fillcolor=white, color=gray40];\n"
+reached_text false true = codes "fillcolor=khaki, color=gray70, fontcolor=gray60];\n"
+reached_text false false = codes "fillcolor=gray92, color=gray70, fontcolor=gray60];\n"
+
+abbrev pub state_text : ℕ → (is_first is_reached : Bool) → Marking → List ℕ
+state_text s is_first is_reached marking =
+    codes "  " ++ decimal s ++ codes " [" ++ border_text is_first ++ loop_text (is_in marking.loops s)
+    ++ stand_text (is_in marking.stands s) ++ reached_text is_reached (is_in marking.passed s)
 
 -- the lines of the states below n
-abbrev pub states_text : (first : ℕ) → (reached : List Bool) → (n : ℕ) → List ℕ
-states_text first reached zero = []
-states_text first reached (suc n) =
-    states_text first reached n ++ state_text n (n == first) (slice_index_or reached n false)
+abbrev pub states_text : (first : ℕ) → (reached : List Bool) → Marking → (n : ℕ) → List ℕ
+states_text first reached marking zero = []
+states_text first reached marking (suc n) =
+    states_text first reached marking n ++ state_text n (n == first) (slice_index_or reached n false) marking
 
 -- ---- arrows
 
@@ -75,10 +89,10 @@ system_heading names choices = system_opening ++ choices_text names choices ++ s
 -- The decisions, a line for each state, and then one for each arrow. Two states have at most one arrow for transitions
 -- with true guards, one for open and one for false guards; and as many for the marked transitions.
 abbrev pub system_drawing : (names : List (List ℕ)) → (known : List Tri) → List Literal → NamedSystem →
-    (reached marks : List Bool) → List ℕ
-system_drawing names known choices system reached marks =
+    (reached : List Bool) → Marking → List ℕ
+system_drawing names known choices system reached marking =
     system_heading names choices
-    ++ states_text system.first reached system.states
-    ++ all_arrows_text names known system marks false
-    ++ all_arrows_text names known system marks true
+    ++ states_text system.first reached marking system.states
+    ++ all_arrows_text names known system marking.transitions false
+    ++ all_arrows_text names known system marking.transitions true
     ++ codes "}\n"

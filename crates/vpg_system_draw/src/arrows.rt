@@ -133,7 +133,7 @@ fn add(
 }
 
 /// Whether the transition of this number is marked.
-fn is_marked(marks: &[bool], at: usize) -> bool
+pub(crate) fn is_marked(marks: &[bool], at: usize) -> bool
     ensures { result ≡ slice_index_or marks.now at false }
 {
     match marks.get(at) {

@@ -50,8 +50,7 @@ beside_both name other = if is_empty name && is_empty other then [] else quoted 
 abbrev pub is_of_move : List ℕ → Bool
 is_of_move word = bytes_eq word (codes "plan") || bytes_eq word (codes "spoil")
 
--- The lines with a vertex as second word: a lift of `trail`, a verdict with its reason, and a fact about all products
--- left.
+-- The lines with a vertex as second word: a lift of `trail`, a verdict with its reason, and a fact about products left.
 abbrev pub is_of_lift : List ℕ → Bool
 is_of_lift word = bytes_eq word (codes "hopeful") || bytes_eq word (codes "dual")
 
@@ -61,7 +60,9 @@ is_of_verdict word =
     (bytes_eq word (codes "sure") || bytes_eq word (codes "unsure"))
 
 abbrev pub is_of_fact : List ℕ → Bool
-is_of_fact word = bytes_eq word (codes "lost") || bytes_eq word (codes "won")
+is_of_fact word =
+    (bytes_eq word (codes "lost") || bytes_eq word (codes "won")) ||
+    (bytes_eq word (codes "mixed") || bytes_eq word (codes "winners"))
 
 abbrev pub is_of_vertex : List ℕ → Bool
 is_of_vertex word = is_of_lift word || (is_of_verdict word || is_of_fact word)

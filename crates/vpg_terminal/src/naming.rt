@@ -189,7 +189,7 @@ fn is_of_verdict(word: &[u8]) -> bool
 fn is_of_fact(word: &[u8]) -> bool
     ensures { result ≡ is_of_fact word.now }
 {
-    same(word, b"lost") || same(word, b"won")
+    (same(word, b"lost") || same(word, b"won")) || (same(word, b"mixed") || same(word, b"winners"))
 }
 
 fn is_of_vertex(word: &[u8]) -> bool

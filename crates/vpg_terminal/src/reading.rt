@@ -39,7 +39,7 @@ fn arg_of<'a>(alloc: Global, argument: Argument) -> Result<Arg<'a>, AllocError> 
         Kind::Flag => Ok(arg.long(argument.name).action(ArgAction::SetTrue)),
         Kind::Choice { with, without } => choice(arg, argument.name, with, without),
         Kind::Lifters => Ok(lifters(arg)),
-        Kind::File { value, with } => {
+        Kind::Value { value, with } => {
             arg.long(argument.name).value_name(value).requires_arg(with)
         }
         Kind::Lone { value } => Ok(arg.long(argument.name).value_name(value)),
@@ -158,6 +158,23 @@ fn signed(alloc: Global) -> Result<Error, AllocError> {
     )
 }
 
+/// Returns the message about a vertex that would be more than one line.
+fn broken(alloc: Global) -> Result<Error, AllocError> {
+    wrong(
+        alloc,
+        ErrorKind::ValueValidation,
+        "the vertex of a trace is in one line",
+    )
+}
+
+/// Whether the vertex of a trace has a line feed.
+fn has_break(matches: &ArgMatches<'_>) -> bool {
+    match matches.get_str("trace") {
+        Some(word) => word.contains('\n'),
+        None => false,
+    }
+}
+
 /// Whether the number of lifters has a sign before its digits. The parser accepts it.
 fn has_sign(matches: &ArgMatches<'_>) -> bool {
     match matches.get_str("lifters") {
@@ -211,21 +228,27 @@ fn shifted<'a>(
     })
 }
 
-/// Returns the files of a system that is drawn alone. It takes no script, and no picture of features.
-fn system_files<'a>(matches: &ArgMatches<'a>, system: &'a str) -> Option<Files<'a>> {
-    let diagram = matches.get_str("GAME")?;
-    let of_features = if matches.get_flag("features") {
+/// Returns the first option that a system alone does not take: a picture of features, or a trace.
+fn untaken(matches: &ArgMatches<'_>) -> Option<&'static str> {
+    if matches.get_flag("features") {
         Some("--features")
+    } else if matches.get_str("trace").is_some() {
+        Some("--trace")
     } else {
         None
-    };
+    }
+}
+
+/// Returns the files of a system that is drawn alone. It takes no script, no picture of features, and no trace.
+fn system_files<'a>(matches: &ArgMatches<'a>, system: &'a str) -> Option<Files<'a>> {
+    let diagram = matches.get_str("GAME")?;
     Some(Files {
         paths: Paths {
             game: GamePaths::System(system),
             diagram,
         },
         script: None,
-        unexpected: matches.get_str("DIAGRAM").or(of_features),
+        unexpected: matches.get_str("DIAGRAM").or(untaken(matches)),
     })
 }
 
@@ -319,6 +342,7 @@ fn task_of<'a>(
             paths,
             picture: picture_of(paths, matches),
             script,
+            trace: matches.get_str("trace"),
         })),
         _ => Ok(None),
     }
@@ -354,6 +378,9 @@ fn asked_of<'a>(
 fn asked<'a>(alloc: Global, name: &str, matches: &ArgMatches<'a>) -> Result<Invocation<'a>, Error> {
     if has_sign(matches) {
         return refused(signed(alloc));
+    }
+    if has_break(matches) {
+        return refused(broken(alloc));
     }
     match files_of(name, matches) {
         Some(

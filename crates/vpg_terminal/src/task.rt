@@ -65,6 +65,8 @@ pub enum Task<'a> {
         paths: Paths<'a>,
         picture: Picture,
         script: Option<&'a str>,
+        /// The vertex whose trace is marked on the picture of the system, as a line of a script names it.
+        trace: Option<&'a str>,
     },
 }
 
@@ -97,6 +99,7 @@ impl Drop for Task<'_> {
                 paths: _,
                 picture: _,
                 script: _,
+                trace: _,
             } => {}
         }
     }

@@ -62,6 +62,9 @@ number, N a number):
   plan V                 the same of Even
   trace V                where V is hopeless or sure, how the winner wins there,
                          as steps of the system that stands in place of a game
+  winners V              which products that are left Even wins at V, and which
+                         Odd, in parts
+  decide V               who wins at V in the products that are left, exactly
   forced                 what every product has that is left
   empty                  decisions that leave no product; else the first left
   # ..                   a comment
@@ -160,5 +163,7 @@ pub(crate) const FEATURE_HELP: &str =
 pub(crate) const FEATURES_HELP: &str = "Draw the feature diagram in place of the game";
 
 pub(crate) const STATES_HELP: &str = "Draw the system in place of its game";
+
+pub(crate) const TRACE_HELP: &str = "Mark the trace that `trace V` writes on the page";
 
 pub(crate) const EXPLAIN_HELP: &str = "Say where and why an input is refused";

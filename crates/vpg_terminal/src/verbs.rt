@@ -3,7 +3,7 @@ use crate::usage::{
     CHECK_USAGE, DESK_USAGE, DIAGRAM_HELP, DRAW_USAGE, DRAWN_SCRIPT_HELP, DRAWN_SYSTEM_HELP,
     EXPLAIN_HELP, FEATURE_HELP, FEATURES_HELP, GAME_HELP, KEEP_GOING_HELP, LIFTERS_HELP,
     LINT_USAGE, NAMES_HELP, REQUIREMENTS_HELP, RUN_USAGE, SCRIPT_HELP, STATES_HELP, STRICT_HELP,
-    SYSTEM_HELP, TAKEN_REQUIREMENTS_HELP, TAKEN_SYSTEM_HELP,
+    SYSTEM_HELP, TAKEN_REQUIREMENTS_HELP, TAKEN_SYSTEM_HELP, TRACE_HELP,
 };
 
 /// The kind of a command's argument.
@@ -26,8 +26,8 @@ pub(crate) enum Kind {
     },
     /// An option with a number of lifters as its value.
     Lifters,
-    /// An option with a file as its value, which goes with another option.
-    File {
+    /// An option with a value, which goes with another option.
+    Value {
         value: &'static str,
         with: &'static str,
     },
@@ -86,7 +86,7 @@ const REQUIREMENTS: Argument = Argument {
 };
 
 const TAKEN_SYSTEM: Argument = Argument {
-    kind: Kind::File {
+    kind: Kind::Value {
         value: "SYSTEM",
         with: "requirements",
     },
@@ -101,7 +101,7 @@ const DRAWN_SYSTEM: Argument = Argument {
 };
 
 const TAKEN_REQUIREMENTS: Argument = Argument {
-    kind: Kind::File {
+    kind: Kind::Value {
         value: "FILE",
         with: "system",
     },
@@ -170,6 +170,15 @@ const STATES: Argument = Argument {
     },
     name: "states",
     help: STATES_HELP,
+};
+
+const TRACE: Argument = Argument {
+    kind: Kind::Value {
+        value: "V",
+        with: "states",
+    },
+    name: "trace",
+    help: TRACE_HELP,
 };
 
 /// The commands in the order of the help. All are over the files of a family.
@@ -247,6 +256,7 @@ pub(crate) static VERBS: [Verb; 7] = [
             TAKEN_REQUIREMENTS,
             FEATURES,
             STATES,
+            TRACE,
         ],
     },
 ];

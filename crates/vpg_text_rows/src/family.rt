@@ -5,13 +5,14 @@ use crate::decisions::{are_below, close_checked, decisions_of};
 use crate::diagrams::diagram_of;
 use crate::games::game_of;
 use crate::line::Line;
+use std::alloc::{AllocError, Global};
 use vpg_diagram::Diagram;
 use vpg_draw::{draw_features, draw_game};
 use vpg_game::GuardedGame;
 use vpg_names::VertexNames;
 use vpg_partial::{Decision, Partial};
 use vpg_system::System;
-use vpg_system_draw::{draw_system, reachable};
+use vpg_system_draw::{Marks, Path, Step, draw_system, reachable};
 use vpg_verdict::Verdict;
 
 /// A diagram with each form of line, to look for mistakes in games over it.
@@ -26,8 +27,12 @@ const SYSTEM: &[u8] = b"des (1, 7, 4)
 (1, \"send(\"d1\") [g]\", 2)\n(1, \"send(\"d2\") [g]\", 2)\n(2, \"path\\to\", 1)\n(2, \"a&b [strict | h]\", 1)
 (3, tau, 1)\n(1, \"tau [i]\", 3)\n(2, \"tau [!f]\", 2)\n";
 
-/// Two of its transitions are marked, and the last one stands past the end.
-const MARKS: [bool; 6] = [false, true, false, false, false, true];
+/// Steps by the second and the third transition from state 1, and one that no transition makes.
+const STEPS: [Step; 3] = [
+    Step { state: 1, place: 1 },
+    Step { state: 1, place: 2 },
+    Step { state: 0, place: 0 },
+];
 
 /// Returns a verdict for each vertex: hopeless at each second, sure at two of four.
 fn verdicts(vertices: usize, line: &mut Line) -> Vec<Verdict> {
@@ -88,6 +93,16 @@ fn put_diagram(diagram: &Diagram, known: &Partial, decisions: &[Decision], line:
     line.note(done);
 }
 
+/// Returns the marks of a trace with these steps, which comes back to state 1 and stands in state 2.
+fn marks_of(alloc: Global, system: &System) -> Result<Marks, AllocError> {
+    let path = Path {
+        steps: Vec::from_slice(alloc, &STEPS)?,
+        loops: Vec::from_slice(alloc, &[1])?,
+        stands: Vec::from_slice(alloc, &[2])?,
+    };
+    Marks::of(alloc, system, path)
+}
+
 /// Draws a system over the diagram's features.
 fn put_drawn(
     diagram: &Diagram,
@@ -108,6 +123,10 @@ fn put_drawn(
         line.note(false);
         return;
     };
+    let Ok(marks) = marks_of(line.alloc, system) else {
+        line.note(false);
+        return;
+    };
     let done = draw_system(
         line.alloc,
         system,
@@ -115,7 +134,7 @@ fn put_drawn(
         known,
         decisions,
         &reached,
-        &MARKS,
+        &marks,
         &mut line.text,
     );
     line.note(done.is_ok());

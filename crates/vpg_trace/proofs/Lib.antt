@@ -5,5 +5,4 @@ pub mod Showing
 pub mod Whole
 pub mod Fitting
 pub mod There
-pub mod Joined
 pub mod Told

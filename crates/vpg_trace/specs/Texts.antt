@@ -1,5 +1,5 @@
 -- The text of a walk: a line for each step of the system, and one for each end. This project's own.
-use Rattle.std.specs.Prelude.{ℕ, zero, suc, ◌+◌, ◌&&◌, Bool, true, false, if◌then◌else◌, Option, Some, None, List, [], ◌∷◌, ◌++◌, length, codes, decimal, is_some, slice_index_or}
+use Rattle.std.specs.Prelude.{ℕ, zero, suc, ◌+◌, ◌&&◌, ◌||◌, Bool, true, false, if◌then◌else◌, Option, Some, None, List, [], ◌∷◌, ◌++◌, length, codes, decimal, is_some, slice_index_or}
 use Rattle.vpg_guards.specs.declared.tri.Tri.{Tri}
 use Rattle.vpg_guards.specs.Formula.{Formula, always}
 use Rattle.vpg_guards.specs.Writing.{guard_text}
@@ -74,10 +74,21 @@ permitted_text actions sets x zero = []
 permitted_text actions sets x (suc n) =
     permitted_text actions sets x n ++ action_if actions n (is_permitted sets x n)
 
+-- whether the set has some of this many actions
+abbrev pub some_permitted : List (List Bool) → ℕ → ℕ → Bool
+some_permitted sets x zero = false
+some_permitted sets x (suc n) = some_permitted sets x n || is_permitted sets x n
+
+-- the names of the wanted actions, if the system has some of them
+abbrev pub wanted_text : List (List ℕ) → List (List Bool) → ℕ → List ℕ
+wanted_text actions sets x =
+    if some_permitted sets x (length actions) then permitted_text actions sets x (length actions)
+    else codes " such action"
+
 -- the wanted steps: any step, or one of these actions
 abbrev pub asked_text : List (List ℕ) → List (List Bool) → ℕ → List ℕ
 asked_text actions sets x = if all_permitted sets x (length actions) then codes " step"
-    else permitted_text actions sets x (length actions)
+    else wanted_text actions sets x
 
 -- the text that none of the wanted steps is there
 abbrev pub missing_text : List (List ℕ) → List (List Bool) → ℕ → ℕ → List ℕ

@@ -6,7 +6,7 @@ ghost use Rattle.vpg_model.specs.Forms.{HasLabels};
 ghost use Rattle.vpg_model.specs.Pairs.{HaveGuards, departures_at};
 ghost use Rattle.vpg_parts.specs.Sets.{is_permitted};
 ghost use Rattle.vpg_trace.specs.Taking.{departure_at};
-ghost use Rattle.vpg_trace.specs.Texts.{action_if, all_permitted, arrow_text, asked_text, cut_text, end_text, family_of, guard_part, indent, mark_text, missing_text, permitted_text, return_line, standing_line, standing_text, state_of, step_from, step_line, step_text, steps_in, trace_text, unmoved_text, visit_text, visits_text};
+ghost use Rattle.vpg_trace.specs.Texts.{action_if, all_permitted, arrow_text, asked_text, cut_text, end_text, family_of, guard_part, indent, mark_text, missing_text, permitted_text, return_line, some_permitted, standing_line, standing_text, state_of, step_from, step_line, step_text, steps_in, trace_text, unmoved_text, visit_text, visits_text, wanted_text};
 
 use crate::taking::{Taken, pair_of, step_between};
 use crate::walking::{End, Trace, Visit, visit_at};
@@ -185,6 +185,34 @@ fn put_permitted(
     Ok(())
 }
 
+/// Whether a set has some of these actions.
+fn has_some(actions: &[Text], source: &Source, set: u32) -> bool
+    ensures { result ≡ some_permitted source.now.sets.items set (length actions.now) }
+{
+    let mut has = false;
+    for action in 0..actions.len() {
+        has = has || is_in(source, set, action);
+    }
+    has
+}
+
+/// Appends the names of the wanted actions, if the system has some of them.
+fn put_wanted(
+    actions: &[Text],
+    source: &Source,
+    set: u32,
+    out: &mut Vec<u8>,
+) -> Result<(), AllocError>
+    ensures { OnOk result (out.new.items ≡ out.old.items
+        ++ wanted_text actions.now source.now.sets.items set) }
+{
+    if has_some(actions, source, set) {
+        put_permitted(actions, source, set, out)
+    } else {
+        out.extend_from_slice(b" such action")
+    }
+}
+
 /// Appends the wanted steps: any step, or one of a set's actions.
 fn put_asked(
     actions: &[Text],
@@ -198,7 +226,7 @@ fn put_asked(
     if has_all(actions, source, set) {
         out.extend_from_slice(b" step")
     } else {
-        put_permitted(actions, source, set, out)
+        put_wanted(actions, source, set, out)
     }
 }
 

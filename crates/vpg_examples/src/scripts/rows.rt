@@ -535,11 +535,12 @@ static PRODUCTS_LEFT: [Row; 2] = [
             requires d q\n",
         game: "parity 1; 0 1 0 1[b],0; 1 2 1 0[p],1;",
         script: "\
-            forced / empty / select b / forced / empty / example 0 / select p / empty / retract b / empty / \
-            forced",
+            forced / empty / winners 0 / select b / forced / empty / example 0 / winners 0 / decide 0 / select p / \
+            empty / retract b / empty / forced",
         answers: "\
-            forced -b / forced -c / forced -d / forced 3 / product r p / done 1 / none / empty +b / none / \
-            refused Conflict p / empty +b / done 2 / product r p / forced -b / forced -c / forced -d / forced 3",
+            forced -b / forced -c / forced -d / forced 3 / product r p / lost 0 / winners 0 0 1 / done 1 / none / \
+            empty +b / none / winners 0 0 0 / empty / refused Conflict p / empty +b / done 2 / product r p / \
+            forced -b / forced -c / forced -d / forced 3",
     },
 ];
 
@@ -641,7 +642,7 @@ static WHYS: [Row; 3] = [
     },
 ];
 
-static EXAMPLES: [Row; 2] = [
+static EXAMPLES: [Row; 4] = [
     Row {
         diagram: DIAGRAM,
         game: GAME,
@@ -661,6 +662,25 @@ static EXAMPLES: [Row; 2] = [
         answers: "\
             settled 2 / product r b / product r a / product r a / none / done 1 / settled 2 / hopeless 0 +a / unsure 0 \
             / none / possible 2 / sure 2 +a / none",
+    },
+    Row {
+        diagram: DIAGRAM,
+        game: GAME,
+        script: "\
+            winners 0 / decide 0 / winners 1 / decide 1 / exclude f / winners 0 / decide 0 / winners 1 / 2: select g / \
+            winners 1 / winners 7 / decide 7",
+        answers: "\
+            won 0 +f / lost 0 -f / winners 0 1 1 / mixed 0 / product r f g / product r g / won 1 +f / lost 1 -f +g / \
+            won 1 -f -g / winners 1 2 1 / mixed 1 / product r f g / product r g / done 1 / lost 0 / winners 0 0 1 / \
+            lost 0 / lost 1 +g / won 1 -g / winners 1 1 1 / done 2 / lost 1 / winners 1 0 1 / refused NoVertex / \
+            refused NoVertex",
+    },
+    // Parts with a and without it are joined.
+    Row {
+        diagram: "root r\noptional r a\noptional r b\n",
+        game: "0 0 0 0[b];",
+        script: "winners 0 / decide 0",
+        answers: "won 0 +b / lost 0 -b / winners 0 1 1 / mixed 0 / product r a b / product r a",
     },
 ];
 

@@ -85,7 +85,7 @@ pub(super) fn answers_lines<T: Threads + Wait + Sync>(rt: &T, alloc: Global) -> 
 }
 
 /// Lines with words that their command doesn't take.
-static ARGS: [&str; 37] = [
+static ARGS: [&str; 39] = [
     "settle 1000000001",
     "lift hopeful 4294967296",
     "keep 18446744073709551616",
@@ -119,6 +119,8 @@ static ARGS: [&str; 37] = [
     "repair true",
     "spoil",
     "spoil f g",
+    "winners",
+    "decide 0 1",
     "plan f.",
     "plan 0 1",
     "select",

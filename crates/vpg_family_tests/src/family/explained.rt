@@ -4,7 +4,7 @@ use crate::said::Said;
 use std::alloc::Global;
 use std::fs;
 use std::test::*;
-use vpg_family::{Fault, explained, read_family};
+use vpg_family::{Fault, Texts, Unread, explained, read_family};
 use vpg_script::LineFault;
 
 const GAME_FILE: &str = "explained_game";
@@ -64,21 +64,24 @@ explained_script:2:8: found `-1`; expected the number of a change
     },
 ];
 
-/// Writes the message about a fault.
-fn put_explained(rt: &HostRuntime, fault: &Fault, said: &mut Said) {
-    said.put_made(explained(rt, said.alloc, PATHS, Some(SCRIPT), fault));
+/// Writes the message about a fault of these texts, or of a file.
+fn put_explained(rt: &HostRuntime, texts: &Texts, fault: &Fault, said: &mut Said) {
+    said.put_made(explained(rt, said.alloc, PATHS, texts, Some(SCRIPT), fault));
 }
 
 /// Writes the message about the fault of a family's files, and else about the second line of a script.
 fn put_files(rt: &HostRuntime, said: &mut Said) {
-    let fault = match read_family(rt, said.alloc, PATHS) {
-        Ok(_) => Fault::Line {
-            line: 2,
-            fault: LineFault::Word,
+    let unread = match read_family(rt, said.alloc, PATHS) {
+        Ok(_) => Unread {
+            fault: Fault::Line {
+                line: 2,
+                fault: LineFault::Word,
+            },
+            texts: Texts::none(said.alloc),
         },
-        Err(fault) => fault,
+        Err(unread) => unread,
     };
-    put_explained(rt, &fault, said);
+    put_explained(rt, &unread.texts, &unread.fault, said);
 }
 
 fn are_written(rt: &HostRuntime, row: &Row) -> bool {
@@ -120,7 +123,7 @@ fn put_named(rt: &HostRuntime, name: &str, is_conflict: bool, said: &mut Said) {
             } else {
                 Fault::UnknownFeature { name }
             };
-            put_explained(rt, &fault, said);
+            put_explained(rt, &Texts::none(said.alloc), &fault, said);
         }
         Err(_) => said.note(false),
     }
@@ -143,9 +146,10 @@ fn put_beside(rt: &HostRuntime, said: &mut Said) {
     said.put("\n");
     put_named(rt, "r", true, said);
     said.put("\n");
-    put_explained(rt, &Fault::GameUnreadable, said);
+    let none = Texts::none(said.alloc);
+    put_explained(rt, &none, &Fault::GameUnreadable, said);
     said.put("\n");
-    put_explained(rt, &Fault::NotAProduct, said);
+    put_explained(rt, &none, &Fault::NotAProduct, said);
 }
 
 #[test]

@@ -1,5 +1,6 @@
 //! Messages about faults that no family in texts meets.
 use crate::said::Said;
+use std::alloc::Global;
 use std::test::*;
 use vpg_family::Fault;
 use vpg_script::LineFault;
@@ -28,6 +29,14 @@ fn fault_at(place: u32) -> Fault {
     }
 }
 
+/// Returns the fault of a trace that is none.
+fn untraced(alloc: Global) -> Fault {
+    match Vec::from_slice(alloc, b"possible 0 unsure") {
+        Ok(answer) => Fault::NoTrace { answer },
+        Err(_) => Fault::Memory,
+    }
+}
+
 const LINES: &str = "\
 vpgdesk: diagram unreadable
 vpgdesk: game unreadable
@@ -41,6 +50,7 @@ vpgdesk: script Stray
 vpgdesk: system unreadable
 vpgdesk: requirements unreadable
 vpgdesk: Memory
+vpgdesk: NoTrace possible 0 unsure
 ";
 
 #[test]
@@ -49,6 +59,7 @@ fn other_faults_are_told(rt: HostRuntime) -> Result<(), Fail> {
     for place in 0..FAULTS {
         said.put_answer(Err(fault_at(place)));
     }
+    said.put_answer(Err(untraced(rt.alloc())));
     assert_eq!(rt; said.text(), LINES);
     Ok(())
 }

@@ -4,7 +4,7 @@ use crate::said::Said;
 use std::alloc::Global;
 use std::fs;
 use std::test::*;
-use vpg_family::{Family, Fault, GamePaths, Paths, open_script, read_family};
+use vpg_family::{Family, Fault, GamePaths, Paths, Unread, open_script, read_family};
 
 /// The files of a game and a diagram, and the message about them. `none` is missing, `.` is a folder, and `empty` has
 /// no bytes.
@@ -20,10 +20,13 @@ const ROWS: [[&str; 3]; 8] = [
 ];
 
 /// Writes the counts of a family, or the line that reports its fault.
-fn put_counts(family: Result<Family, Fault>, said: &mut Said) {
+fn put_counts(family: Result<Family, Unread>, said: &mut Said) {
     match family {
         Ok(family) => said.put_made(family.counted(said.alloc)),
-        Err(fault) => said.put_answer(Err(fault)),
+        Err(unread) => {
+            let Unread { fault, texts: _ } = unread;
+            said.put_answer(Err(fault));
+        }
     }
 }
 

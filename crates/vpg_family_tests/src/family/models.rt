@@ -5,7 +5,7 @@ use std::alloc::Global;
 use std::fs;
 use std::test::*;
 use vpg_family::{
-    Fault, GamePaths, ModelPaths, Paths, checked, explained, line_of, linted, read_texts,
+    GamePaths, ModelPaths, Paths, Unread, checked, explained, line_of, linted, read_texts,
 };
 
 /// The files of a system, requirements and a diagram.
@@ -387,16 +387,17 @@ warnings 3
 ];
 
 /// Writes the line that reports a fault, and the message about it.
-fn put_fault(rt: &HostRuntime, fault: &Fault, said: &mut Said) {
+fn put_fault(rt: &HostRuntime, unread: &Unread, said: &mut Said) {
+    let Unread { fault, texts } = unread;
     said.put_made(line_of(said.alloc, fault));
-    said.put_made(explained(rt, said.alloc, PATHS, None, fault));
+    said.put_made(explained(rt, said.alloc, PATHS, texts, None, fault));
 }
 
 /// Writes the counts of the family, or the message about its files.
 fn put_files(rt: &HostRuntime, said: &mut Said) {
     match read_texts(rt, said.alloc, PATHS) {
         Ok(texts) => said.put_answer(checked(said.alloc, &texts)),
-        Err(fault) => put_fault(rt, &fault, said),
+        Err(unread) => put_fault(rt, &unread, said),
     }
 }
 
@@ -404,7 +405,7 @@ fn put_files(rt: &HostRuntime, said: &mut Said) {
 fn put_warned(rt: &HostRuntime, said: &mut Said) {
     match read_texts(rt, said.alloc, PATHS) {
         Ok(texts) => said.put_answer(linted(said.alloc, PATHS, &texts)),
-        Err(fault) => put_fault(rt, &fault, said),
+        Err(unread) => put_fault(rt, &unread, said),
     }
 }
 

@@ -27,5 +27,11 @@ returns-in-Why c = rw c.in-Why.is c.vertex.ensures
 pub returns-in-Trace : goal.returns-in-Trace
 returns-in-Trace c = rw c.in-Trace.is c.trace.ensures
 
+pub returns-in-Winners : goal.returns-in-Winners
+returns-in-Winners c = rw c.in-Winners.is c.partition.ensures
+
+pub returns-in-Decide : goal.returns-in-Decide
+returns-in-Decide c = rw c.in-Decide.is c.decided.ensures
+
 pub trace-requires-clause-system : goal.trace-requires-clause-system
 trace-requires-clause-system c = rw c.in-Trace.is at c.requires.system

@@ -1,11 +1,17 @@
+use Rattle.std.proofs.Common.{ℕ, List, subst}
 use Rattle.std.specs.Arc.{arc_value}
 use Rattle.vpg_formula.specs.EntryCode.{earlier_of}
+use Rattle.vpg_family.specs.Families.{IsFamilyFault}
 use Rattle.vpg_family.proofs.Told.{unread_family}
 use Rattle.vpg_family.proofs.Models.{family_of_paths}
 use Rattle.vpg_family.proofs.files.read_family.Goals as goal
 
-pub returns-clause-refused : goal.returns-clause-refused
-returns-clause-refused g c = unread_family c.deref.result.now c.deref-2.result.now c.in-Err-read.fault c.in-Err-read.ensures.refused
+pub returns-in-Err-read-clause-refused : goal.returns-in-Err-read-clause-refused
+returns-in-Err-read-clause-refused g c =
+    let texts = c.in-Ok.texts in
+    unread_family texts.diagram.items texts.game.items texts.system.items texts.requirements.items c.in-Err-read.fault
+    (subst (λ (t : List ℕ). IsFamilyFault t texts.game.items c.in-Err-read.fault) c.deref.ensures.value
+    (subst (λ (t : List ℕ). IsFamilyFault c.deref.result.now t c.in-Err-read.fault) c.deref-2.ensures.value c.in-Err-read.ensures.refused))
 
 pub returns-in-Ok-read-clause-model : goal.returns-in-Ok-read-clause-model
 returns-in-Ok-read-clause-model g c =

@@ -1,9 +1,9 @@
-use Rattle.std.proofs.Common.{◌+◌, ◌∙◌, ◌≡◌, Some, length, sym}
-use Rattle.std.specs.Prelude.{true}
+use Rattle.std.proofs.Common.{◌+◌, ◌≡◌, Some, length, sym}
+use Rattle.std.specs.Prelude.{true, slice_set}
 use Rattle.vpg_desk.specs.Book as book
 use Rattle.vpg_desk.specs.Commit.{IsOrderOf, commit_refusal, handed_in}
 use Rattle.vpg_office.specs.Fronts.{family_between}
-use Rattle.vpg_report.proofs.Logged.{number_is, step_made, all_commit_told, all_own_told, comes_back, absent_tells, given_back, grew}
+use Rattle.vpg_report.proofs.Logged.{step_made, all_commit_told, all_own_told, comes_back, absent_tells, given_back, grew}
 use Rattle.vpg_report.specs.Client.{client_after}
 use Rattle.vpg_report.specs.Faults.{Sorts}
 use Rattle.vpg_report.proofs.client.Client.commit_own.Goals as goal
@@ -14,9 +14,7 @@ returns-clause-accepted g c =
     let diagram = g.L.Terms.diagram in
     let front = c.self.inside.front in
     let new = c.commit_own-answer.new.front in
-    let by = number_is c.seat.new.sessions.items c.in-Ok.place c.index_mut.result.now c.args.label c.in-Ok.ensures.within c.index_mut.ensures.value c.in-Ok.ensures.number in
-    let view = (λ k. client_after game diagram (c.in-Ok.ensures.seated k) front) ∙ c.self.view_is in
-    step_made game diagram g.L.Terms.limit c.seat.new.unseated front new c.args.label c.index_mut.result.now.number by c.args.self.now view c.len-calls.result c.len-calls.ensures.length c.commit_own-answer.result (λ b. b.fault) c.follow_returned.new.front c.follow_returned.ensures c.handed_in.result (book.Commit (handed_in true c.args.harvest)) (λ added. book.Added added) c.handed_in.ensures.made c.handed_in.ensures.more c.handed_in.ensures.fits c.commit_own-answer.ensures.done
+    step_made game diagram g.L.Terms.limit c.self.inside.sessions.items c.seat.new.sessions.items c.in-Ok.place c.index_mut.result.now c.commit_own-answer.new.self front new c.args.label c.in-Ok.ensures.within c.index_mut.ensures.value c.in-Ok.ensures.number c.seat.ensures.own c.in-Ok.ensures.seated c.commit_own-answer.ensures.same c.args.self.now c.self.view_is c.len-calls.result c.len-calls.ensures.length c.commit_own-answer.result (λ b. b.fault) c.follow_returned.new.front c.follow_returned.ensures c.handed_in.result (book.Commit (handed_in true c.args.harvest)) (λ added. book.Added added) c.commit_own-answer.ensures.counted c.handed_in.ensures.made c.handed_in.ensures.more c.handed_in.ensures.fits c.commit_own-answer.ensures.done
 
 pub returns-clause-fault : goal.returns-clause-fault
 returns-clause-fault g c =
@@ -24,9 +22,7 @@ returns-clause-fault g c =
     let diagram = g.L.Terms.diagram in
     let front = c.self.inside.front in
     let new = c.commit_own-answer.new.front in
-    let by = number_is c.seat.new.sessions.items c.in-Ok.place c.index_mut.result.now c.args.label c.in-Ok.ensures.within c.index_mut.ensures.value c.in-Ok.ensures.number in
-    let view = (λ k. client_after game diagram (c.in-Ok.ensures.seated k) front) ∙ c.self.view_is in
-    all_own_told c.handed_in.result g.L.Terms.limit c.args.self.now (client_after game diagram c.seat.new.unseated c.follow_returned.new.front) c.args.label c.args.harvest (λ r. r.fault) c.requires.ours (all_commit_told game diagram g.L.Terms.limit c.seat.new.unseated front new c.args.label c.index_mut.result.now.number by c.args.self.now view c.len-calls.result c.len-calls.ensures.length c.commit_own-answer.result (λ b. b.fault) c.follow_returned.new.front c.follow_returned.ensures c.handed_in.result (λ r. r.fault) (λ r b. r.value ≡ Some b.value) c.args.harvest c.handed_in.ensures.fits (grew (family_between game diagram) front c.index_mut.result.now.number (book.Commit (handed_in true c.args.harvest)) (λ added. book.Added added) new c.commit_own-answer.result c.commit_own-answer.ensures.done) c.handed_in.ensures.fault c.commit_own-answer.ensures.fault)
+    all_own_told c.handed_in.result g.L.Terms.limit c.args.self.now (client_after game diagram (slice_set c.seat.new.sessions.items c.in-Ok.place c.commit_own-answer.new.self) c.follow_returned.new.front) c.args.label c.args.harvest (λ r. r.fault) c.requires.ours (all_commit_told game diagram g.L.Terms.limit c.self.inside.sessions.items c.seat.new.sessions.items c.in-Ok.place c.index_mut.result.now c.commit_own-answer.new.self front new c.args.label c.in-Ok.ensures.within c.index_mut.ensures.value c.in-Ok.ensures.number c.seat.ensures.own c.in-Ok.ensures.seated c.commit_own-answer.ensures.same c.args.self.now c.self.view_is c.len-calls.result c.len-calls.ensures.length c.commit_own-answer.result (λ b. b.fault) c.commit_own-answer.ensures.counted c.commit_own-answer.ensures.fault_counted c.follow_returned.new.front c.follow_returned.ensures c.handed_in.result (λ r. r.fault) (λ r b. r.value ≡ Some b.value) c.args.harvest c.handed_in.ensures.fits (grew (family_between game diagram) front c.index_mut.result.now.number (book.Commit (handed_in true c.args.harvest)) (λ added. book.Added added) new c.commit_own-answer.result c.commit_own-answer.ensures.done) c.handed_in.ensures.fault c.commit_own-answer.ensures.fault)
 
 pub returns-clause-back : goal.returns-clause-back
 returns-clause-back g c =
@@ -34,7 +30,7 @@ returns-clause-back g c =
 
 pub returns-in-Err-clause-fault : goal.returns-in-Err-clause-fault
 returns-in-Err-clause-fault g c =
-    absent_tells g.L.Terms.game g.L.Terms.diagram c.self.inside.front c.self.inside.unseated c.seat.new.unseated c.args.self.now c.self.view_is g.L.Terms.limit commit_refusal c.args.label (book.Commit (handed_in true c.args.harvest)) c.in-Err.fault c.in-Err.ensures.absent
+    absent_tells g.L.Terms.game g.L.Terms.diagram c.self.inside.front c.self.inside.sessions.items c.seat.new.sessions.items c.seat.ensures.own c.args.label c.args.self.now c.self.view_is g.L.Terms.limit commit_refusal (book.Commit (handed_in true c.args.harvest)) c.in-Err.fault c.in-Err.ensures.absent
 
 pub returns-in-Err-clause-back : goal.returns-in-Err-clause-back
 returns-in-Err-clause-back g c = given_back c.in-Err.fault (Some c.args.harvest)

@@ -1,11 +1,10 @@
-use Rattle.std.proofs.Common.{◌+◌, ◌∙◌, ◌≡◌, None, Option, length}
+use Rattle.std.proofs.Common.{◌+◌, ◌≡◌, None, Option, length}
 use Rattle.vpg_office.specs.Token.{TokenView}
 use Rattle.vpg_desk.specs.Book as book
 use Rattle.vpg_desk.specs.Faults.{decide_refusal}
 use Rattle.vpg_office.specs.Fronts.{family_between}
-use Rattle.vpg_report.proofs.Logged.{number_is, token_made, token_stands, all_told, same_back, absent_tells, given_back, token_grew}
+use Rattle.vpg_report.proofs.Logged.{token_made, token_stands, all_told, same_back, absent_tells, given_back, token_grew}
 use Rattle.vpg_report.specs.Faults.{Sorts}
-use Rattle.vpg_report.specs.Client.{client_after}
 use Rattle.vpg_report.proofs.client.Client.decide.Goals as goal
 
 pub returns-clause-accepted : goal.returns-clause-accepted
@@ -14,9 +13,7 @@ returns-clause-accepted g c =
     let diagram = g.L.Terms.diagram in
     let front = c.self.inside.front in
     let new = c.decide-answer.new.front in
-    let by = number_is c.seat.new.sessions.items c.in-Ok.place c.index_mut.result.now c.args.label c.in-Ok.ensures.within c.index_mut.ensures.value c.in-Ok.ensures.number in
-    let view = (λ k. client_after game diagram (c.in-Ok.ensures.seated k) front) ∙ c.self.view_is in
-    token_made game diagram g.L.Terms.limit c.seat.new.unseated front new c.args.label c.index_mut.result.now.number by c.args.self.now view c.len-calls.result c.len-calls.ensures.length c.decide-answer.result (λ e. e) c.follow_answer.new.front c.follow_answer.ensures (book.Decide c.args.feature c.args.value) (λ t. book.Changed t.serial) c.answered.result c.answered.ensures.made c.answered.ensures.more c.answered.ensures.fits c.decide-answer.ensures.done
+    token_made game diagram g.L.Terms.limit c.self.inside.sessions.items c.seat.new.sessions.items c.in-Ok.place c.index_mut.result.now c.decide-answer.new.self front new c.args.label c.in-Ok.ensures.within c.index_mut.ensures.value c.in-Ok.ensures.number c.seat.ensures.own c.in-Ok.ensures.seated c.decide-answer.ensures.same c.args.self.now c.self.view_is c.len-calls.result c.len-calls.ensures.length c.decide-answer.result (λ e. e) c.follow_answer.new.front c.follow_answer.ensures (book.Decide c.args.feature c.args.value) (λ t. book.Changed t.serial) c.answered.result c.decide-answer.ensures.counted c.answered.ensures.made c.answered.ensures.more c.answered.ensures.fits c.decide-answer.ensures.done
 
 pub returns-clause-token : goal.returns-clause-token
 returns-clause-token g c =
@@ -24,9 +21,7 @@ returns-clause-token g c =
     let diagram = g.L.Terms.diagram in
     let front = c.self.inside.front in
     let new = c.decide-answer.new.front in
-    let by = number_is c.seat.new.sessions.items c.in-Ok.place c.index_mut.result.now c.args.label c.in-Ok.ensures.within c.index_mut.ensures.value c.in-Ok.ensures.number in
-    let view = (λ k. client_after game diagram (c.in-Ok.ensures.seated k) front) ∙ c.self.view_is in
-    token_stands game diagram g.L.Terms.limit c.seat.new.unseated front new c.args.label c.index_mut.result.now.number by c.args.self.now view c.len-calls.result c.len-calls.ensures.length c.decide-answer.result (λ e. e) c.follow_answer.new.front c.follow_answer.ensures (book.Decide c.args.feature c.args.value) (λ t. book.Changed t.serial) c.answered.result c.answered.ensures.made c.answered.ensures.more c.decide-answer.ensures.done
+    token_stands game diagram g.L.Terms.limit c.self.inside.sessions.items c.seat.new.sessions.items c.in-Ok.place c.index_mut.result.now c.decide-answer.new.self front new c.args.label c.in-Ok.ensures.within c.index_mut.ensures.value c.in-Ok.ensures.number c.seat.ensures.own c.in-Ok.ensures.seated c.decide-answer.ensures.same c.args.self.now c.self.view_is c.len-calls.result c.len-calls.ensures.length c.decide-answer.result (λ e. e) c.follow_answer.new.front c.follow_answer.ensures (book.Decide c.args.feature c.args.value) (λ t. book.Changed t.serial) c.answered.result c.answered.ensures.made c.answered.ensures.more c.decide-answer.ensures.done
 
 pub returns-clause-fault : goal.returns-clause-fault
 returns-clause-fault g c =
@@ -34,9 +29,7 @@ returns-clause-fault g c =
     let diagram = g.L.Terms.diagram in
     let front = c.self.inside.front in
     let new = c.decide-answer.new.front in
-    let by = number_is c.seat.new.sessions.items c.in-Ok.place c.index_mut.result.now c.args.label c.in-Ok.ensures.within c.index_mut.ensures.value c.in-Ok.ensures.number in
-    let view = (λ k. client_after game diagram (c.in-Ok.ensures.seated k) front) ∙ c.self.view_is in
-    all_told game diagram g.L.Terms.limit c.seat.new.unseated front new c.args.label c.index_mut.result.now.number by c.args.self.now view c.len-calls.result c.len-calls.ensures.length c.decide-answer.result (λ e. e) c.follow_answer.new.front c.follow_answer.ensures c.answered.result (λ r. r.fault) (λ r e. r.value ≡ None) decide_refusal (book.Decide c.args.feature c.args.value) c.answered.ensures.fits (token_grew (family_between game diagram) front c.index_mut.result.now.number (book.Decide c.args.feature c.args.value) (λ t. book.Changed t.serial) new c.decide-answer.result c.decide-answer.ensures.done) c.answered.ensures.fault c.decide-answer.ensures.fault
+    all_told game diagram g.L.Terms.limit c.self.inside.sessions.items c.seat.new.sessions.items c.in-Ok.place c.index_mut.result.now c.decide-answer.new.self front new c.args.label c.in-Ok.ensures.within c.index_mut.ensures.value c.in-Ok.ensures.number c.seat.ensures.own c.in-Ok.ensures.seated c.decide-answer.ensures.same c.args.self.now c.self.view_is c.len-calls.result c.len-calls.ensures.length c.decide-answer.result (λ e. e) c.decide-answer.ensures.counted c.decide-answer.ensures.fault_counted c.follow_answer.new.front c.follow_answer.ensures c.answered.result (λ r. r.fault) (λ r e. r.value ≡ None) decide_refusal (book.Decide c.args.feature c.args.value) c.answered.ensures.fits (token_grew (family_between game diagram) front c.index_mut.result.now.number (book.Decide c.args.feature c.args.value) (λ t. book.Changed t.serial) new c.decide-answer.result c.decide-answer.ensures.done) c.answered.ensures.fault c.decide-answer.ensures.fault
 
 pub returns-clause-back : goal.returns-clause-back
 returns-clause-back g c =
@@ -44,7 +37,7 @@ returns-clause-back g c =
 
 pub returns-in-Err-clause-fault : goal.returns-in-Err-clause-fault
 returns-in-Err-clause-fault g c =
-    absent_tells g.L.Terms.game g.L.Terms.diagram c.self.inside.front c.self.inside.unseated c.seat.new.unseated c.args.self.now c.self.view_is g.L.Terms.limit decide_refusal c.args.label (book.Decide c.args.feature c.args.value) c.in-Err.fault c.in-Err.ensures.absent
+    absent_tells g.L.Terms.game g.L.Terms.diagram c.self.inside.front c.self.inside.sessions.items c.seat.new.sessions.items c.seat.ensures.own c.args.label c.args.self.now c.self.view_is g.L.Terms.limit decide_refusal (book.Decide c.args.feature c.args.value) c.in-Err.fault c.in-Err.ensures.absent
 
 pub returns-in-Err-clause-back : goal.returns-in-Err-clause-back
 returns-in-Err-clause-back g c = given_back {X = Option TokenView} c.in-Err.fault None

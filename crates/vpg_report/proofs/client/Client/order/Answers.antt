@@ -1,4 +1,4 @@
-use Rattle.std.proofs.Common.{ℕ, ◌∙◌}
+use Rattle.std.proofs.Common.{ℕ}
 use Rattle.std.specs.Prelude.{Result, Ok, Err}
 use Rattle.std.proofs.lemmas.Result.{IfOk-at_ok}
 use Rattle.vpg_desk.specs.Book as book
@@ -6,8 +6,7 @@ use Rattle.vpg_desk.specs.Commit.{IsOrderOf}
 use Rattle.vpg_office.specs.Faults.{never_refused}
 use Rattle.vpg_office.specs.Fronts.{family_between}
 use Rattle.vpg_office.specs.Story.{IsOf}
-use Rattle.vpg_report.proofs.Logged.{number_is, step_made, look_told, absent_tells, grew}
-use Rattle.vpg_report.specs.Client.{client_after}
+use Rattle.vpg_report.proofs.Logged.{step_made, look_told, absent_tells, grew}
 use Rattle.vpg_report.proofs.client.Client.order.Goals as goal
 
 -- a look that failed, whatever it was to see
@@ -24,9 +23,7 @@ returns-clause-accepted g c =
     let diagram = g.L.Terms.diagram in
     let front = c.self.inside.front in
     let new = c.order-answer.new.front in
-    let by = number_is c.seat.new.sessions.items c.in-Ok.place c.index_mut.result.now c.args.label c.in-Ok.ensures.within c.index_mut.ensures.value c.in-Ok.ensures.number in
-    let view = (λ k. client_after game diagram (c.in-Ok.ensures.seated k) front) ∙ c.self.view_is in
-    step_made game diagram g.L.Terms.limit c.seat.new.unseated front new c.args.label c.index_mut.result.now.number by c.args.self.now view c.len-calls.result c.len-calls.ensures.length c.order-answer.result (λ e. e) c.follow_answer.new.front c.follow_answer.ensures (seen c.in-Ok-looked.order) book.Order (λ r. book.Ordered r.decisions r.hopeful r.dual) c.in-Ok-looked.ensures.made c.in-Ok-looked.ensures.more c.looked.ensures.fits c.order-answer.ensures.done
+    step_made game diagram g.L.Terms.limit c.self.inside.sessions.items c.seat.new.sessions.items c.in-Ok.place c.index_mut.result.now c.order-answer.new.self front new c.args.label c.in-Ok.ensures.within c.index_mut.ensures.value c.in-Ok.ensures.number c.seat.ensures.own c.in-Ok.ensures.seated c.order-answer.ensures.same c.args.self.now c.self.view_is c.len-calls.result c.len-calls.ensures.length c.order-answer.result (λ e. e) c.follow_answer.new.front c.follow_answer.ensures (seen c.in-Ok-looked.order) book.Order (λ r. book.Ordered r.decisions r.hopeful r.dual) c.order-answer.ensures.counted c.in-Ok-looked.ensures.made c.in-Ok-looked.ensures.more c.looked.ensures.fits c.order-answer.ensures.done
 
 pub returns-clause-ours : goal.returns-clause-ours
 returns-clause-ours g c =
@@ -38,10 +35,8 @@ returns-in-Err-looked-clause-fault g c =
     let diagram = g.L.Terms.diagram in
     let front = c.self.inside.front in
     let new = c.order-answer.new.front in
-    let by = number_is c.seat.new.sessions.items c.in-Ok.place c.index_mut.result.now c.args.label c.in-Ok.ensures.within c.index_mut.ensures.value c.in-Ok.ensures.number in
-    let view = (λ k. client_after game diagram (c.in-Ok.ensures.seated k) front) ∙ c.self.view_is in
-    look_told game diagram g.L.Terms.limit c.seat.new.unseated front new c.args.label c.index_mut.result.now.number by c.args.self.now view c.len-calls.result c.len-calls.ensures.length c.order-answer.result c.follow_answer.new.front c.follow_answer.ensures (failed c.in-Err-looked.fault) never_refused book.Order c.looked.ensures.fits (grew (family_between game diagram) front c.index_mut.result.now.number book.Order (λ r. book.Ordered r.decisions r.hopeful r.dual) new c.order-answer.result c.order-answer.ensures.done) c.in-Err-looked.ensures.fault c.order-answer.ensures.fault
+    look_told game diagram g.L.Terms.limit c.self.inside.sessions.items c.seat.new.sessions.items c.in-Ok.place c.index_mut.result.now c.order-answer.new.self front new c.args.label c.in-Ok.ensures.within c.index_mut.ensures.value c.in-Ok.ensures.number c.seat.ensures.own c.in-Ok.ensures.seated c.order-answer.ensures.same c.args.self.now c.self.view_is c.len-calls.result c.len-calls.ensures.length c.order-answer.result c.order-answer.ensures.counted c.order-answer.ensures.fault_counted c.follow_answer.new.front c.follow_answer.ensures (failed c.in-Err-looked.fault) never_refused book.Order c.looked.ensures.fits (grew (family_between game diagram) front c.index_mut.result.now.number book.Order (λ r. book.Ordered r.decisions r.hopeful r.dual) new c.order-answer.result c.order-answer.ensures.done) c.in-Err-looked.ensures.fault c.order-answer.ensures.fault
 
 pub returns-in-Err-clause-fault : goal.returns-in-Err-clause-fault
 returns-in-Err-clause-fault g c =
-    absent_tells g.L.Terms.game g.L.Terms.diagram c.self.inside.front c.self.inside.unseated c.seat.new.unseated c.args.self.now c.self.view_is g.L.Terms.limit never_refused c.args.label book.Order c.in-Err.fault c.in-Err.ensures.absent
+    absent_tells g.L.Terms.game g.L.Terms.diagram c.self.inside.front c.self.inside.sessions.items c.seat.new.sessions.items c.seat.ensures.own c.args.label c.args.self.now c.self.view_is g.L.Terms.limit never_refused book.Order c.in-Err.fault c.in-Err.ensures.absent

@@ -1,0 +1,79 @@
+//! Who wins at a vertex in the products left.
+ghost use Rattle.std.specs.Prelude.{◌≡◌, ◌<◌, ◌++◌, OnOk, length};
+ghost use Rattle.vpg_answers.specs.Answers.{Appends, TellsDecided};
+ghost use Rattle.vpg_answers.specs.Texts.{empty_line, fact_line, mixed_head, mixed_text};
+ghost use Rattle.vpg_texts.specs.Scene.{scene_of};
+
+use crate::lines;
+use crate::reasons::{identifier, names};
+use std::alloc::{AllocError, Global};
+use vpg_guards::Names;
+use vpg_measure::Order;
+use vpg_texts::blank_number;
+use vpg_verdict::Which;
+use vpg_why::{Example, Limits};
+use vpg_winners::{Decided, decide};
+
+/// Appends that the vertex is lost in each product left, or won.
+fn fact(which: Which, identifier: u32, out: &mut Vec<u8>) -> Result<(), AllocError>
+    ensures { OnOk result (out.new.items ≡ out.old.items ++ fact_line which identifier) }
+{
+    lines::lost_head(which, identifier, out)?;
+    out.extend_from_slice(b"\n")
+}
+
+/// Appends that no product is left.
+fn empty(out: &mut Vec<u8>) -> Result<(), AllocError>
+    ensures { OnOk result (out.new.items ≡ out.old.items ++ empty_line) }
+{
+    out.extend_from_slice(b"empty\n")
+}
+
+fn mixed_head(identifier: u32, out: &mut Vec<u8>) -> Result<(), AllocError>
+    ensures { OnOk result (out.new.items ≡ out.old.items ++ mixed_head identifier) }
+{
+    out.extend_from_slice(b"mixed")?;
+    blank_number(identifier as u64, out)?;
+    out.extend_from_slice(b"\n")
+}
+
+/// Appends a product that is won, and one that is lost.
+fn mixed(
+    names: &Names,
+    identifier: u32,
+    won: &Example,
+    lost: &Example,
+    out: &mut Vec<u8>,
+) -> Result<(), AllocError>
+    ensures { OnOk result (out.new.items ≡ out.old.items ++
+        mixed_text names.now identifier won.now.features.items won.now.first lost.now.features.items lost.now.first) }
+{
+    mixed_head(identifier, out)?;
+    lines::product(names, &won.features, won.first, out)?;
+    lines::product(names, &lost.features, lost.first, out)
+}
+
+/// Appends who wins at the vertex in the products left, with a product of each kind if both players win some.
+pub(crate) fn decided(
+    alloc: Global,
+    order: &Order,
+    vertex: u32,
+    limits: Limits,
+    out: &mut Vec<u8>,
+) -> Result<(), AllocError>
+    requires { vertex < length order.now.game.vertices }
+    ensures { OnOk result (Appends
+        (TellsDecided (scene_of order.now.game order.now.diagram) limits vertex order.now.decisions)
+        out.old.items out.new.items) }
+{
+    let names = names(order);
+    let identifier = identifier(order, vertex);
+    let found = decide(alloc, order, vertex, order.decisions(), limits)?;
+    match found {
+        Decided::Won => fact(Which::Dual, identifier, out),
+        Decided::Lost => fact(Which::Hopeful, identifier, out),
+        Decided::Mixed { won, lost } => mixed(names, identifier, &won, &lost, out),
+        Decided::Empty => empty(out),
+        Decided::Unsettled => lines::unsettled(out),
+    }
+}

@@ -1,0 +1,94 @@
+-- The answers of a run to `winners` part products by requirements.
+use Rattle.std.proofs.Common.{◌≡◌, ℕ, ◌<◌, ◌⊎◌, inl, inr, Bool, List, [], ◌∷◌, Option, Some, None, Ok, Err, length, subst}
+use Rattle.std.specs.Prelude.{slice_index}
+use Rattle.std.specs.List.{AllByRecursion}
+use Rattle.vpg_diagram.specs.DiagramText.{NamedDiagram}
+use Rattle.vpg_game.specs.Game.{NamedGame, graph_of}
+use Rattle.vpg_trail.specs.Page.{Entry, choices_of, decisions_of}
+use Rattle.vpg_desk.specs.Book.{Book}
+use Rattle.vpg_checking.specs.Behaviours.{Behaviour}
+use Rattle.vpg_checking.specs.Checking.{EntryHoldsIn, IsModelOfTexts}
+use Rattle.vpg_winners.specs.declared.parts.Winner.{Winner}
+use Rattle.vpg_winners.specs.Joined.{PartView}
+use Rattle.vpg_winners.specs.Winners.{IsExactPart, IsWonAs}
+use Rattle.vpg_script.specs.declared.command.VertexQuestion.TheVariants as questions
+use Rattle.vpg_script.specs.Script as script
+use Rattle.vpg_script.specs.Script.{Request, Said, said}
+use Rattle.vpg_serving.specs.Output.{Speaks, Answered}
+use Rattle.vpg_texts.specs.Scene.{Scene, scene_of}
+use Rattle.vpg_answers.specs.Answers.{TellsWinners}
+use Rattle.vpg_report.specs.Answers.{vertex_of}
+use Rattle.vpg_report.specs.Requests.{Serves, answer_limits}
+use Rattle.vpg_report.specs.Run.{Between, begun, answering, as_meant}
+use Rattle.vpg_report.specs.Winners.{IsRefusal}
+use Rattle.vpg_assured.specs.Parted.{IsPartTrueOf, PartsProducts, PartsSpeakOfRequirements, parting, winners_of}
+use Rattle.vpg_assured.proofs.Replied.{IsReplied, served}
+
+module _ (game : NamedGame) (diagram : NamedDiagram) (system_text requirements_text roots : List ℕ)
+    (made : IsModelOfTexts diagram.names diagram.lines system_text requirements_text (graph_of game) roots) where
+  abbrev scene : Scene
+  scene = scene_of game diagram
+
+  module _ (page : List Entry) (n : ℕ) (below : n < length made.entries) where
+    abbrev root : ℕ
+    root = slice_index roots n
+
+    abbrev Holds : List Bool → Type 0
+    Holds set = EntryHoldsIn made.system made.entries n set
+
+    abbrev IsExact : PartView → Type 0
+    IsExact part = IsExactPart (graph_of game) diagram.lines (choices_of page) root part
+
+    part_true : (part : PartView) → IsExact part → IsPartTrueOf scene page Holds part
+    part_true part exact set remains within = (
+      λ won. (made.model.decided n below set).won.1 (subst (λ (w : Winner). IsWonAs (graph_of game) w root set) won (exact set remains within)),
+      λ lost. (made.model.decided n below set).lost.1 (subst (λ (w : Winner). IsWonAs (graph_of game) w root set) lost (exact set remains within)),
+    )
+
+    parts_true : (parts : List PartView) → AllByRecursion IsExact parts → AllByRecursion (IsPartTrueOf scene page Holds) parts
+    parts_true [] all = tt
+    parts_true (p ∷ parts) all = (part_true p all.0, parts_true parts all.1)
+
+    parts_products : (text : List ℕ) → TellsWinners scene answer_limits root (decisions_of page) text → PartsProducts scene page root Holds text
+    parts_products text so = record {
+      parts = so.0;
+      partition = so.1.partition;
+      true_of = parts_true so.0 so.1.exact;
+      text_is = so.2;
+    }
+
+  speaks : (behaviour : Option Behaviour) (book : Book) (named : script.Vertex) (text : List ℕ) (n : ℕ) (below : n < length made.entries) →
+      vertex_of scene named ≡ Some (slice_index roots n) → IsReplied behaviour game diagram questions.Winners book named text →
+      IsRefusal text ⊎ PartsProducts scene book.present (slice_index roots n) (EntryHoldsIn made.system made.entries n) text
+  speaks behaviour book named text n below at (inl refused) = inl refused
+  speaks behaviour book named text n below at (inr a) =
+      let same : a.0 ≡ slice_index roots n = cc (a.1, at) in
+      inr (parts_products book.present n below text (subst (λ (v : ℕ). TellsWinners scene answer_limits v (decisions_of book.present) text) same a.4.tells))
+
+  -- ---- lines
+
+  module _ (behaviour : Option Behaviour) (lifters : ℕ) (meaning : Request → Request) where
+    line : (old : Between) (s : Said) (text : List ℕ) (new : Between) →
+        Speaks (as_meant meaning (answering behaviour scene lifters)) old s text new →
+        Speaks (as_meant meaning (parting behaviour scene lifters made.system made.entries roots)) old s text new
+    line old (Ok None) text new so = so
+    line old (Ok (Some request)) text new so = (
+      so,
+      λ named n is below at.
+          speaks behaviour old.book named text n below at
+          (served behaviour game diagram questions.Winners old.book named text old.held old.calls (meaning request).label so.0.0 new.held so.0.1.1
+          (subst (λ (command : script.Command). Serves behaviour scene old.held old.calls
+          (record { label = (meaning request).label; command = command }) so.0.0 text new.held) is so.0.1.0)),
+    )
+    line old (Err fault) text new so = absurd so
+
+    lines_part : (old : Between) (lines : List (List ℕ)) (text : List ℕ) (new : Between) →
+        Answered (as_meant meaning (answering behaviour scene lifters)) old lines text new →
+        Answered (as_meant meaning (parting behaviour scene lifters made.system made.entries roots)) old lines text new
+    lines_part old [] text new so = so
+    lines_part old (l ∷ ls) text new so =
+        (so.0, so.1, so.2, line old (said l) so.1 so.0 so.3, so.4, lines_part so.0 ls so.2 new so.5)
+
+pub parts_speak_of_requirements : PartsSpeakOfRequirements
+parts_speak_of_requirements meaning behaviour game diagram system_text requirements_text roots made lifters lines text new answered =
+    lines_part game diagram system_text requirements_text roots made behaviour lifters meaning begun lines text new answered

@@ -1,0 +1,127 @@
+-- The path of a walk through the system, and texts that end in a walk. This project's own.
+use Rattle.std.specs.Prelude.{◌≡◌, ℕ, zero, suc, Bool, Option, Some, None, List, [], ◌∷◌, ◌++◌, length}
+use Rattle.vpg_guards.specs.declared.tri.Tri.{Tri}
+use Rattle.vpg_diagram.specs.DiagramText.{NamedDiagram}
+use Rattle.vpg_game.specs.Game.{NamedGame, graph_of, vertex_ids}
+use Rattle.vpg_partial.specs.TableLaws.{IsKnownTable}
+use Rattle.vpg_partial.specs.declared.decision.Decision.{Decision}
+use Rattle.vpg_parts.specs.declared.part.Part.{Part}
+use Rattle.vpg_parts.specs.declared.part.Part.TheVariants.{True, False, And, Or, SomeStep, EveryStep, Fixpoint, Variable}
+use Rattle.vpg_parts.specs.Parts.{resolved_part}
+use Rattle.vpg_model.specs.Departures.{Departure}
+use Rattle.vpg_model.specs.Pairs.{pair_at}
+use Rattle.vpg_checking.specs.Behaviours.{Behaviour}
+use Rattle.vpg_verdict.specs.declared.which.Which.{Which}
+use Rattle.vpg_why.specs.Explained.{choices}
+use Rattle.vpg_trace.specs.Answering.{Page, TellsWalk, walk_along, walk_text}
+use Rattle.vpg_trace.specs.Texts.{state_of, step_from}
+use Rattle.vpg_trace.specs.Walks.{visit_at, visit_before}
+use Rattle.vpg_trace.specs.declared.taking.Taken.{Taken}
+use Rattle.vpg_trace.specs.declared.walking.End.{End}
+use Rattle.vpg_trace.specs.declared.walking.End.TheVariants.{GoesOn, Loop, Seen, Stands, Cut}
+use Rattle.vpg_trace.specs.declared.walking.Visit.{Visit}
+use Rattle.vpg_system_draw.specs.Traced.{Trail}
+use Rattle.vpg_system_draw.specs.declared.marks.Step.{Step}
+
+-- ---- steps
+
+-- the transition that is taken, if one is
+abbrev pub one_step : Option Taken → List Step
+one_step None = []
+one_step (Some taken) = record { state = taken.state; place = taken.index } ∷ []
+
+-- the steps by which the first n visits are reached, as a trace reports them
+abbrev pub steps_of : List Tri → List (List Departure) → List (List Bool) → List Part → List (ℕ × ℕ) → List Visit →
+    (n : ℕ) → List Step
+steps_of known states sets parts pairs visits zero = []
+steps_of known states sets parts pairs visits (suc n) =
+    steps_of known states sets parts pairs visits n
+    ++ one_step (step_from known states sets parts pairs visits (visit_before visits n) (visit_at visits n).vertex)
+
+-- ---- ends
+
+-- the state that a visit comes back to, if it closes a loop
+abbrev pub one_loop : List (ℕ × ℕ) → List Visit → End → List ℕ
+one_loop pairs visits GoesOn = []
+one_loop pairs visits (Loop k) = state_of pairs visits k ∷ []
+one_loop pairs visits (Seen k) = []
+one_loop pairs visits Stands = []
+one_loop pairs visits Cut = []
+
+-- the states that the first n visits come back to
+abbrev pub loops_of : List (ℕ × ℕ) → List Visit → (n : ℕ) → List ℕ
+loops_of pairs visits zero = []
+loops_of pairs visits (suc n) = loops_of pairs visits n ++ one_loop pairs visits (visit_at visits n).end
+
+-- the state, unless the part is `true` or `false` alone, which holds or fails in any state
+abbrev pub state_unless : Part → ℕ → List ℕ
+state_unless True s = []
+state_unless False s = []
+state_unless (And a b) s = s ∷ []
+state_unless (Or a b) s = s ∷ []
+state_unless (SomeStep x a) s = s ∷ []
+state_unless (EveryStep x a) s = s ∷ []
+state_unless (Fixpoint kind p b) s = s ∷ []
+state_unless (Variable m) s = s ∷ []
+
+-- the state of a visit where nobody moves
+abbrev pub one_stand : List Part → ℕ × ℕ → End → List ℕ
+one_stand parts pair GoesOn = []
+one_stand parts pair (Loop k) = []
+one_stand parts pair (Seen k) = []
+one_stand parts pair Stands = state_unless (resolved_part parts pair.1) pair.0
+one_stand parts pair Cut = []
+
+-- the states of those among the first n visits
+abbrev pub stands_of : List Part → List (ℕ × ℕ) → List Visit → (n : ℕ) → List ℕ
+stands_of parts pairs visits zero = []
+stands_of parts pairs visits (suc n) = stands_of parts pairs visits n
+    ++ one_stand parts (pair_at pairs (visit_at visits n).vertex) (visit_at visits n).end
+
+-- ---- the path
+
+-- the path of these visits
+abbrev pub trail_over : List Tri → List (List Departure) → List (List Bool) → List Part → List (ℕ × ℕ) →
+    List Visit → Trail
+trail_over known states sets parts pairs visits = record {
+  steps = steps_of known states sets parts pairs visits (length visits);
+  loops = loops_of pairs visits (length visits);
+  stands = stands_of parts pairs visits (length visits);
+}
+
+-- the path of these visits, under what is known, in the game that was made of this
+abbrev pub trail_of : List Tri → Behaviour → List Visit → Trail
+trail_of known behaviour visits =
+    trail_over known behaviour.states behaviour.sets behaviour.parts behaviour.pairs visits
+
+-- a page without its tables: these say who wins, and not how
+abbrev pub page_with : NamedGame → NamedDiagram → List Decision → Page
+page_with game diagram decisions = record {
+  game = graph_of game;
+  identifiers = vertex_ids game.vertices;
+  features = diagram.names;
+  lines = diagram.lines;
+  decisions = decisions;
+  hopeful = [];
+  dual = [];
+}
+
+-- The text ends in a trace on the page: the walk along moves that win in each product left. The path is that of this
+-- walk.
+pub record IsRetold (page : Page) (behaviour : Behaviour) (text : List ℕ) (trail : Trail) : Type 0 where
+  pub mover : Which
+  pub vertex : ℕ
+  pub told : List ℕ
+  pub walk : TellsWalk page behaviour mover vertex told
+  pub earlier : List ℕ
+  pub text_is : text ≡ earlier ++ told
+  pub trail_is : trail ≡ trail_of walk.known behaviour (walk_along page walk.known mover vertex walk.moves).visits
+
+-- The text ends in the walk along these moves of a player, and the path is that of this walk.
+pub record IsRetoldAlong (page : Page) (behaviour : Behaviour) (mover : Which) (vertex : ℕ) (moves : List (Option ℕ))
+    (text : List ℕ) (trail : Trail) : Type 0 where
+  pub known : List Tri
+  pub is_known : IsKnownTable page.lines (choices page.decisions) known
+  pub earlier : List ℕ
+  pub text_is : text ≡ earlier ++ walk_text page known behaviour mover vertex moves
+  pub trail_is : trail ≡ trail_of known behaviour (walk_along page known mover vertex moves).visits
