@@ -2,10 +2,10 @@
 //!
 //!     vpg_play GAME DIAGRAM SEED SESSIONS STEPS HOW
 //!
-//! On an office on the files' game 1 to 63 sessions take STEPS steps each, 16,000 at most. Their dice, by SEED, say
-//! which: decide, retract, undo, redo, keep, forget, take an order and lift it by one lifter or several, commit, ask,
-//! ask with a front that is too short, read by a watch, watch anew, or hand a token, a harvest or a front on to whoever
-//! comes next. HOW is `free`, or `turns` if they take turns, so that each run is the same.
+//! On an office on the files' game 1 to 63 sessions take STEPS steps each, 16,000 at most. Their dice, by SEED, choose
+//! each step. A session decides, retracts, undoes, redoes, keeps, forgets, commits or asks. It takes an order and lifts
+//! it by one lifter or several. It asks with a front that is too short, reads by a watch, or watches anew. It leaves a
+//! token, a harvest or a front for any session. HOW is `free`, or `turns` for sessions in turn and equal runs.
 //!
 //! Each session prints its calls, a line for each: its number, the call, the answer, and the place in the log. Among
 //! them stand what is no call of the log, with the length of the front then: how an order was raised, reads of a watch

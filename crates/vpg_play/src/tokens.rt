@@ -28,7 +28,7 @@ pub(crate) enum Token<L: Terms> {
     Undone(Redo<L>),
 }
 
-/// What is done to a feature.
+/// A change of one feature.
 #[derive(Clone, Copy)]
 pub(crate) enum Change {
     Select,
