@@ -1,0 +1,11 @@
+pub mod Marks
+pub mod Series
+pub mod Words
+pub mod Levels
+pub mod Parsed
+pub mod Views
+pub mod Steps
+pub mod Limits
+pub mod Meaning
+pub mod Below
+pub mod Named
