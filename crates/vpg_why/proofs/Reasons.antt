@@ -1,5 +1,5 @@
 -- Reasons of a search that finds nothing.
-use Rattle.std.proofs.Common.{◌≡◌, ℕ, suc, ◌+◌, ◌<◌, ◌≤◌, ◌||◌, ◌⊎◌, inl, inr, Bool, true, false, List, [], get_or, take, ◌∷◌, ◌++◌, length, replicate, refl, sym, ap, ◌∙◌, subst, arith, append-nil}
+use Rattle.std.proofs.Common.{◌≡◌, ℕ, suc, ◌+◌, ◌<◌, ◌≤◌, ◌||◌, ◌&&◌, not, IsTrue, ◌⊎◌, inl, inr, Bool, true, false, List, [], get_or, take, ◌∷◌, ◌++◌, length, replicate, refl, sym, ap, ◌∙◌, subst, arith, append-nil}
 use Rattle.std.specs.List.{AllByRecursion}
 use Rattle.std.proofs.lemmas.List.{get_or-map, length-append, length-map, length-replicate, length-take-le, map-append, take_all, take_more}
 use Rattle.vpg_features.proofs.Noted.{any_default}
@@ -15,10 +15,15 @@ use Rattle.vpg_partial.specs.Known.{literal_of}
 use Rattle.vpg_partial.specs.declared.decision.Decision.{Decision}
 use Rattle.vpg_why.specs.Explained.{choices}
 use Rattle.vpg_why.specs.declared.question.Aim.{Aim}
-use Rattle.vpg_why.specs.Products.{Meets, NoneMeets}
-use Rattle.vpg_why.specs.Reasons.{marked, either_of, IsReason}
+use Rattle.vpg_why.specs.declared.searching.Example.{Example}
+use Rattle.vpg_why.specs.declared.searching.Reasoned.{Reasoned}
+use Rattle.vpg_why.specs.declared.searching.Reasoned.TheVariants as reasons
+use Rattle.vpg_why.specs.Found.{IsFoundProduct}
+use Rattle.vpg_why.specs.Products.{AgreeBelow, Meets, NoneMeets}
+use Rattle.vpg_why.specs.Reasons.{marked, either_of, IsReason, IsTaken}
 use Rattle.vpg_why.specs.Suffices.{choice}
-use Rattle.vpg_why.proofs.Splits.{decided as has_or_lacks}
+use Rattle.vpg_why.proofs.First.{found_with, found_without}
+use Rattle.vpg_why.proofs.OpenFeatures.{either_value}
 
 one_fewer : (m n : ℕ) → suc m ≡ suc n → m ≡ n
 one_fewer m n e = omega arith
@@ -178,11 +183,11 @@ module _ (game : NamedGame) (diagram : NamedDiagram) (aim : Aim) (chosen : List 
         }
 
   -- what either half names is a reason of both
-  pub reason_of_both : (f : ℕ) (one other : List Bool) → IsReason game diagram aim chosen (choice f true ∷ []) one → IsReason game diagram aim chosen (choice f false ∷ []) other →
+  pub reason_of_both : (f : ℕ) (value : Bool) (one other : List Bool) → IsReason game diagram aim chosen (choice f value ∷ []) one → IsReason game diagram aim chosen (choice f (not value) ∷ []) other →
       IsReason game diagram aim chosen [] (either_of one other)
-  reason_of_both f one other with_it without = record {
+  reason_of_both f value one other with_it without = record {
     count = length-either one other ∙ with_it.count;
-    lost = λ set remains meets. of set (agree set remains) remains meets (has_or_lacks set f);
+    lost = λ set remains meets. of set (agree set remains) remains meets (either_value set f value);
   }
     where
       Marked : List Bool → List Bool → Type 0
@@ -192,16 +197,79 @@ module _ (game : NamedGame) (diagram : NamedDiagram) (aim : Aim) (chosen : List 
       agree set remains = All-front (λ d. IsTrueIn set d) (marked (either_of one other) chosen) [] remains.agrees
 
       of : (set : List Bool) → Marked set (either_of one other) → IsRemaining diagram.lines (marked (either_of one other) chosen ++ []) set → Meets game aim set →
-          IsTrueIn set (choice f true) ⊎ IsTrueIn set (choice f false) → ⊥
+          IsTrueIn set (choice f value) ⊎ IsTrueIn set (choice f (not value)) → ⊥
       of set agrees remains meets (inl e) = with_it.lost set (record {
         product = remains.product;
-        agrees = All-append (λ d. IsTrueIn set d) (marked one chosen) (choice f true ∷ []) (either_left (λ d. IsTrueIn set d) one other chosen agrees) (e, tt);
+        agrees = All-append (λ d. IsTrueIn set d) (marked one chosen) (choice f value ∷ []) (either_left (λ d. IsTrueIn set d) one other chosen agrees) (e, tt);
       }) meets
       of set agrees remains meets (inr e) = without.lost set (record {
         product = remains.product;
-        agrees = All-append (λ d. IsTrueIn set d) (marked other chosen) (choice f false ∷ []) (either_right (λ d. IsTrueIn set d) one other chosen (with_it.count ∙ sym without.count) agrees) (e, tt);
+        agrees = All-append (λ d. IsTrueIn set d) (marked other chosen) (choice f (not value) ∷ []) (either_right (λ d. IsTrueIn set d) one other chosen (with_it.count ∙ sym without.count) agrees) (e, tt);
       }) meets
 
 -- choices that are marked are choices
 pub marked_choices : (lines : List Line) (marks : List Bool) (chosen kept : List Literal) → kept ≡ marked marks chosen → AreChoicesOf lines chosen → AreChoicesOf lines kept
 marked_choices lines marks chosen kept same named = subst (λ (cs : List Literal). AreChoicesOf lines cs) (sym same) (all_of_marked (λ (c : Literal). c.feature < feature_count lines) marks chosen named)
+
+-- ---- what a search took
+
+pub taken_less : (before after : ℕ) (found : Reasoned) → after < before → IsTaken before after found
+taken_less before after (reasons.Product example) less = less
+taken_less before after (reasons.Nothing marks) less = less
+taken_less before after reasons.Unsettled less = omega (arith, less)
+
+pub taken_left : (before after : ℕ) (found : Reasoned) → IsTaken before after found → after ≤ before
+taken_left before after (reasons.Product example) less = omega (arith, less)
+taken_left before after (reasons.Nothing marks) less = omega (arith, less)
+taken_left before after reasons.Unsettled less = less
+
+-- ---- products of halves
+
+and_true : (b : Bool) → b ≡ (b && true)
+and_true true = refl
+and_true false = refl
+
+and_false : (b : Bool) → IsTrue (b && false) → ⊥
+and_false true t = clash t
+  where
+    clash : false ≡ true → ⊥
+    clash x = cc
+and_false false t = clash t
+  where
+    clash : false ≡ true → ⊥
+    clash x = cc
+
+module _ (game : NamedGame) (diagram : NamedDiagram) (aim : Aim) (chosen : List Literal) (f : ℕ) where
+  of_half : (value : Bool) (set : List Bool) (first : Bool) → IsFoundProduct game diagram aim (chosen ++ choice f value ∷ []) set first → (later : Bool) → (IsTrue later → ⊥) → IsFoundProduct game diagram aim chosen set later
+  of_half value set first p later not_first = record {
+    remaining = record { product = p.remaining.product; agrees = All-front (λ d. IsTrueIn set d) chosen (choice f value ∷ []) p.remaining.agrees };
+    meets = p.meets;
+    is_first = λ t. absurd (not_first t);
+  }
+
+  -- the first half's product is the first if the feature is tried in first
+  pub half_first : (value : Bool) (example : Example) → AgreeBelow diagram chosen f → IsFoundProduct game diagram aim (chosen ++ choice f value ∷ []) example.features.items example.first →
+      IsFoundProduct game diagram aim chosen example.features.items (example.first && value)
+  half_first true example agree p = subst (λ (b : Bool). IsFoundProduct game diagram aim chosen example.features.items b) (and_true example.first) (found_with game diagram aim chosen f example.features.items example.first agree p)
+  half_first false example agree p = of_half false example.features.items example.first p (example.first && false) (and_false example.first)
+
+  -- the second half's product is the first if there is none in the first half, with the feature in
+  pub second_half : (value : Bool) (example : Example) → NoneMeets game diagram aim (chosen ++ choice f value ∷ []) → IsFoundProduct game diagram aim (chosen ++ choice f (not value) ∷ []) example.features.items example.first →
+      IsFoundProduct game diagram aim chosen example.features.items (example.first && value)
+  second_half true example lost p = subst (λ (b : Bool). IsFoundProduct game diagram aim chosen example.features.items b) (and_true example.first) (found_without game diagram aim chosen f example.features.items example.first lost p)
+  second_half false example lost p = of_half true example.features.items example.first p (example.first && false) (and_false example.first)
+
+  pub second_later : (value : Bool) (example : Example) → IsFoundProduct game diagram aim (chosen ++ choice f (not value) ∷ []) example.features.items example.first → IsFoundProduct game diagram aim chosen example.features.items false
+  second_later value example p = of_half (not value) example.features.items example.first p false (λ t. clash t)
+    where
+      clash : false ≡ true → ⊥
+      clash x = cc
+
+-- both marks
+pub both_true : (a b : Bool) → a ≡ true → b ≡ true → (a && b) ≡ true
+both_true true true e f = refl
+both_true true false e f = f
+both_true false b e f = absurd (clash e)
+  where
+    clash : false ≡ true → ⊥
+    clash x = cc

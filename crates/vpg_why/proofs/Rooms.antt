@@ -1,6 +1,7 @@
 -- What a search has room for.
-use Rattle.std.proofs.Common.{◌≡◌, ℕ, zero, suc, ◌+◌, ◌-◌, ◌<◌, ◌≤◌, ◌⊎◌, inl, inr, Bool, true, false, cond, List, [], ◌∷◌, ◌++◌, count_by, length, slice_index_or, IsTrue, refl, sym, ◌∙◌, ap, subst, add-one, append-nil, append_assoc, arith}
+use Rattle.std.proofs.Common.{◌≡◌, ℕ, zero, suc, ◌+◌, ◌-◌, ◌<◌, ◌≤◌, ◌⊎◌, inl, inr, Bool, true, false, cond, List, [], ◌∷◌, ◌++◌, count_by, length, slice_index_or, take, IsTrue, refl, sym, ◌∙◌, ap, subst, add-one, append-nil, append_assoc, arith}
 use Rattle.std.proofs.lemmas.Bool.{cases_lt}
+use Rattle.std.proofs.lemmas.List.{take_more}
 use Rattle.std.proofs.lemmas.List.Elements.{Contains-append_left}
 use Rattle.std.proofs.lemmas.List.Sums.{count_by-le-length, sum_by-cons}
 use Rattle.vpg_guards.specs.declared.tri.Tri.{Tri}
@@ -203,3 +204,66 @@ pub not_exact : (found : Found) → IsFoundExact found → ((x : Example) → fo
 not_exact (founds.Product x) exact a b = a x refl
 not_exact founds.Nothing exact a b = b refl
 not_exact founds.Unsettled exact a b = exact
+
+-- what is left for a first half suffices for it, if at most half is kept for the second
+pub enough_kept : (most trials kept : ℕ) → suc (most_trials most + most_trials most) ≤ trials → kept + kept ≤ trials - 1 → most_trials most ≤ (trials - 1) - kept
+enough_kept most trials kept room half = omega (arith, room, half)
+
+-- ---- the cases of the first features, counted
+
+count_front : (known : List Tri) (k : ℕ) → count_by is_open (take k known) ≤ count_by is_open known
+count_front known zero = omega arith
+count_front [] (suc k) = omega arith
+count_front (t ∷ ts) (suc k) = omega (arith, count_step t (take k ts), count_step t ts, count_front ts k)
+
+opened : (t : Tri) → t ≡ Unknown → ◌≡◌ {A = ℕ} (cond (is_open t) 1 0) 1
+opened No e = cc e
+opened Unknown e = refl
+opened Yes e = cc e
+
+closed : (t : Tri) → (t ≡ Unknown → ⊥) → ◌≡◌ {A = ℕ} (cond (is_open t) 1 0) 0
+closed No h = refl
+closed Unknown h = absurd (h refl)
+closed Yes h = refl
+
+count_last : (ts : List Tri) (t : Tri) → count_by is_open (ts ++ t ∷ []) ≡ count_by is_open ts + cond (is_open t) 1 0
+count_last [] t = omega (arith, count_step t [])
+count_last (u ∷ us) t = omega (arith, count_step u (us ++ t ∷ []), count_step u us, count_last us t)
+
+next_front : (known : List Tri) (f : ℕ) → f < length known → take (f + 1) known ≡ take f known ++ slice_index_or known f Unknown ∷ []
+next_front known f less = take_more known f Unknown less
+
+open_more : (known : List Tri) (f : ℕ) → f < length known → slice_index_or known f Unknown ≡ Unknown → count_by is_open (take (f + 1) known) ≡ suc (count_by is_open (take f known))
+open_more known f less is =
+    let e = ap (λ (ts : List Tri). count_by is_open ts) (next_front known f less) in
+    let l = count_last (take f known) (slice_index_or known f Unknown) in
+    let o = opened (slice_index_or known f Unknown) is in omega (arith, e, l, o)
+
+open_same : (known : List Tri) (f : ℕ) → f < length known → (slice_index_or known f Unknown ≡ Unknown → ⊥) → count_by is_open (take (f + 1) known) ≡ count_by is_open (take f known)
+open_same known f less is =
+    let e = ap (λ (ts : List Tri). count_by is_open ts) (next_front known f less) in
+    let l = count_last (take f known) (slice_index_or known f Unknown) in
+    let o = closed (slice_index_or known f Unknown) is in omega (arith, e, l, o)
+
+module _ (known : List Tri) (f cases : ℕ) (inside : f < length known) (are : cases ≡ most_trials (count_by is_open (take f known) + 1)) where
+  pub cases_more : slice_index_or known f Unknown ≡ Unknown → cases + cases + 1 ≡ most_trials (count_by is_open (take (f + 1) known) + 1)
+  cases_more is = let e = trials_step (count_by is_open (take (f + 1) known)) in
+      let n = ap most_trials (open_more known f inside is ∙ sym (add-one (count_by is_open (take f known)))) in omega (arith, e, n, are)
+
+  pub cases_same : (slice_index_or known f Unknown ≡ Unknown → ⊥) → cases ≡ most_trials (count_by is_open (take (f + 1) known) + 1)
+  cases_same is = are ∙ ap (λ n. most_trials (n + 1)) (sym (open_same known f inside is))
+
+  -- one more open feature has too many
+  pub too_many : (trials : ℕ) → slice_index_or known f Unknown ≡ Unknown → trials - cases ≤ cases → most_trials (count_by is_open known + 1) ≤ trials → ⊥
+  too_many trials is over enough =
+      let m = cases_more is in
+      let g = trials_grow (count_by is_open (take (f + 1) known) + 1) (count_by is_open known + 1) (let c = count_front known (f + 1) in omega (arith, c)) in
+      omega (arith, m, g, over, enough)
+
+pub no_trial : (n : ℕ) → most_trials (n + 1) ≤ 0 → ⊥
+no_trial n h = let e = trials_step n in omega (arith, e, h)
+
+-- the trials that suffice for a page's open features are those that are counted
+pub page_trials : (lines : List Line) (choices : List Literal) (known : List Tri) (trials : ℕ) → IsKnownTable lines choices known → HasTrials lines choices trials → most_trials (count_by is_open known + 1) ≤ trials
+page_trials lines choices known trials t has = let u = has.are_open known t in
+    let g = trials_grow (count_by is_open known + 1) (has.most + 1) (omega (arith, u)) in let e = has.enough in omega (arith, g, e)

@@ -1,5 +1,5 @@
 -- Questions on a list of choices, and when the choices alone make it so. This project's own.
-use Rattle.std.specs.Prelude.{ℕ, zero, suc, ◌+◌, ◌<◌, ◌≤◌, ⊤, Bool, true, false, List, [], ◌∷◌, ◌++◌, count_by, length, replicate, slice_index, IsTrue}
+use Rattle.std.specs.Prelude.{◌≡◌, ℕ, zero, suc, ◌+◌, ◌<◌, ◌≤◌, ⊤, Bool, true, false, List, [], ◌∷◌, ◌++◌, count_by, length, replicate, slice_index, IsTrue}
 use Rattle.vpg_guards.specs.declared.tri.Tri.{Tri}
 use Rattle.vpg_guards.specs.declared.tri.Tri.TheVariants.{No, Unknown, Yes}
 use Rattle.vpg_guards.specs.Formula.{Formula}
@@ -79,6 +79,12 @@ MayMeet game (aims.Won which vertex) known = IsLowUnder game which vertex known
 abbrev pub SettlesWithin : ℕ → NamedGame → Which → List Tri → Type 0
 SettlesWithin rounds game which known = IsProgressTable (levels_for which (graph_of game)) (arena_for (kleene known) which (graph_of game))
     (after_rounds (levels_for which (graph_of game)) (arena_for (kleene known) which (graph_of game)) rounds (replicate (length (arena_for (kleene known) which (graph_of game))) 0))
+
+-- under what is known, this many rounds of lifts from zeros bring the vertex to the top
+abbrev pub RoundsReachTop : ℕ → NamedGame → Which → ℕ → List Tri → Type 0
+RoundsReachTop rounds game which vertex known =
+    slice_index (after_rounds (levels_for which (graph_of game)) (arena_for (kleene known) which (graph_of game)) rounds
+    (replicate (length (arena_for (kleene known) which (graph_of game))) 0)) vertex ≡ top_for which (graph_of game)
 
 -- the table settles so under what the choices make known
 abbrev pub SettlesUnder : ℕ → NamedGame → NamedDiagram → Which → List Literal → Type 0

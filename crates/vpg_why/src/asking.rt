@@ -1,52 +1,69 @@
 //! Asking a question of decisions.
 ghost use Rattle.std.specs.Prelude.{◌≡◌, ◌≢◌, ◌↔◌, ◌<◌, ◌++◌, ◌∷◌, [], List, ℕ, length, map, replicate, IfOk, IfSome, IsNone, IsTrue};
-ghost use Rattle.vpg_guards.specs.Known.{kleene};
+ghost use Rattle.vpg_guards.specs.Known.{IsFiner, IsFinerValue};
 ghost use Rattle.vpg_diagram.specs.FeatureDiagram.{feature_count};
-ghost use Rattle.vpg_game.specs.Game.{graph_of};
-ghost use Rattle.vpg_measure.specs.Games.{AreGamesOf, ArePageGames};
-ghost use Rattle.vpg_measure.specs.Lifts.{IsTableOf, IsProgressTable, IsBelowTable, after_rounds};
-ghost use Rattle.vpg_measure.specs.TwoGames.{levels_for, arena_for};
+ghost use Rattle.vpg_measure.specs.Games.{AreGamesOf, ArePageGames, games_arena, games_levels};
+ghost use Rattle.vpg_measure.specs.Least.{IsBelowProgressTables};
+ghost use Rattle.vpg_measure.specs.Lifts.{IsTableOf};
 ghost use Rattle.vpg_partial.specs.Known.{literal_of};
 ghost use Rattle.vpg_partial.specs.KnownLaws.{HasConflictOf};
 ghost use Rattle.vpg_partial.specs.KnownTable.{literals_in};
 ghost use Rattle.vpg_partial.specs.TableLaws.{AreChoicesOf, IsKnownTable};
-ghost use Rattle.vpg_why.specs.Suffices.{choice, IsTopUnder, IsLowUnder, Suffice, SettlesWithin, IsSettled};
+ghost use Rattle.vpg_why.specs.Suffices.{choice, IsTopUnder, IsLowUnder, Suffice, RoundsReachTop, SettlesWithin, IsSettled};
 
 use crate::question::{Limits, Question, Shown};
+use crate::settling::raise;
 use std::alloc::{AllocError, Global};
 use vpg_guards::Tri;
-use vpg_guess::raise_by_bounds;
-use vpg_hope::Arena;
-use vpg_measure::{
-    Order, OrderFault, PageGames, Shape, Table, is_progress, known_under, settle_alone,
-};
+use vpg_measure::{Order, OrderFault, PageGames, Shape, Table, known_under};
 use vpg_partial::{Decision, Partial, PartialFault};
 use vpg_verdict::Which;
 
-// Raises a table by certified bounds and, if these do not settle it, by rounds of lifts. Returns whether it is a
-// progress table then.
-fn raise(
-    alloc: Global,
-    shape: &Shape,
-    dual_shape: &Shape,
-    arena: &Arena,
-    table: &mut Table,
-    limits: Limits,
-) -> Result<bool, AllocError>
-    requires { IsTableOf shape.now arena.now table.old }
-    ensures settled { IfOk result (λ settled. IsTrue settled ↔ IsProgressTable shape.now arena.now table.new) }
-    ensures table { IsTableOf shape.now arena.now table.new }
-    ensures below { (other : List ℕ) → IsTableOf shape.now arena.now other → IsProgressTable shape.now arena.now other →
-        IsBelowTable table.old other → IsBelowTable table.new other }
-    // It is one if this many rounds alone leave one.
-    ensures rounds { IfOk result (λ settled. IsProgressTable shape.now arena.now (after_rounds shape.now arena.now limits.rounds table.old) → IsTrue settled) }
+// Whether the second value of a feature is the first, if that is known.
+fn stays(known: Tri, more: Tri) -> bool
+    ensures { IsTrue result → IsFinerValue known more }
 {
-    let settled = raise_by_bounds(alloc, shape, dual_shape, arena, table, limits.budget)?;
-    if settled {
-        return Ok(true);
+    match (known, more) {
+        (Tri::Unknown, _) => true,
+        (Tri::No, Tri::No) => true,
+        (Tri::Yes, Tri::Yes) => true,
+        _ => false,
     }
-    settle_alone(shape, arena, table, limits.rounds);
-    Ok(is_progress(shape, arena, table))
+}
+
+// Whether all that is known first is known then, with the same value.
+fn refines(known: &Partial, more: &Partial, features: u16) -> bool
+    requires known { length known.now ≡ features }
+    requires more { length more.now ≡ features }
+    ensures { IsTrue result → IsFiner known.now more.now }
+{
+    for f in 0..features {
+        if !stays(known.value(f), more.value(f)) {
+            return false;
+        }
+    }
+    true
+}
+
+// A table of one of the two games to begin with, below every progress table: the page's, if all that is known on the
+// page is known in the games too, since what is known only raises tables. Otherwise it is of zeros.
+fn first_table(
+    alloc: Global,
+    order: &Order,
+    games: &PageGames,
+    which: Which,
+) -> Result<Table, AllocError>
+    requires { AreGamesOf order.now.game order.now.diagram games.now }
+    ensures table { IfOk result (IsTableOf (games_levels which games.now) (games_arena which games.now)) }
+    ensures below { IfOk result (IsBelowProgressTables (games_levels which games.now) (games_arena which games.now)) }
+{
+    let features = order.diagram().features() as u16;
+    if refines(order.games().known(), games.known(), features) {
+        let table = order.table(which).copy(alloc)?;
+        return Ok(table);
+    }
+    let table = Table::zero(alloc, games.shape(which), games.arena(which).vertices())?;
+    Ok(table)
 }
 
 /// Whether every progress table of one of the two games has the top at the vertex: the least one has it. The games are
@@ -65,15 +82,21 @@ pub(crate) fn is_top(
     ensures no { IfOk result (λ shown. shown ≡ Shown.No → IsTopUnder order.now.game which vertex games.now.known → ⊥) }
     ensures low { IfOk result (λ shown. shown ≡ Shown.No → IsLowUnder order.now.game which vertex games.now.known) }
     ensures settled { IfOk result (λ shown. SettlesWithin limits.rounds order.now.game which games.now.known → shown ≢ Shown.Unsettled) }
+    // Yes is shown, settled or not, if this many rounds from zeros bring the vertex to the top.
+    ensures raised { IfOk result (λ shown.
+        RoundsReachTop limits.rounds order.now.game which vertex games.now.known → shown ≡ Shown.Yes) }
 {
     let shape = games.shape(which);
     let arena = games.arena(which);
+    let mut table = first_table(alloc, order, games, which)?;
+    if table.get(vertex) == shape.top() {
+        return Ok(Shown::Yes);
+    }
     let again = Shape::of_dual_of_dual(alloc, order.game())?;
     let dual_shape = match which {
         Which::Hopeful => games.shape(Which::Dual),
         Which::Dual => &again,
     };
-    let mut table = Table::zero(alloc, shape, arena.vertices())?;
     let settled = raise(alloc, shape, dual_shape, arena, &mut table, limits)?;
     if table.get(vertex) == shape.top() {
         Ok(Shown::Yes)

@@ -8,6 +8,7 @@ ghost use Rattle.vpg_why.specs.Reasons.{marked};
 ghost use Rattle.vpg_why.specs.Suffices.{IsAim};
 
 use crate::asking::{closed, games_with};
+use crate::easing::opposite;
 use crate::question::{Aim, Limits};
 use crate::reaching::reached;
 use crate::settling::moves_by;
@@ -36,14 +37,6 @@ pub(crate) fn kept_by(
         }
     }
     Ok(kept)
-}
-
-// The other table.
-fn opponent(which: Which) -> Which {
-    match which {
-        Which::Hopeful => Which::Dual,
-        Which::Dual => Which::Hopeful,
-    }
 }
 
 // The known value of an edge's guard.
@@ -140,7 +133,7 @@ fn used_under(
     requires games { ArePageGames order.now.game order.now.diagram (choices decisions.now) games.now }
     requires vertex { vertex < length order.now.game.vertices }
 {
-    let winner = opponent(which);
+    let winner = opposite(which);
     let arena = caution(alloc, order.game(), games.known(), winner)?;
     let Some(table) = table_of(alloc, order.game(), games, winner, &arena, limits)? else {
         return Ok(None);
@@ -294,13 +287,18 @@ fn mark_until_shown(
     Ok(marks)
 }
 
-// A mark for each decision on a marked feature.
-fn decided(alloc: Global, decisions: &[Decision], used: &[bool]) -> Result<Vec<bool>, AllocError>
+// A mark for each of the first decisions, and for each on a marked feature.
+fn decided(
+    alloc: Global,
+    decisions: &[Decision],
+    begun: usize,
+    used: &[bool],
+) -> Result<Vec<bool>, AllocError>
     ensures { IfOk result (λ marks. length marks.items ≡ length decisions.now) }
 {
     let mut marks = vec![in alloc; false; decisions.len()]?;
     for i in 0..decisions.len() {
-        marks[i] = used.get(decisions[i].feature as usize) == Some(&true);
+        marks[i] = i < begun || used.get(decisions[i].feature as usize) == Some(&true);
     }
     Ok(marks)
 }
@@ -308,19 +306,21 @@ fn decided(alloc: Global, decisions: &[Decision], used: &[bool]) -> Result<Vec<b
 /// Returns a guess at the decisions that alone leave nothing to be found: a mark for each.
 ///
 /// If the decisions contradict the diagram, these are some that do so alone. Otherwise they are those that the winner's
-/// moves rest on: they make known that these edges are there, and that the loser lacks others.
+/// moves rest on: they make known that these edges are there, and that the loser lacks others. The first ones, which
+/// the search begins with, are always marked.
 pub(crate) fn grounds(
     alloc: Global,
     order: &Order,
     aim: Aim,
     decisions: &[Decision],
+    begun: usize,
     limits: Limits,
 ) -> Result<Vec<bool>, AllocError>
     requires named { AreChoicesOf order.now.diagram.lines (choices decisions.now) }
     requires aim { IsAim order.now.game aim }
     ensures { IfOk result (λ marks. length marks.items ≡ length decisions.now) }
 {
-    let none = vec![in alloc; false; decisions.len()]?;
+    let none = decided(alloc, decisions, begun, &[])?;
     let Aim::Won { which, vertex } = aim else {
         return mark_until_shown(alloc, order, decisions, none, None);
     };
@@ -329,7 +329,7 @@ pub(crate) fn grounds(
     };
     match used_under(alloc, order, &games, which, vertex, decisions, limits)? {
         Some(used) => {
-            let marks = decided(alloc, decisions, &used)?;
+            let marks = decided(alloc, decisions, begun, &used)?;
             mark_until_shown(alloc, order, decisions, marks, Some((games.known(), &used)))
         }
         None => Ok(vec![in alloc; true; decisions.len()]?),

@@ -6,7 +6,8 @@
 //! feature known, or one more decision contradictory. If some decisions make it so, more do. So `explain` can look for
 //! few: it lists decisions that suffice, none of which can be left out. There is one such list that prefers older
 //! decisions, so the answer is a function of the page. Each trial goes over from the order's games to those of its
-//! decisions; questions of features alone make no games.
+//! decisions, and begins with the order's tables if it knows all that the order does. Questions of features alone make
+//! no games. Where each product left is shown to meet an aim, a search for one goes on by features alone.
 //!
 //! In every product that is left Odd wins from a hopeless vertex, and Even from a sure one. `winning_moves` finds moves
 //! that serve in all of them at once: those by which the player wins the cautious game (`vpg_hope`). There the player
@@ -23,14 +24,15 @@
 //! if it met one: it is then unsettled, never wrong.
 //!
 //! Definitions: `specs/Suffices` (what decisions alone make so); `specs/Explained` (explanations); `specs/Products`
-//! (the products that decisions leave); `specs/Found`, `specs/Offered`, `specs/Repaired` (the meaning of the answers);
-//! `specs/Moves`, `specs/Played` and `specs/Reachable` (moves that win, and the vertices that they come to);
-//! `specs/Searched` for the search of vertices; `specs/Reasons` (why a search finds nothing). Their laws stand in
-//! `laws`.
+//! (the products that decisions leave); `specs/Eased` (aims that each product left meets); `specs/Found`,
+//! `specs/Offered`, `specs/Repaired` (the meaning of the answers); `specs/Moves`, `specs/Played` and `specs/Reachable`
+//! (moves that win, and the vertices that they come to); `specs/Searched` for the search of vertices; `specs/Reasons`
+//! (why a search finds nothing). Their laws stand in `laws`.
 #![tactic(auto)]
 
 mod answering;
 mod asking;
+mod easing;
 mod explaining;
 mod forcing;
 mod grounds;

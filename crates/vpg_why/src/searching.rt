@@ -1,5 +1,5 @@
 //! A search for a product that meets an aim.
-ghost use Rattle.std.specs.Prelude.{◌≡◌, ◌≢◌, ◌<◌, ◌≤◌, ◌+◌, ◌++◌, ◌∷◌, [], List, ℕ, true, false, length};
+ghost use Rattle.std.specs.Prelude.{◌≡◌, ◌≢◌, ◌<◌, ◌≤◌, ◌+◌, ◌++◌, ◌∷◌, [], List, ℕ, true, false, not, length, Bool};
 ghost use Rattle.std.specs.Prelude.{slice_index_or, IfOk, IfSome, IsNone, IsSome};
 ghost use Rattle.vpg_guards.specs.declared.tri.Tri.TheVariants.{Unknown};
 ghost use Rattle.vpg_guards.specs.Known.{AreAllKnown};
@@ -10,13 +10,16 @@ ghost use Rattle.vpg_measure.specs.Games.{ArePageGames};
 ghost use Rattle.vpg_partial.specs.TableLaws.{AreChoicesOf, IsKnownTable};
 ghost use Rattle.vpg_why.specs.Explained.{choices};
 ghost use Rattle.vpg_why.specs.Found.{HasRoom, IsOutlook, IsOutlookExact, IsFound, IsFoundExact};
-ghost use Rattle.vpg_why.specs.Products.{NoneMeets};
-ghost use Rattle.vpg_why.specs.Reasons.{either_of, HasMarks, IsReason, IsReasoned, IsReasonedExact};
+ghost use Rattle.vpg_why.specs.Products.{AgreeBelow, NoneMeets};
+ghost use Rattle.vpg_why.specs.Eased.{IsEased};
+ghost use Rattle.vpg_why.specs.Reasons.{either_of, HasMarks, IsHalf, IsHalfExact, IsHalfMarked, IsReason, IsReasoned, IsReasonedExact, IsTaken};
 ghost use Rattle.vpg_why.specs.Suffices.{choice, IsAim, IsBarred, MayMeet, AimSettles, AimSettlesUnder, AreOpenUpTo, SettlesUnder, IsSettled, most_trials};
 
 use crate::asking::{closed, games_with, is_top, with_one};
+use crate::easing::{eased, eased_under};
 use crate::grounds::{grounds, kept_by};
 use crate::question::{Aim, Limits, Question, Shown};
+use crate::seeking::has;
 use std::alloc::{AllocError, Global};
 use vpg_guards::Tri;
 use vpg_measure::{Order, PageGames};
@@ -199,6 +202,121 @@ pub(crate) fn look(
     }
 }
 
+/// The outlook of some decisions on an aim, and the aim of a search beyond them.
+#[derive(Drop)]
+pub(crate) struct Scouted {
+    pub(crate) outlook: Outlook,
+    /// Any product, if it was shown that each one that is left meets the aim.
+    pub(crate) aim: Aim,
+}
+
+// The aim beyond an outlook: where nothing is left to split, that of before.
+fn aim_beyond(
+    alloc: Global,
+    order: &Order,
+    games: &PageGames,
+    which: Which,
+    vertex: u32,
+    decisions: &[Decision],
+    limits: Limits,
+    outlook: &Outlook,
+) -> Result<Aim, AllocError>
+    requires games { ArePageGames order.now.game order.now.diagram (choices decisions.now) games.now }
+    requires named { AreChoicesOf order.now.diagram.lines (choices decisions.now) }
+    requires vertex { vertex < length order.now.game.vertices }
+    ensures { IfOk result
+        (IsEased order.now.game order.now.diagram (choices decisions.now) (Aim.Won which vertex)) }
+{
+    match outlook {
+        Outlook::Open { .. } => eased_under(alloc, order, games, which, vertex, decisions, limits),
+        _ => Ok(Aim::Won { which, vertex }),
+    }
+}
+
+// The outlook under the games of the decisions for a product that is won, and the aim beyond.
+fn scout_games(
+    alloc: Global,
+    order: &Order,
+    games: &PageGames,
+    which: Which,
+    vertex: u32,
+    decisions: &[Decision],
+    limits: Limits,
+) -> Result<Scouted, AllocError>
+    requires games { ArePageGames order.now.game order.now.diagram (choices decisions.now) games.now }
+    requires named { AreChoicesOf order.now.diagram.lines (choices decisions.now) }
+    requires vertex { vertex < length order.now.game.vertices }
+    ensures outlook { IfOk result (λ seen.
+        IsOutlook order.now.game order.now.diagram (Aim.Won which vertex) (choices decisions.now) seen.outlook) }
+    ensures settled { IfOk result
+        (λ seen. SettlesUnder limits.rounds order.now.game order.now.diagram which (choices decisions.now) →
+        IsOutlookExact seen.outlook) }
+    ensures eased { IfOk result (λ seen.
+        IsEased order.now.game order.now.diagram (choices decisions.now) (Aim.Won which vertex) seen.aim) }
+{
+    let outlook = look_at_games(alloc, order, games, which, vertex, decisions, limits)?;
+    let aim = aim_beyond(
+        alloc, order, games, which, vertex, decisions, limits, &outlook,
+    )?;
+    Ok(Scouted { outlook, aim })
+}
+
+// The outlook for a product that is won, and the aim beyond.
+fn scout_game(
+    alloc: Global,
+    order: &Order,
+    which: Which,
+    vertex: u32,
+    decisions: &[Decision],
+    limits: Limits,
+) -> Result<Scouted, AllocError>
+    requires named { AreChoicesOf order.now.diagram.lines (choices decisions.now) }
+    requires vertex { vertex < length order.now.game.vertices }
+    ensures outlook { IfOk result (λ seen.
+        IsOutlook order.now.game order.now.diagram (Aim.Won which vertex) (choices decisions.now) seen.outlook) }
+    ensures settled { IfOk result
+        (λ seen. SettlesUnder limits.rounds order.now.game order.now.diagram which (choices decisions.now) →
+        IsOutlookExact seen.outlook) }
+    ensures eased { IfOk result (λ seen.
+        IsEased order.now.game order.now.diagram (choices decisions.now) (Aim.Won which vertex) seen.aim) }
+{
+    // Properties of every order, for the proof.
+    let _order = order.game();
+    match games_with(alloc, order, decisions)? {
+        Some(games) => scout_games(alloc, order, &games, which, vertex, decisions, limits),
+        None => Ok(Scouted {
+            outlook: Outlook::Lost,
+            aim: Aim::Won { which, vertex },
+        }),
+    }
+}
+
+fn scout(
+    alloc: Global,
+    order: &Order,
+    aim: Aim,
+    decisions: &[Decision],
+    limits: Limits,
+) -> Result<Scouted, AllocError>
+    requires named { AreChoicesOf order.now.diagram.lines (choices decisions.now) }
+    requires aim { IsAim order.now.game aim }
+    ensures outlook { IfOk result (λ seen.
+        IsOutlook order.now.game order.now.diagram aim (choices decisions.now) seen.outlook) }
+    ensures settled { IfOk result
+        (λ seen. AimSettlesUnder limits.rounds order.now.game order.now.diagram aim (choices decisions.now) →
+        IsOutlookExact seen.outlook) }
+    ensures eased { IfOk result (λ seen.
+        IsEased order.now.game order.now.diagram (choices decisions.now) aim seen.aim) }
+{
+    match aim {
+        Aim::Any => {
+            let outlook = look_at_features(alloc, order, decisions)?;
+            Ok(Scouted { outlook, aim })
+        }
+        Aim::Won { which, vertex } => scout_game(alloc, order, which, vertex, decisions, limits),
+    }
+}
+
 /// The result of a search, with a reason if it is nothing.
 #[derive(Drop)]
 pub enum Reasoned {
@@ -241,25 +359,66 @@ fn either(alloc: Global, one: &[bool], other: &[bool]) -> Result<Vec<bool>, Allo
     Ok(marks)
 }
 
-// The result of both halves of a split. The first has a reason, which names the feature, or met a limit. The result of
-// the second has a last mark for the feature.
+/// The first half of a split: the result of the whole, or a reason to go on with the other half.
+#[derive(Drop)]
+pub(crate) enum Half {
+    /// It is the result.
+    Ends(Reasoned),
+    /// The second half is searched too. The first one has a reason, which names the feature, or met a limit.
+    GoesOn(Option<Vec<bool>>),
+}
+
+// What the first half of a split on this value says. Its result has a last mark for the feature.
+fn first_half(count: usize, value: bool, one: Reasoned) -> Half
+    requires { HasMarks one (count + 1) }
+    ensures found { (game : NamedGame) (diagram : NamedDiagram) (aim : Aim) (chosen : List Literal) (f : ℕ) →
+        AgreeBelow diagram chosen f → IsReasoned game diagram aim (chosen ++ choice f value ∷ []) one →
+        IsHalf game diagram aim chosen f value result }
+    ensures marks { IsHalfMarked count result }
+    ensures exact { (avoided : List Bool) → (avoided ≡ [] → value ≡ true) → IsReasonedExact avoided one →
+        IsHalfExact avoided result }
+{
+    match one {
+        Reasoned::Product(found) => Half::Ends(Reasoned::Product(Example {
+            features: found.features,
+            first: found.first & value,
+        })),
+        Reasoned::Nothing(marks) => {
+            let front = without_last(marks);
+            if front.last {
+                Half::GoesOn(Some(front.marks))
+            } else {
+                Half::Ends(Reasoned::Nothing(front.marks))
+            }
+        }
+        Reasoned::Unsettled => Half::GoesOn(None),
+    }
+}
+
+// The result of both halves of a split, on this value first. The first half has a reason, which names the feature, or
+// met a limit. The result of the second has a last mark for the feature.
 fn both(
     alloc: Global,
     count: usize,
+    value: bool,
     one: Option<Vec<bool>>,
     other: Reasoned,
 ) -> Result<Reasoned, AllocError>
     requires first { IfSome one (λ marks. length marks.items ≡ count) }
     requires second { HasMarks other (count + 1) }
     ensures found { (game : NamedGame) (diagram : NamedDiagram) (aim : Aim) (chosen : List Literal) (f : ℕ) →
-        IfSome one (λ marks. IsReason game diagram aim chosen (choice f true ∷ []) marks.items) →
-        IsReasoned game diagram aim (chosen ++ choice f false ∷ []) other →
+        IfSome one (λ marks. IsReason game diagram aim chosen (choice f value ∷ []) marks.items) →
+        IsReasoned game diagram aim (chosen ++ choice f (not value) ∷ []) other →
         IfOk result (IsReasoned game diagram aim chosen) }
-    ensures exact { IsSome one → IsReasonedExact other → IfOk result IsReasonedExact }
+    ensures exact { (avoided : List Bool) → (avoided ≡ [] → value ≡ true) → IsSome one →
+        IsReasonedExact avoided other → IfOk result (IsReasonedExact avoided) }
 {
     match other {
         Reasoned::Product(found) => match one {
-            Some(_) => Ok(Reasoned::Product(found)),
+            Some(_) => Ok(Reasoned::Product(Example {
+                features: found.features,
+                first: found.first & value,
+            })),
             None => Ok(Reasoned::Product(Example {
                 features: found.features,
                 first: false,
@@ -282,12 +441,14 @@ fn both(
     }
 }
 
-// Some of the decisions that leave nothing, which do so alone: the guess, if it holds, or otherwise all of them.
+// Some of the decisions that leave nothing, which do so alone: the guess, if it holds, or otherwise all of them. The
+// first ones, which a search begins with, are always among them.
 fn reason(
     alloc: Global,
     order: &Order,
     aim: Aim,
     decisions: &[Decision],
+    begun: usize,
     limits: Limits,
 ) -> Result<Vec<bool>, AllocError>
     requires named { AreChoicesOf order.now.diagram.lines (choices decisions.now) }
@@ -296,21 +457,38 @@ fn reason(
     ensures { IfOk result (λ marks.
         IsReason order.now.game order.now.diagram aim (choices decisions.now) [] marks.items) }
 {
-    let marks = grounds(alloc, order, aim, decisions, limits)?;
-    let kept = kept_by(alloc, decisions, &marks)?;
-    match look(alloc, order, aim, &kept, limits)? {
-        Outlook::Lost => Ok(marks),
-        _ => Ok(vec![in alloc; true; decisions.len()]?),
+    if decisions.len() > begun {
+        let marks = grounds(alloc, order, aim, decisions, begun, limits)?;
+        let kept = kept_by(alloc, decisions, &marks)?;
+        if let Outlook::Lost = look(alloc, order, aim, &kept, limits)? {
+            return Ok(marks);
+        }
     }
+    let all = vec![in alloc; true; decisions.len()]?;
+    Ok(all)
 }
 
-// The search of `search`, with a reason if there is nothing. If the reason of a split's first half does not name the
-// feature, the second half is left out: no product in it meets the aim either.
+// The trials that a first half leaves to the second one, so that a product there is found though the first half takes
+// all that it may.
+fn reserve(trials: u64) -> u64
+    ensures { result + result ≤ trials }
+{
+    trials / 64
+}
+
+/// The search of `search`, with a reason if there is nothing. If the reason of a split's first half does not name the
+/// feature, the second half is left out: no product in it meets the aim either. Where each product that is left meets
+/// the aim, it goes on for any, by features alone.
+///
+/// It tries first for each feature the value that a product to be avoided does not have; with no such product, that it
+/// is in. The first `begun` decisions are those that the search began with.
 pub(crate) fn search_with_reasons(
     alloc: Global,
     order: &Order,
     aim: Aim,
     decisions: &[Decision],
+    avoided: &[bool],
+    begun: usize,
     limits: Limits,
     depth: u32,
     trials: &mut u64,
@@ -318,6 +496,7 @@ pub(crate) fn search_with_reasons(
     requires named { AreChoicesOf order.now.diagram.lines (choices decisions.now) }
     requires aim { IsAim order.now.game aim }
     ensures found { IfOk result (IsReasoned order.now.game order.now.diagram aim (choices decisions.now)) }
+    ensures taken { IfOk result (IsTaken trials.old trials.new) }
     ensures spent { IfOk result (λ found. trials.old ≤ trials.new + most_trials depth) }
     ensures fewer { IfOk result (λ found. (most : ℕ) →
         AreOpenUpTo most order.now.diagram.lines (choices decisions.now) →
@@ -325,15 +504,17 @@ pub(crate) fn search_with_reasons(
     ensures settled { IfOk result
         (λ found. HasRoom order.now.diagram (choices decisions.now) depth trials.old →
         AimSettles limits.rounds order.now.game order.now.diagram aim (choices decisions.now) →
-        IsReasonedExact found) }
+        IsReasonedExact avoided.now found) }
 {
     if depth == 0 || *trials == 0 {
         return Ok(Reasoned::Unsettled);
     }
     *trials -= 1;
-    let feature = match look(alloc, order, aim, decisions, limits)? {
+    let seen = scout(alloc, order, aim, decisions, limits)?;
+    let outlook = seen.outlook;
+    let feature = match outlook {
         Outlook::Lost => {
-            let marks = reason(alloc, order, aim, decisions, limits)?;
+            let marks = reason(alloc, order, aim, decisions, begun, limits)?;
             return Ok(Reasoned::Nothing(marks));
         }
         Outlook::Met(features) => {
@@ -345,21 +526,25 @@ pub(crate) fn search_with_reasons(
         Outlook::Open { feature } => feature,
         Outlook::Unsettled => return Ok(Reasoned::Unsettled),
     };
-    let more = with_one(alloc, decisions, feature, true)?;
-    let one = match search_with_reasons(alloc, order, aim, &more, limits, depth - 1, trials)? {
-        Reasoned::Product(found) => return Ok(Reasoned::Product(found)),
-        Reasoned::Nothing(marks) => {
-            let front = without_last(marks);
-            if !front.last {
-                return Ok(Reasoned::Nothing(front.marks));
-            }
-            Some(front.marks)
-        }
-        Reasoned::Unsettled => None,
+    let aim = seen.aim;
+    let value = !has(avoided, feature);
+    let kept = reserve(*trials);
+    *trials -= kept;
+    let more = with_one(alloc, decisions, feature, value)?;
+    let less = depth - 1;
+    let one = search_with_reasons(
+        alloc, order, aim, &more, avoided, begun, limits, less, trials,
+    )?;
+    *trials += kept;
+    let reason = match first_half(decisions.len(), value, one) {
+        Half::Ends(found) => return Ok(found),
+        Half::GoesOn(reason) => reason,
     };
-    let more = with_one(alloc, decisions, feature, false)?;
-    let other = search_with_reasons(alloc, order, aim, &more, limits, depth - 1, trials)?;
-    let found = both(alloc, decisions.len(), one, other)?;
+    let more = with_one(alloc, decisions, feature, !value)?;
+    let other = search_with_reasons(
+        alloc, order, aim, &more, avoided, begun, limits, less, trials,
+    )?;
+    let found = both(alloc, decisions.len(), value, reason, other)?;
     Ok(found)
 }
 
@@ -377,6 +562,9 @@ pub fn search(
     requires named { AreChoicesOf order.now.diagram.lines (choices decisions.now) }
     requires aim { IsAim order.now.game aim }
     ensures found { IfOk result (IsFound order.now.game order.now.diagram aim (choices decisions.now)) }
+    // An answer that met no limit took a trial.
+    ensures taken { IfOk result (λ found. found ≢ Found.Unsettled → trials.new < trials.old) }
+    ensures left { IfOk result (λ found. trials.new ≤ trials.old) }
     ensures spent { IfOk result (λ found. trials.old ≤ trials.new + most_trials depth) }
     ensures fewer { IfOk result (λ found. (most : ℕ) →
         AreOpenUpTo most order.now.diagram.lines (choices decisions.now) →
@@ -385,7 +573,18 @@ pub fn search(
         (λ found. HasRoom order.now.diagram (choices decisions.now) depth trials.old →
         AimSettles limits.rounds order.now.game order.now.diagram aim (choices decisions.now) → IsFoundExact found) }
 {
-    match search_with_reasons(alloc, order, aim, decisions, limits, depth, trials)? {
+    let begun = decisions.len();
+    match search_with_reasons(
+        alloc,
+        order,
+        aim,
+        decisions,
+        &[],
+        begun,
+        limits,
+        depth,
+        trials,
+    )? {
         Reasoned::Product(example) => Ok(Found::Product(example)),
         Reasoned::Nothing(_) => Ok(Found::Nothing),
         Reasoned::Unsettled => Ok(Found::Unsettled),
@@ -426,6 +625,6 @@ pub fn find(alloc: Global, order: &Order, aim: Aim, limits: Limits) -> Result<Fo
         (λ found. IsSettled order.now.game order.now.diagram limits (Question.Lost aim) (choices order.now.decisions) →
         IsFoundExact found) }
 {
-    let found = search_all(alloc, order, aim, order.decisions(), limits)?;
+    let found = search_all(alloc, order, eased(order, aim), order.decisions(), limits)?;
     Ok(found)
 }

@@ -1,16 +1,16 @@
 //! A search for any product that meets an aim, as unlike another product as possible.
-ghost use Rattle.std.specs.Prelude.{◌≡◌, ◌≢◌, ◌≤◌, ◌+◌, ℕ, false, slice_index_or, IfOk};
+ghost use Rattle.std.specs.Prelude.{◌≡◌, ◌≢◌, ◌≤◌, ◌+◌, count_by, false, length, slice_index_or, IfOk, IsTrue};
 ghost use Rattle.vpg_partial.specs.TableLaws.{AreChoicesOf};
 ghost use Rattle.vpg_why.specs.Explained.{choices};
-ghost use Rattle.vpg_why.specs.Found.{HasRoom, IsSought};
-ghost use Rattle.vpg_why.specs.Suffices.{IsAim, AimSettles, AreOpenUpTo, IsSettled, most_trials};
+ghost use Rattle.vpg_why.specs.Found.{IsSought};
+ghost use Rattle.vpg_why.specs.Suffices.{IsAim, AimSettles, HasTrials, IsSettled, is_open, most_trials};
 
-use crate::asking::with_one;
 use crate::question::{Aim, Limits, Question};
-use crate::searching::{Example, Found, Outlook, look};
+use crate::searching::{Found, Reasoned, search_with_reasons};
 use std::alloc::{AllocError, Global};
+use vpg_guards::Tri;
 use vpg_measure::Order;
-use vpg_partial::Decision;
+use vpg_partial::{Decision, Partial};
 
 // Whether a product has a feature.
 pub(crate) fn has(product: &[bool], feature: u16) -> bool
@@ -22,87 +22,85 @@ pub(crate) fn has(product: &[bool], feature: u16) -> bool
     }
 }
 
-// The search of `search`, for any product. It first tries for each feature the value that a product to be avoided does
-// not have.
-fn seek(
+// A search among all products that agree with the decisions, for any that meets the aim, with these trials.
+fn seek_within(
     alloc: Global,
     order: &Order,
     aim: Aim,
     decisions: &[Decision],
     avoided: &[bool],
     limits: Limits,
-    depth: u32,
     trials: &mut u64,
 ) -> Result<Found, AllocError>
     requires named { AreChoicesOf order.now.diagram.lines (choices decisions.now) }
     requires aim { IsAim order.now.game aim }
     ensures found { IfOk result (IsSought order.now.game order.now.diagram aim (choices decisions.now)) }
-    ensures fewer { IfOk result (λ found. (most : ℕ) →
-        AreOpenUpTo most order.now.diagram.lines (choices decisions.now) →
-        trials.old ≤ trials.new + most_trials (most + 1)) }
-    ensures settled { IfOk result (λ found. HasRoom order.now.diagram (choices decisions.now) depth trials.old →
+    ensures left { IfOk result (λ found. trials.new ≤ trials.old) }
+    ensures settled { IfOk result (λ found.
         AimSettles limits.rounds order.now.game order.now.diagram aim (choices decisions.now) →
-        found ≢ Found.Unsettled) }
+        HasTrials order.now.diagram.lines (choices decisions.now) trials.old → found ≢ Found.Unsettled) }
 {
-    if depth == 0 || *trials == 0 {
-        return Ok(Found::Unsettled);
-    }
-    *trials -= 1;
-    let feature = match look(alloc, order, aim, decisions, limits)? {
-        Outlook::Lost => return Ok(Found::Nothing),
-        Outlook::Met(features) => {
-            return Ok(Found::Product(Example {
-                features,
-                first: false,
-            }));
-        }
-        Outlook::Open { feature } => feature,
-        Outlook::Unsettled => return Ok(Found::Unsettled),
-    };
-    let value = !has(avoided, feature);
-    let more = with_one(alloc, decisions, feature, value)?;
-    let one = seek(alloc, order, aim, &more, avoided, limits, depth - 1, trials)?;
-    if let Found::Product(found) = one {
-        return Ok(Found::Product(found));
-    }
-    let more = with_one(alloc, decisions, feature, !value)?;
-    let other = seek(alloc, order, aim, &more, avoided, limits, depth - 1, trials)?;
-    if let Found::Nothing = one {
-        return Ok(other);
-    }
-    match other {
-        Found::Product(found) => Ok(Found::Product(found)),
-        _ => Ok(Found::Unsettled),
+    let depth = order.diagram().features() as u32 + 1;
+    let begun = decisions.len();
+    match search_with_reasons(
+        alloc, order, aim, decisions, avoided, begun, limits, depth, trials,
+    )? {
+        Reasoned::Product(example) => Ok(Found::Product(example)),
+        Reasoned::Nothing(_) => Ok(Found::Nothing),
+        Reasoned::Unsettled => Ok(Found::Unsettled),
     }
 }
 
-// A search among all products that agree with the decisions, for any that meets the aim.
-pub(crate) fn seek_all(
+/// One of several searches of a line, among all products that agree with the decisions, for any that meets the aim.
+///
+/// A small family has the trials of the limits for each search. Otherwise the line has them for all of its searches,
+/// and each takes a quarter at most of those that are left.
+pub(crate) fn seek_in_line(
     alloc: Global,
     order: &Order,
     aim: Aim,
     decisions: &[Decision],
     avoided: &[bool],
     limits: Limits,
+    is_small: bool,
+    trials: &mut u64,
 ) -> Result<Found, AllocError>
     requires named { AreChoicesOf order.now.diagram.lines (choices decisions.now) }
     requires aim { IsAim order.now.game aim }
     ensures found { IfOk result (IsSought order.now.game order.now.diagram aim (choices decisions.now)) }
-    ensures settled { IfOk result
-        (λ found. IsSettled order.now.game order.now.diagram limits (Question.Lost aim) (choices decisions.now) →
+    ensures left { IfOk result (λ found. trials.new ≤ trials.old) }
+    ensures settled { IfOk result (λ found. IsTrue is_small →
+        IsSettled order.now.game order.now.diagram limits (Question.Lost aim) (choices decisions.now) →
         found ≢ Found.Unsettled) }
 {
-    let mut trials = limits.trials;
-    let depth = order.diagram().features() as u32 + 1;
-    let found = seek(
-        alloc,
-        order,
-        aim,
-        decisions,
-        avoided,
-        limits,
-        depth,
-        &mut trials,
-    )?;
+    if is_small {
+        let mut own = limits.trials;
+        return seek_within(alloc, order, aim, decisions, avoided, limits, &mut own);
+    }
+    let mut own = *trials / 4;
+    *trials -= own;
+    let found = seek_within(alloc, order, aim, decisions, avoided, limits, &mut own)?;
+    *trials += own;
     Ok(found)
+}
+
+/// Whether these trials suffice for each case of the features that are not known.
+pub(crate) fn has_trials(known: &Partial, features: u16, trials: u64) -> bool
+    requires { length known.now ≡ features }
+    ensures { most_trials (count_by is_open known.now + 1) ≤ trials → IsTrue result }
+{
+    if trials == 0 {
+        return false;
+    }
+    let mut cases = 1;
+    for f in 0..features {
+        let tri = known.value(f);
+        if let Tri::Unknown = tri {
+            if trials - cases <= cases {
+                return false;
+            }
+            cases = cases + cases + 1;
+        }
+    }
+    true
 }

@@ -15,7 +15,7 @@ use vpg_measure::{Shape, StrategyFault, Table, is_progress, settle_alone, strate
 
 // Raises a table by certified bounds and, if these do not settle it, by rounds of lifts. Returns whether it is a
 // progress table then.
-fn raise(
+pub(crate) fn raise(
     alloc: Global,
     shape: &Shape,
     dual_shape: &Shape,
@@ -28,7 +28,10 @@ fn raise(
     ensures table { IsTableOf shape.now arena.now table.new }
     ensures below { (other : List ℕ) → IsTableOf shape.now arena.now other → IsProgressTable shape.now arena.now other →
         IsBelowTable table.old other → IsBelowTable table.new other }
-    // It is one if this many rounds alone leave one.
+    // It is on or above what this many rounds alone leave,
+    ensures above { IfOk result (λ settled.
+        IsBelowTable (after_rounds shape.now arena.now limits.rounds table.old) table.new) }
+    // and a progress table if they leave one.
     ensures rounds { IfOk result (λ settled.
         IsProgressTable shape.now arena.now (after_rounds shape.now arena.now limits.rounds table.old) →
         IsTrue settled) }

@@ -24,8 +24,8 @@ returns-in-Product-clause-found c =
     (sought_with order.game order.diagram c.args.aim (choices order.decisions) c.args.feature c.args.value c.in-Product.example
     (rw (c.in-Product.is, c.deref-2.ensures.value, c.in_ok-more.ensures, c.decisions.ensures.decisions) at c.in_ok-example.ensures.found)))
 
-pub seek_all-requires-clause-named : goal.seek_all-requires-clause-named
-seek_all-requires-clause-named c = grind (arith, common_steps)
+pub seek_in_line-requires-clause-named : goal.seek_in_line-requires-clause-named
+seek_in_line-requires-clause-named c = grind (arith, common_steps)
 
 pub returns-in-Product-clause-no : goal.returns-in-Product-clause-no
 returns-in-Product-clause-no c = grind (arith, common_steps)
@@ -55,6 +55,7 @@ pub returns-clause-settled : goal.returns-clause-settled
 returns-clause-settled c s e =
     let order = c.args.order.now in
     (rw (c.deref-2.ensures.value, c.in_ok-more.ensures, c.decisions.ensures.decisions) at c.in_ok-example.ensures.settled)
+    (c.requires.small s.1)
     (settled_more order.game order.diagram c.args.limits c.args.aim (choices order.decisions) (choice c.args.feature c.args.value) c.decisions.ensures.order.diagram c.decisions.ensures.order.named s)
     c.in-Unsettled.is
 

@@ -5,7 +5,7 @@ use Rattle.vpg_why.specs.declared.question.Shown.TheVariants as shown
 use Rattle.vpg_partial.specs.declared.decision.Decision.{Decision}
 use Rattle.vpg_why.specs.Explained.{choices}
 use Rattle.vpg_why.specs.Suffices.{Suffice}
-use Rattle.vpg_why.proofs.KeepingOldest.{IsOwn, going_begun, kept_more, given_then, given_else, gone, more_among, more_named, one_own, own_named}
+use Rattle.vpg_why.proofs.KeepingOldest.{IsOwn, kept_more, given_then, given_else, gone, more_among, more_named, one_own, own_named}
 use Rattle.vpg_why.proofs.repairing.give_up.Goals as goal
 use Rattle.vpg_why.proofs.repairing.give_up.Goals.{in-No, in_default+in_ok-push, then-exact, else-exact}
 

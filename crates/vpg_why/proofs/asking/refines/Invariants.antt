@@ -1,0 +1,7 @@
+use Rattle.std.proofs.Common.{ℕ, ◌<◌, slice_index_or}
+use Rattle.vpg_guards.specs.Known.{IsFinerValue}
+use Rattle.vpg_guards.specs.declared.tri.Tri.TheVariants.{Unknown}
+use Rattle.vpg_why.proofs.asking.refines.Given as goal
+
+abbrev pub invariant-loop-f : goal.invariant-loop-f
+invariant-loop-f l = (g : ℕ) → g < l.f → IsFinerValue (slice_index_or l.known g Unknown) (slice_index_or l.more g Unknown)
