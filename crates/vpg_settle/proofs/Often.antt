@@ -1,7 +1,7 @@
 -- How often an order was swept.
 use Rattle.std.proofs.Common.{◌≡◌, ℕ, zero, suc, ◌+◌, ◌⊎◌, inl, inr, refl, sym, subst, arith}
 use Rattle.vpg_measure.specs.Orders.{OrderView, HarvestView, IsOrderAgain, IsSettledHarvest}
-use Rattle.vpg_settle.specs.Sweeping.{IsSweptOrder, IsSweptBy, swept_of, IsGuessed, AfterGuess, AreSweeps, Leave}
+use Rattle.vpg_settle.specs.Sweeping.{IsSweptOrder, IsSweptBy, swept_of, IsGuessed, AfterGuess, AreSweeps, AreSweepsAlone, Leave}
 use Rattle.vpg_settle.proofs.Repeated.{swept_then}
 
 module _ (lifters : ℕ) where
@@ -29,6 +29,24 @@ module _ (lifters : ℕ) where
       (first, (by, inr (again, (unsettled, is_again, inl (made_then n more again last harvest left made))))) in
       subst (λ (m : ℕ). AreSweeps lifters m order harvest) {x = suc (n + more)} (omega arith) all
 
+  -- the same, of sweeps alone
+  pub alone_then : (n more : ℕ) (order last : OrderView) (harvest : HarvestView) → Leave lifters n order last → AreSweepsAlone lifters more last harvest →
+      AreSweepsAlone lifters (n + more) order harvest
+  alone_then zero more order last harvest left made =
+      let all : AreSweepsAlone lifters more order harvest = subst (λ (o : OrderView). AreSweepsAlone lifters more o harvest) (sym left) made in
+      subst (λ (m : ℕ). AreSweepsAlone lifters m order harvest) {x = more} (omega arith) all
+  alone_then (suc n) more order last harvest (first, again, (by, unsettled, is_again, left)) made =
+      let all : AreSweepsAlone lifters (suc (n + more)) order harvest =
+      (first, (by, inr (again, (unsettled, is_again, alone_then n more again last harvest left made)))) in
+      subst (λ (m : ℕ). AreSweepsAlone lifters m order harvest) {x = suc (n + more)} (omega arith) all
+
+  -- sweeps alone are sweeps, between which there may be guesses
+  pub alone_are : (n : ℕ) (order : OrderView) (harvest : HarvestView) → AreSweepsAlone lifters n order harvest → AreSweeps lifters n order harvest
+  alone_are zero order harvest left = left
+  alone_are (suc n) order harvest (first, (by, inl last)) = (first, (by, inl last))
+  alone_are (suc n) order harvest (first, (by, inr (again, (unsettled, is_again, more)))) =
+      (first, (by, inr (again, (unsettled, is_again, inl (alone_are n again harvest more)))))
+
   -- the same, behind a guess
   pub guessed_then : (n more : ℕ) (order last : OrderView) (harvest : HarvestView) → Leave lifters n order last → AfterGuess more (AreSweeps lifters more) last harvest →
       AfterGuess (n + more) (AreSweeps lifters (n + more)) order harvest
@@ -53,6 +71,9 @@ module _ (lifters : ℕ) where
   -- one sweep
   pub one_sweep : (order : OrderView) (harvest : HarvestView) → IsSweptBy lifters order harvest → AreSweeps lifters 1 order harvest
   one_sweep order harvest by = (harvest, (by, inl (refl, refl)))
+
+  pub one_alone : (order : OrderView) (harvest : HarvestView) → IsSweptBy lifters order harvest → AreSweepsAlone lifters 1 order harvest
+  one_alone order harvest by = (harvest, (by, inl (refl, refl)))
 
 -- a guess, and sweeps from there
 pub guess_then : (lifters n : ℕ) (order next : OrderView) (raised harvest : HarvestView) → IsGuessed order raised → IsOrderAgain next raised → AreSweeps lifters n next harvest →

@@ -103,6 +103,16 @@ Leave lifters (suc n) order last =
     (first : HarvestView) × (again : OrderView) ×
     (IsSweptBy lifters order first × (¬ IsSettledHarvest first) × IsOrderAgain again first × Leave lifters n again last)
 
+-- Exactly this many sweeps made the harvest of the order, one after another, and no guess did. Only the last may have
+-- settled it.
+abbrev pub AreSweepsAlone : ℕ → ℕ → OrderView → HarvestView → Type 0
+AreSweepsAlone lifters zero order harvest = IsLeft order harvest
+AreSweepsAlone lifters (suc n) order harvest =
+    (first : HarvestView) × (IsSweptBy lifters order first
+    × (((n ≡ 0) × (harvest ≡ first)) ⊎
+    ((again : OrderView) ×
+    ((¬ IsSettledHarvest first) × IsOrderAgain again first × AreSweepsAlone lifters n again harvest))))
+
 -- settling made the harvest of the order: this many sweeps, and certified guesses before or between them
 abbrev pub Settles : ℕ → ℕ → OrderView → HarvestView → Type 0
 Settles lifters n order harvest = AfterGuess n (AreSweeps lifters n) order harvest

@@ -3,7 +3,7 @@ ghost use Rattle.std.specs.Prelude.{◌≡◌, ◌⊎◌, ◌+◌, ◌<◌, ◌�
 ghost use Rattle.vpg_measure.specs.Lifts.{after_rounds};
 ghost use Rattle.vpg_measure.specs.Orders.{IsSameOrder, IsHarvest, IsSettledOrder, IsSettledHarvest, order_table, harvest_table, order_levels, order_arena};
 ghost use Rattle.vpg_board.specs.Places.{vertices};
-ghost use Rattle.vpg_settle.specs.Sweeping.{IsSweptOrder, IsSweptTo, IsSweptBy, IsGuessed, IsLeft, AreSweeps, Leave, Settles, RoundsSettleOrder, EndsBy, HasEnded};
+ghost use Rattle.vpg_settle.specs.Sweeping.{IsSweptOrder, IsSweptTo, IsSweptBy, IsGuessed, IsLeft, AreSweeps, AreSweepsAlone, Leave, Settles, RoundsSettleOrder, EndsBy, HasEnded};
 
 use std::alloc::Global;
 use std::sync::Wait;
@@ -96,7 +96,7 @@ pub fn sweep_often<G: Gate + Sync, T: Threads + Wait + Sync>(
     ensures settled { IfOk result (λ found. IsSettledHarvest found.harvest) }
     ensures some { IfOk result (λ found. 0 < found.sweeps) }
     ensures few { IfOk result (λ found. found.sweeps ≤ sweeps) }
-    ensures made { IfOk result (λ found. AreSweeps lifters found.sweeps order found.harvest) }
+    ensures made { IfOk result (λ found. AreSweepsAlone lifters found.sweeps order found.harvest) }
     ensures left { IfErr result (λ last. Leave lifters sweeps order last) }
 {
     let mut order = order;
@@ -127,7 +127,7 @@ fn by_sweeps<G: Gate + Sync, T: Threads + Wait + Sync>(
     requires predecessors { predecessors.now.vertices ≡ vertices order }
     ensures swept { IsSweptOrder order sweeps result.harvest }
     ensures few { result.sweeps ≤ sweeps }
-    ensures made { AreSweeps lifters result.sweeps order result.harvest }
+    ensures made { AreSweepsAlone lifters result.sweeps order result.harvest }
     ensures ended { IsSettledHarvest result.harvest ⊎ (result.sweeps ≡ sweeps) }
     ensures none { sweeps ≡ 0 → (which : Which) → harvest_table which result.harvest ≡ order_table which order }
 {
@@ -350,6 +350,9 @@ pub fn swept<G: Gate + Sync, T: Threads + Wait + Sync>(
     // At most this many sweeps, each by this many lifters, and certified guesses made the harvest.
     ensures few { result.sweeps ≤ sweeps }
     ensures made { Settles lifters result.sweeps order result.harvest }
+
+    // If at most four sweeps are asked for, there is no guess.
+    ensures alone { sweeps ≤ 4 → AreSweepsAlone lifters result.sweeps order result.harvest }
 
     // If the harvest isn't settled, all sweeps were made; of 1,000,000 or more at least 17.
     ensures ended { HasEnded sweeps result.sweeps result.harvest }

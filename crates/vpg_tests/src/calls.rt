@@ -68,6 +68,8 @@ pub enum RowCall {
     Page(&'static str),
     /// A further watch. Those before stay.
     Watch,
+    /// A further watch, from the session's front. Those before stay.
+    WatchFrom,
     /// Drops all watches.
     Unwatch,
     /// The sheet that the last watch reads.
@@ -217,8 +219,11 @@ fn watch_all<S: Calls, R: Wait + Abort + AllocGlobal>(
         require(rt, watched == Answer::Done, "a further watch");
     }
     let last = hand.visits(rt, office, By::One, RowCall::Watch);
+    let from = hand.visits(rt, office, By::One, RowCall::WatchFrom);
     hand.looks(rt, By::One, RowCall::Unwatch);
-    last == Answer::NoPlace && hand.visits(rt, office, By::One, RowCall::Watch) == Answer::Done
+    last == Answer::NoPlace
+        && from == last
+        && hand.visits(rt, office, By::One, RowCall::Watch) == Answer::Done
 }
 
 /// Undoes or redoes a change. After that a token of the same serial is held, also if it is refused.
@@ -251,9 +256,8 @@ pub fn answered<S: Calls, R: Wait + Abort + AllocGlobal>(
         RowCall::Undo(at) | RowCall::Redo(at) => turned(rt, office, hand, by, at, call),
         RowCall::Keep(at) | RowCall::Forget(at) => hand.changes(rt, office, by, at, call),
         RowCall::Verdict(vertex) if vertex < 2 => hand.verdict(rt, office, by, vertex),
-        RowCall::Watch | RowCall::Join | RowCall::Meet | RowCall::Close => hand.visits(
-            rt, office, by, call,
-        ),
+        RowCall::Watch | RowCall::WatchFrom | RowCall::Join => hand.visits(rt, office, by, call),
+        RowCall::Meet | RowCall::Close => hand.visits(rt, office, by, call),
         RowCall::Unwatch | RowCall::Sees | RowCall::Number | RowCall::Calls => hand.looks(
             rt, by, call,
         ),

@@ -16,9 +16,9 @@ use vpg_settle::{LAST_SWEEPS, MANY_SWEEPS, swept};
 use vpg_verdict::Which::Hopeful;
 
 /// The number of vertices that climb. They have odd priorities of their own, so the top is 2^61.
-const CLIMBING: u32 = 61;
+pub(crate) const CLIMBING: u32 = 61;
 
-const TOP: u64 = 1 << 61;
+pub(crate) const TOP: u64 = 1 << 61;
 
 /// The number of further vertices of the large game, with two edges each.
 const MANY: u32 = 35_000;
@@ -26,7 +26,7 @@ const MANY: u32 = 35_000;
 /// Returns the order without decisions of a game that no rounds of lifts settle. The first vertex of Even is a loop of
 /// priority 1. Sixty of greater odd priorities lead to it, and this many more of priority 0, each also to the vertex
 /// before it.
-fn climb_of<R: Abort + AllocGlobal>(rt: &R, more: u32) -> Order {
+pub(crate) fn climb_of<R: Abort + AllocGlobal>(rt: &R, more: u32) -> Order {
     let mut text = String::new(rt.alloc());
     let mut priority = 1u32;
     for v in 0..CLIMBING {

@@ -9,7 +9,9 @@ use std::process::Abort;
 use std::sync::Wait;
 use std::test::*;
 use vpg_measure::Harvest;
-use vpg_office::{Fault, Front, Never, Office, Redo, Returned, Session, Terms, Undo, read};
+use vpg_office::{
+    Fault, Front, Never, NotWatched, Office, Redo, Returned, Session, Terms, Undo, read,
+};
 use vpg_watch::{Watch, WatchFault};
 
 /// A session with its front.
@@ -346,6 +348,18 @@ impl<L: Terms> Calls for Hand<L> {
                 }
                 Err(_) => Answer::NoPlace,
             },
+            RowCall::WatchFrom => {
+                let seats = &mut self.sitting.seats;
+                let seat = seats.get_mut(by as usize).expect(rt, "no session");
+                match office.watch_from(rt, rt.alloc(), &seat.front) {
+                    Ok(watch) => {
+                        given(rt, self.sitting.watches.push(watch));
+                        Answer::Done
+                    }
+                    Err(NotWatched::NoPlace) => Answer::NoPlace,
+                    Err(NotWatched::Memory) => rt.panic("no memory"),
+                }
+            }
             RowCall::Join => match office.join(rt) {
                 Ok((session, front)) => Answer::Joined(session.number(), front.len()),
                 Err(_) => Answer::NoPlace,

@@ -1,7 +1,7 @@
 use Rattle.std.proofs.Common.{◌≡◌, ◌∙◌, ◌+◌, ℕ, ap, subst, sym, arith}
 use Rattle.vpg_measure.specs.Orders.{OrderView, order_table}
-use Rattle.vpg_settle.specs.Sweeping.{IsSweptOrder, AreSweeps, Leave}
-use Rattle.vpg_settle.proofs.Often.{made_then, swept_on}
+use Rattle.vpg_settle.specs.Sweeping.{IsSweptOrder, AreSweepsAlone, Leave}
+use Rattle.vpg_settle.proofs.Often.{alone_then, swept_on}
 use Rattle.vpg_settle.proofs.sweeping.by_sweeps.Goals as goal
 
 pub returns-in-Ok-clause-none : goal.returns-in-Ok-clause-none
@@ -14,8 +14,8 @@ returns-in-Err-clause-swept g c =
 
 pub returns-in-Err-clause-made : goal.returns-in-Err-clause-made
 returns-in-Err-clause-made g c =
-    subst (λ (n : ℕ). AreSweeps c.args.lifters n c.args.order c.by_rounds.result) (omega arith)
-    (made_then c.args.lifters c.args.sweeps 0 c.args.order c.in-Err.order c.by_rounds.result c.in-Err.ensures.left
+    subst (λ (n : ℕ). AreSweepsAlone c.args.lifters n c.args.order c.by_rounds.result) (omega arith)
+    (alone_then c.args.lifters c.args.sweeps 0 c.args.order c.in-Err.order c.by_rounds.result c.in-Err.ensures.left
     (record { page = c.by_rounds.ensures.swept.page; same = c.by_rounds.ensures.tables }))
 
 pub returns-in-Err-clause-none : goal.returns-in-Err-clause-none

@@ -1,7 +1,7 @@
 use Rattle.std.proofs.Common.{◌∙◌, ◌+◌, ℕ, subst, sym, arith}
 use Rattle.vpg_measure.specs.Orders.{HarvestView, IsSettledHarvest}
-use Rattle.vpg_settle.specs.Sweeping.{IsSweptOrder, AreSweeps, Leave}
-use Rattle.vpg_settle.proofs.Often.{left_more, made_then, one_sweep, swept_on}
+use Rattle.vpg_settle.specs.Sweeping.{IsSweptOrder, AreSweepsAlone, Leave}
+use Rattle.vpg_settle.proofs.Often.{left_more, alone_then, one_alone, swept_on}
 use Rattle.vpg_settle.proofs.Repeated.{settled_early}
 use Rattle.vpg_settle.proofs.sweeping.sweep_often.Goals as goal
 
@@ -20,8 +20,8 @@ pub returns-then-check-clause-made : goal.returns-then-check-clause-made
 returns-then-check-clause-made g c =
     let now = c.loop-done.order in
     let harvest = c.sweep-harvest.result in
-    subst (λ (h : HarvestView). AreSweeps c.args.lifters (c.loop-done.done + 1) c.args.order h) (sym c.noted.ensures)
-    (made_then c.args.lifters c.loop-done.done 1 c.args.order now harvest c.loop-done.invariant.left (one_sweep c.args.lifters now harvest c.sweep-harvest.ensures.by))
+    subst (λ (h : HarvestView). AreSweepsAlone c.args.lifters (c.loop-done.done + 1) c.args.order h) (sym c.noted.ensures)
+    (alone_then c.args.lifters c.loop-done.done 1 c.args.order now harvest c.loop-done.invariant.left (one_alone c.args.lifters now harvest c.sweep-harvest.ensures.by))
 
 pub loop-done-preserved : goal.loop-done-preserved
 loop-done-preserved g c = record {

@@ -2,7 +2,7 @@ use Rattle.std.proofs.Common.{◌≡◌, ◌+◌, ◌-◌, ◌≤◌, ℕ, ◌�
 use Rattle.std.specs.Prelude.{Option, IfSome, sum}
 use Rattle.vpg_measure.specs.Orders.{OrderView, HarvestView, IsSettledHarvest}
 use Rattle.vpg_settle.specs.Sweeping.{IsSweptOrder, IsSweptTo, Leave, HasEnded, swept_of}
-use Rattle.vpg_settle.proofs.Often.{guessed_then}
+use Rattle.vpg_settle.proofs.Often.{guessed_then, alone_are}
 use Rattle.vpg_settle.proofs.Repeated.{settled_early, swept_to, swept_first}
 use Rattle.vpg_settle.proofs.Settled.{settles_all, ended_by, ended_later}
 use Rattle.vpg_settle.proofs.sweeping.swept.Goals as goal
@@ -36,7 +36,8 @@ returns-then-sweeps-le-FEW_SWEEPS-clause-ended g c = ended_here c.args.sweeps c.
 
 pub returns-then-sweeps-le-FEW_SWEEPS-clause-rounds : goal.returns-then-sweeps-le-FEW_SWEEPS-clause-rounds
 returns-then-sweeps-le-FEW_SWEEPS-clause-rounds g c = λ k few bound settle.
-    settles_all c.args.lifters c.by_sweeps.result.sweeps c.args.sweeps k c.args.order c.by_sweeps.result.harvest c.game-game.ensures.order c.by_sweeps.ensures.swept (inl c.by_sweeps.ensures.made)
+    settles_all c.args.lifters c.by_sweeps.result.sweeps c.args.sweeps k c.args.order c.by_sweeps.result.harvest c.game-game.ensures.order c.by_sweeps.ensures.swept
+    (inl (alone_are c.args.lifters c.by_sweeps.result.sweeps c.args.order c.by_sweeps.result.harvest c.by_sweeps.ensures.made))
     (ended_here c.args.sweeps c.by_sweeps.result.sweeps c.by_sweeps.result.harvest c.by_sweeps.ensures.ended) few bound settle
 
 pub returns-in-Ok-clause-swept : goal.returns-in-Ok-clause-swept
@@ -88,3 +89,9 @@ returns-clause-rounds g c = λ k few bound settle.
     (swept_later c.args.lifters c.args.order c.in-Err.order harvest c.args.sweeps (c.args.sweeps - 1) goal_is all c.goal_of-goal.ensures.goal c.in-Err.ensures.left c.by_guesses-more.ensures.swept)
     (guessed_then c.args.lifters 1 more c.args.order c.in-Err.order harvest c.in-Err.ensures.left c.by_guesses-more.ensures.made)
     (ended_later goal_is c.args.sweeps (c.args.sweeps - 1) more harvest all c.goal_of-goal.ensures.many c.by_guesses-more.ensures.ended) few bound settle
+
+pub returns-then-sweeps-le-FEW_SWEEPS-clause-made : goal.returns-then-sweeps-le-FEW_SWEEPS-clause-made
+returns-then-sweeps-le-FEW_SWEEPS-clause-made g c = inl (alone_are c.args.lifters c.by_sweeps.result.sweeps c.args.order c.by_sweeps.result.harvest c.by_sweeps.ensures.made)
+
+pub returns-in-Ok-clause-made : goal.returns-in-Ok-clause-made
+returns-in-Ok-clause-made g c = inl (alone_are c.args.lifters c.in-Ok.swept.sweeps c.args.order c.in-Ok.swept.harvest c.in-Ok.ensures.made)
