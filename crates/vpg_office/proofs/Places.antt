@@ -1,5 +1,6 @@
 -- The tokens of the row that show the log.
 use Rattle.std.proofs.Common.{◌≡◌, ◌≢◌, ◌⊎◌, Option, Some, ℕ, zero, suc, ◌+◌, ◌-◌, ◌<◌, ◌≤◌, ◌==◌, cond, List, [], ◌∷◌, ◌++◌, length, take, drop, get_or, refl, sym, ap, ◌∙◌, subst, ⊎_elim, inl, inr, arith, length-append, add-one}
+use Rattle.std.proofs.lemmas.Bool.{cases_lt}
 use Rattle.std.proofs.lemmas.Bool.Decides.{nat_tests}
 use Rattle.std.proofs.lemmas.List.{take-append-le, length-map}
 use mathlib.Core.Option.{some, some-injective, some-ne-none}
@@ -11,7 +12,7 @@ use Rattle.vpg_game.specs.Game.{NamedGame}
 use Rattle.vpg_desk.specs.Book.{Family, opened}
 use Rattle.vpg_desk.specs.History.{Event}
 use Rattle.vpg_office.specs.Fronts.{family_between}
-use Rattle.vpg_office.specs.Kept.{IsEntryOf, IsInRow, IsLacking, ShowsEach, IsFront, IsChronicle, line, lines_of, story, story_to}
+use Rattle.vpg_office.specs.Kept.{IsElsewhere, IsEntryOf, IsInRow, IsLacking, IsShownAt, ShowsEach, IsFront, IsChronicle, line, lines_of, story, story_to}
 use Rattle.vpg_office.specs.Story.{Line, line_of, lines_by, events_of, IsStory}
 use Rattle.vpg_office.specs.declared.asked.Answer.{Answer}
 use Rattle.vpg_office.specs.declared.asked.Answer.TheVariants.{Spent}
@@ -156,6 +157,13 @@ lacking {row} {game} {diagram} {limit} places count last place told answer front
   other = λ q at alike. other q at (alike ∙ ap (λ (p : Where Entry). p.index) same);
 }
 
+same_default : (places : List (Where Entry)) (i : ℕ) (d : Where Entry) → i < length places → get_or places i d ≡ get_or places i (get_or places i d)
+same_default places i d low = some-injective (get_or places i d) (get_or places i (get_or places i d)) (sym (get_at places i d low) ∙ get_at places i (get_or places i d) low)
+
+-- the entry's story, with a line's answer
+its_story : (xs : List Line) (l : Line) (e : Entry) → IsEntryOf xs l.session l.asked e → xs ++ l ∷ [] ≡ story e l.answer
+its_story xs l e is = sym (λ i. is.before i ++ line (is.session i) (is.asked i) l.answer ∷ [])
+
 module _ (row : Shelves) (game : NamedGame) (diagram : NamedDiagram) (c : Chronicle) (newest : List Event) (kept : IsChronicle row game diagram c newest) where
   abbrev F : Family
   F = family_between game diagram
@@ -198,3 +206,46 @@ module _ (row : Shelves) (game : NamedGame) (diagram : NamedDiagram) (c : Chroni
           ∙ ap (events_of F) (sym at.1.2)
           ∙ sym (events-take F opened (count - 1 + 1) (lines_of c.told.items))
           ∙ ap (take (count - 1 + 1)) (sym kept.newest_is)
+
+  -- the log has another call of the row where a front ends that it lacks, or none
+  pub elsewhere : (front : List Event) (place : Where Entry) → IsLacking row F c.places.items front place → IsElsewhere row F newest front
+  elsewhere front place lacks = record {
+    place = place;
+    ends = record { shows = lacks.shows; answer = lacks.answer; is = lacks.ends };
+    other = decide (cases_lt (length newest) (length front));
+  }
+    where
+      long : 0 < length front
+      long = omega (arith, ap length lacks.ends ∙ events-length F opened (story place.value lacks.answer), some_story place.value lacks.answer)
+
+      decide : (length newest < length front) ⊎ (length front ≤ length newest) → (length newest < length front) ⊎ ((q : Where Entry) × (IsShownAt row F (take (length front) newest) q × ¬ (q.index ≡ place.index)))
+      decide (inl shorter) = inl shorter
+      decide (inr fits) = inr (q, (record { shows = there.1.0; answer = l.answer; is = events }, lacks.other q (get_at c.places.items (length front - 1) place low)))
+        where
+          low : length front - 1 < length c.places.items
+          low = omega (arith, long, fits, kept.shows.same, length-map c.told.items line_of, newest_length)
+
+          q : Where Entry
+          q = get_or c.places.items (length front - 1) place
+
+          there : (l : Line) × (Shows row q × IsEntryOf (take (length front - 1) (lines_of c.told.items)) l.session l.asked q.value × (take (length front - 1 + 1) (lines_of c.told.items) ≡ take (length front - 1) (lines_of c.told.items) ++ l ∷ []))
+          there = at_log row c.places.items (lines_of c.told.items) (length front - 1) q (line 0 Settled Spent) kept.shows low (same_default c.places.items (length front - 1) place low)
+
+          l : Line
+          l = there.0
+
+          xs : List Line
+          xs = take (length front - 1) (lines_of c.told.items)
+
+          entry : IsEntryOf xs l.session l.asked q.value
+          entry = there.1.1
+
+          theirs : xs ++ l ∷ [] ≡ story q.value l.answer
+          theirs = its_story xs l q.value entry
+
+          events : take (length front) newest ≡ events_of F (story q.value l.answer)
+          events =
+              ap (take (length front)) kept.newest_is
+              ∙ events-take F opened (length front) (lines_of c.told.items)
+              ∙ ap (λ n. events_of F (take n (lines_of c.told.items))) (omega (arith, long))
+              ∙ ap (events_of F) (there.1.2 ∙ theirs)

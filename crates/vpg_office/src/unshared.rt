@@ -1,9 +1,10 @@
 //! An office that nobody shares.
-ghost use Rattle.std.specs.Prelude.{◌≡◌, ◌+◌, length, true};
+ghost use Rattle.std.specs.Prelude.{◌≡◌, ◌+◌, length, true, false};
 ghost use mathlib.Core.List.{IsPrefix};
 ghost use Rattle.vpg_desk.specs.Book.{opened};
 ghost use Rattle.vpg_desk.specs.History.{book_after};
 ghost use Rattle.vpg_office.specs.Fronts.{IsHistory, family_between};
+ghost use Rattle.vpg_office.specs.Kept.{IsElsewhere};
 
 use crate::chronicle::Row;
 use crate::ended::Ended;
@@ -55,11 +56,17 @@ impl<L: Terms> Unshared<L> {
         self.log.whole()
     }
 
-    /// Whether the front is a beginning of the log.
+    /// Whether the front is a beginning of the log. It isn't if the log lacks its last call.
     pub fn has(&self, front: &Front<L>) -> bool
         ensures begins { result ≡ true → IsPrefix front.now self.now }
+        // So the empty front always is.
+        ensures lacks { result ≡ false →
+            IsElsewhere L.shelves (family_between L.game L.diagram) self.now front.now }
     {
-        self.log.calls.has(&self.row, front).is_ok()
+        match self.log.calls.has(&self.row, front) {
+            Ok(()) => true,
+            Err(_place) => false,
+        }
     }
 
     /// Puts it under the lock again.
