@@ -3,10 +3,12 @@ use Rattle.std.proofs.Common.{◌≡◌, ℕ, Bool, true, false, true≢false, L
 use Rattle.std.specs.Prelude.{OnErr, if◌then◌else◌}
 use Rattle.vpg_diagram.specs.DiagramText.{NamedDiagram, IsTextOf}
 use Rattle.vpg_game.specs.Game.{NamedGame}
-use Rattle.vpg_family.specs.Families.{IsDiagramFault, IsGameFault, IsFamilyFault, IsUnread, SpellsFamily}
+use Rattle.vpg_family.specs.Families.{IsDiagramFault, IsGameFault, IsFamilyFault, IsModelFault, IsUnread, IsOfModel, IsOfPaths, SpellsFamily}
 use Rattle.vpg_family.specs.Pictures.{IsUndrawn, TellsContradiction}
 use Rattle.vpg_family.specs.declared.fault.Fault.{Fault}
 use Rattle.vpg_family.specs.declared.fault.Fault.TheVariants as told
+use Rattle.vpg_family.specs.declared.files.GamePaths.{GamePaths}
+use Rattle.vpg_family.specs.declared.files.GamePaths.TheVariants as paths
 
 -- a text is appended behind another
 pub appended : {A E : Type 0} (r : Result A E) (new mid old front back : List ℕ) → mid ≡ old ++ front → OnOk r (new ≡ mid ++ back) → OnOk r (new ≡ (old ++ front) ++ back)
@@ -60,6 +62,46 @@ module _ (diagram_text game_text system_text requirements_text : List ℕ) where
   pub unread_as : (fault other : Fault) → IsUnread diagram_text game_text system_text requirements_text other → (fault ≡ told.Memory) ⊎ (fault ≡ other) → IsUnread diagram_text game_text system_text requirements_text fault
   unread_as fault other h (inl e) = subst (IsUnread diagram_text game_text system_text requirements_text) (sym e) tt
   unread_as fault other h (inr e) = subst (IsUnread diagram_text game_text system_text requirements_text) (sym e) h
+
+-- ---- the files that faults are of
+
+-- out of memory, or this fault
+pub of_as : (P : Fault → Type 0) (fault other : Fault) → P told.Memory → P other → (fault ≡ told.Memory) ⊎ (fault ≡ other) → P fault
+of_as P fault other memory p (inl e) = subst P (sym e) memory
+of_as P fault other memory p (inr e) = subst P (sym e) p
+
+pub of_diagram : (files : GamePaths) (text : List ℕ) (fault : Fault) → IsDiagramFault text fault → IsOfPaths files fault
+of_diagram (paths.Game path) text (told.Diagram fault) h = tt
+of_diagram (paths.Game path) text told.Memory h = tt
+of_diagram (paths.Game path) text _ h = absurd h
+of_diagram (paths.Model files) text (told.Diagram fault) h = tt
+of_diagram (paths.Model files) text told.Memory h = tt
+of_diagram (paths.Model files) text _ h = absurd h
+of_diagram (paths.System path) text (told.Diagram fault) h = tt
+of_diagram (paths.System path) text told.Memory h = tt
+of_diagram (paths.System path) text _ h = absurd h
+
+pub of_family : (files : GamePaths) (diagram_text game_text : List ℕ) (fault : Fault) → IsFamilyFault diagram_text game_text fault → IsOfPaths files fault
+of_family (paths.Game path) diagram_text game_text (told.Game fault) h = tt
+of_family (paths.Model files) diagram_text game_text (told.Game fault) h = tt
+of_family (paths.System path) diagram_text game_text (told.Game fault) h = tt
+of_family files diagram_text game_text (told.Diagram fault) h = of_diagram files diagram_text (told.Diagram fault) h
+of_family files diagram_text game_text told.Memory h = of_diagram files diagram_text told.Memory h
+of_family files diagram_text game_text _ h = absurd h
+
+-- the diagram's file cannot be read, whatever else is named
+pub of_no_diagram : (files : GamePaths) (fault : Fault) → (fault ≡ told.Memory) ⊎ (fault ≡ told.DiagramUnreadable) → IsOfPaths files fault
+of_no_diagram (paths.Game path) fault h = of_as (IsOfPaths (paths.Game path)) fault told.DiagramUnreadable tt tt h
+of_no_diagram (paths.Model files) fault h = of_as (IsOfPaths (paths.Model files)) fault told.DiagramUnreadable tt tt h
+of_no_diagram (paths.System path) fault h = of_as (IsOfPaths (paths.System path)) fault told.DiagramUnreadable tt tt h
+
+pub of_model : (diagram : NamedDiagram) (system_text requirements_text : List ℕ) (fault : Fault) → IsModelFault diagram system_text requirements_text fault → IsOfModel fault
+of_model diagram system_text requirements_text (told.System fault) h = tt
+of_model diagram system_text requirements_text (told.Requirements fault) h = tt
+of_model diagram system_text requirements_text (told.TooManyParts name) h = tt
+of_model diagram system_text requirements_text (told.Model fault) h = tt
+of_model diagram system_text requirements_text told.Memory h = tt
+of_model diagram system_text requirements_text _ h = absurd h
 
 -- ---- results that failed or did not
 

@@ -4,10 +4,11 @@ use Rattle.std.specs.Prelude.{◌≡◌, ℕ, zero, suc, List, [], ◌∷◌, �
 use Rattle.vpg_diagram.specs.DiagramText.{NamedDiagram}
 use Rattle.vpg_game.specs.Game.{NamedGame, vertex_ids}
 use Rattle.vpg_game.specs.Grammar.{File, IsFile, file_text}
-use Rattle.vpg_names.specs.Spelled.{told_by}
+use Rattle.vpg_names.specs.Spelled.{Told, told_by}
 use Rattle.vpg_script.specs.Script.{is_nonempty}
 use Rattle.vpg_script.specs.Calling.{Calling}
 use Rattle.vpg_family.specs.Families.{SpellsFamily, AreTextsOf}
+use Rattle.vpg_family.specs.Pictures.{TellsNames}
 use Rattle.vpg_family.specs.declared.files.GamePaths.{GamePaths}
 
 abbrev pub one_calling : List ℕ → Option ℕ → List Calling
@@ -65,3 +66,9 @@ pub record IsCalledFamily (files : GamePaths) (diagram : NamedDiagram) (game : N
   pub spelled : SpellsFamily diagram_text game_text diagram game
   pub texts : AreTextsOf files diagram_text game_text names vertices
   pub called : AreCallings game game_text names vertices callings
+
+-- Such a family, and the names and the start that are told by the same text of its game.
+pub record IsNamedFamily (files : GamePaths) (diagram : NamedDiagram) (game : NamedGame) (callings : List Calling)
+    (names : Told) : Type 0 where
+  pub family : IsCalledFamily files diagram game callings
+  pub told : TellsNames family.game_text names

@@ -1,5 +1,5 @@
 -- The texts of a family, the words that name a product, and the faults that report a refusal of either.
-use Rattle.std.specs.Prelude.{◌≡◌, ◌≢◌, ℕ, ⊤, Bool, List, map, take, Some, slice_get, All, Contains}
+use Rattle.std.specs.Prelude.{◌≡◌, ◌≢◌, ℕ, ⊤, Bool, List, [], map, take, Some, slice_get, All, Contains}
 use Rattle.std.specs.List.{list_any}
 use Rattle.std.specs.Str.{bytes_eq}
 use Rattle.std.specs.String.{string_bytes}
@@ -111,13 +111,17 @@ abbrev pub IsNoModel : (diagram_text system_text requirements_text : List ℕ) �
 IsNoModel diagram_text system_text requirements_text fault = (diagram : NamedDiagram) ×
     IsTextOf diagram_text diagram × IsModelFault diagram system_text requirements_text fault
 
--- The fault of files that are no family, by the texts that were read by then. A fault of the game, or of the files in
--- its place, comes only if the text of the diagram spells one.
+-- The fault of files that are no family, by the texts that were read by then: one that was not read is empty. A fault of
+-- the game, or of the files in its place, comes only if the text of the diagram spells one.
 abbrev pub IsUnread : (diagram_text game_text system_text requirements_text : List ℕ) → Fault → Type 0
-IsUnread diagram_text game_text system_text requirements_text told.DiagramUnreadable = ⊤
-IsUnread diagram_text game_text system_text requirements_text told.GameUnreadable = IsSomeDiagram diagram_text
-IsUnread diagram_text game_text system_text requirements_text told.SystemUnreadable = IsSomeDiagram diagram_text
-IsUnread diagram_text game_text system_text requirements_text told.RequirementsUnreadable = IsSomeDiagram diagram_text
+IsUnread diagram_text game_text system_text requirements_text told.DiagramUnreadable =
+    (diagram_text ≡ []) × (game_text ≡ []) × (system_text ≡ []) × (requirements_text ≡ [])
+IsUnread diagram_text game_text system_text requirements_text told.GameUnreadable =
+    IsSomeDiagram diagram_text × (game_text ≡ []) × (system_text ≡ []) × (requirements_text ≡ [])
+IsUnread diagram_text game_text system_text requirements_text told.SystemUnreadable =
+    IsSomeDiagram diagram_text × (game_text ≡ []) × (system_text ≡ []) × (requirements_text ≡ [])
+IsUnread diagram_text game_text system_text requirements_text told.RequirementsUnreadable =
+    IsSomeDiagram diagram_text × (game_text ≡ []) × (requirements_text ≡ [])
 IsUnread diagram_text game_text system_text requirements_text (told.System fault) =
     IsNoModel diagram_text system_text requirements_text (told.System fault)
 IsUnread diagram_text game_text system_text requirements_text (told.Requirements fault) =
@@ -127,6 +131,37 @@ IsUnread diagram_text game_text system_text requirements_text (told.TooManyParts
 IsUnread diagram_text game_text system_text requirements_text (told.Model fault) =
     IsNoModel diagram_text system_text requirements_text (told.Model fault)
 IsUnread diagram_text game_text system_text requirements_text fault = IsFamilyFault diagram_text game_text fault
+
+-- the fault may be one of the files of a diagram and a game
+abbrev pub IsOfGame : Fault → Type 0
+IsOfGame told.SystemUnreadable = ⊥
+IsOfGame told.RequirementsUnreadable = ⊥
+IsOfGame (told.System fault) = ⊥
+IsOfGame (told.Requirements fault) = ⊥
+IsOfGame (told.TooManyParts name) = ⊥
+IsOfGame (told.Model fault) = ⊥
+IsOfGame fault = ⊤
+
+-- or of a diagram, a system and its requirements
+abbrev pub IsOfModel : Fault → Type 0
+IsOfModel told.GameUnreadable = ⊥
+IsOfModel fault = ⊤
+
+-- or of a diagram and a system that is drawn
+abbrev pub IsOfSystem : Fault → Type 0
+IsOfSystem told.GameUnreadable = ⊥
+IsOfSystem told.RequirementsUnreadable = ⊥
+IsOfSystem (told.System fault) = ⊥
+IsOfSystem (told.Requirements fault) = ⊥
+IsOfSystem (told.TooManyParts name) = ⊥
+IsOfSystem (told.Model fault) = ⊥
+IsOfSystem fault = ⊤
+
+-- the fault may be one of the files of these paths
+abbrev pub IsOfPaths : GamePaths → Fault → Type 0
+IsOfPaths (paths.Game path) fault = IsOfGame fault
+IsOfPaths (paths.Model files) fault = IsOfModel fault
+IsOfPaths (paths.System path) fault = IsOfSystem fault
 
 -- the family of some texts
 abbrev pub IsSpelled : NamedDiagram → NamedGame → Type 0

@@ -6,7 +6,7 @@ ghost use Rattle.vpg_diagram.specs.DiagramText.{IsTextOf};
 ghost use Rattle.vpg_diagram.specs.FeatureDiagram.{feature_count};
 ghost use Rattle.vpg_formula.specs.EntryCode.{earlier_of};
 ghost use Rattle.vpg_family.specs.Made.{AreTextsMadeOf, IsMadeBy};
-ghost use Rattle.vpg_family.specs.Families.{IsSpelled, IsUnread, IsSomeDiagram, IsModelledBy, AreTextsOf, IsFamilyOf};
+ghost use Rattle.vpg_family.specs.Families.{IsSpelled, IsUnread, IsOfGame, IsOfModel, IsOfSystem, IsOfPaths, IsSomeDiagram, IsModelledBy, AreTextsOf, IsFamilyOf};
 
 use crate::family::{Family, read_diagram};
 use crate::fault::Fault;
@@ -114,8 +114,9 @@ fn not_read(
     requirements: Vec<u8>,
 ) -> Unread
     requires { IsUnread diagram.items [] system.items requirements.items fault }
-    ensures { IsUnread result.texts.diagram.items result.texts.game.items result.texts.system.items
+    ensures unread { IsUnread result.texts.diagram.items result.texts.game.items result.texts.system.items
         result.texts.requirements.items result.fault }
+    ensures fault { result.fault ≡ fault }
 {
     Unread {
         fault,
@@ -142,6 +143,7 @@ fn game_texts<R: Files + AllocGlobal>(
     ensures none { IfOk result (λ texts. texts.behaviour ≡ None) }
     ensures refused { IfErr result (λ unread. IsUnread unread.texts.diagram.items unread.texts.game.items
         unread.texts.system.items unread.texts.requirements.items unread.fault) }
+    ensures of_game { IfErr result (λ unread. IsOfGame unread.fault) }
 {
     match read_file(rt, path, Fault::GameUnreadable) {
         Ok(game) => Ok(Texts {
@@ -168,6 +170,7 @@ fn system_texts<R: Files + AllocGlobal>(
     ensures none { IfOk result (λ texts. texts.behaviour ≡ None) }
     ensures refused { IfErr result (λ unread. IsUnread unread.texts.diagram.items unread.texts.game.items
         unread.texts.system.items unread.texts.requirements.items unread.fault) }
+    ensures of_system { IfErr result (λ unread. IsOfSystem unread.fault) }
 {
     match read_file(rt, path, Fault::SystemUnreadable) {
         Ok(system) => Ok(Texts {
@@ -197,6 +200,7 @@ fn made_texts(
     ensures made { IfOk result (λ texts. IsMadeBy texts.diagram.items texts.game.items texts.behaviour) }
     ensures refused { IfErr result (λ unread. IsUnread unread.texts.diagram.items unread.texts.game.items
         unread.texts.system.items unread.texts.requirements.items unread.fault) }
+    ensures of_model { IfErr result (λ unread. IsOfModel unread.fault) }
 {
     match model_of(alloc, diagram, &system, &requirements) {
         Ok(
@@ -233,6 +237,7 @@ fn model_texts<R: Files + AllocGlobal>(
     ensures made { IfOk result (λ texts. IsMadeBy texts.diagram.items texts.game.items texts.behaviour) }
     ensures refused { IfErr result (λ unread. IsUnread unread.texts.diagram.items unread.texts.game.items
         unread.texts.system.items unread.texts.requirements.items unread.fault) }
+    ensures of_model { IfErr result (λ unread. IsOfModel unread.fault) }
 {
     let system = match read_file(rt, files.system, Fault::SystemUnreadable) {
         Ok(system) => system,
@@ -261,6 +266,8 @@ pub fn read_texts<R: Files + AllocGlobal>(
         AreTextsMadeOf paths.entry.game texts.diagram.items texts.game.items texts.behaviour) }
     ensures refused { IfErr result (λ unread. IsUnread unread.texts.diagram.items unread.texts.game.items
         unread.texts.system.items unread.texts.requirements.items unread.fault) }
+    // It is one of a file that the paths name.
+    ensures of_paths { IfErr result (λ unread. IsOfPaths paths.entry.game unread.fault) }
 {
     let text = match read_file(rt, paths.diagram, Fault::DiagramUnreadable) {
         Ok(text) => text,
@@ -297,6 +304,8 @@ pub fn read_family<R: Files + AllocGlobal>(
     ensures features { IfOk result (λ family. (arc_value family.game).features ≡ feature_count (arc_value family.diagram).lines) }
     ensures refused { IfErr result (λ unread. IsUnread unread.texts.diagram.items unread.texts.game.items
         unread.texts.system.items unread.texts.requirements.items unread.fault) }
+    // It is one of a file that the paths name.
+    ensures of_paths { IfErr result (λ unread. IsOfPaths paths.entry.game unread.fault) }
 {
     let texts = match read_texts(rt, alloc, paths) {
         Ok(texts) => texts,

@@ -6,9 +6,10 @@ ghost use Rattle.vpg_diagram.specs.DiagramText.{NamedDiagram};
 ghost use Rattle.vpg_game.specs.Game.{NamedGame, vertex_ids};
 ghost use Rattle.vpg_formula.specs.EntryCode.{earlier_of};
 ghost use Rattle.vpg_script.specs.Script.{is_nonempty};
-ghost use Rattle.vpg_family.specs.Called.{AreCallings, IsCalledFamily, calling_of, callings_of, entry_calling, entry_callings, text_callings};
+ghost use Rattle.vpg_family.specs.Called.{AreCallings, IsCalledFamily, IsNamedFamily, calling_of, callings_of, entry_calling, entry_callings, text_callings};
 ghost use Rattle.vpg_family.specs.Made.{IsFamilyMadeOf};
-ghost use Rattle.vpg_family.specs.Families.{IsFamilyFault, IsUnread, SpellsFamily};
+ghost use Rattle.vpg_family.specs.Families.{IsFamilyFault, IsUnread, IsOfPaths, SpellsFamily};
+ghost use Rattle.vpg_family.specs.Pictures.{TellsNames};
 
 use crate::family::Family;
 use crate::fault::Fault;
@@ -183,6 +184,8 @@ impl Known {
         // Lines call a vertex by the name that the game's text gives it, and that of a requirement by its name.
         ensures called { IfOk result (λ known. AreCallings (arc_value known.family.game) texts.now.game.items
             (earlier_of texts.now.entries.items) texts.now.vertices.items known.context.callings) }
+        // The names and the start are those in the game's text.
+        ensures names { IfOk result (λ known. TellsNames texts.now.game.items known.names) }
         ensures features { IfOk result (λ known.
             (arc_value known.family.game).features ≡ feature_count (arc_value known.family.diagram).lines) }
         // All that the texts spell is read.
@@ -222,6 +225,9 @@ pub fn read_known<R: Files + AllocGlobal>(
     // Each requirement's name stands for its vertex, if a system and requirements stand in place of the game.
     ensures called { IfOk result (λ known. IsCalledFamily paths.entry.game (arc_value known.family.diagram)
         (arc_value known.family.game) known.context.callings) }
+    // The names and the start are those in the same text of its game.
+    ensures names { IfOk result (λ known. IsNamedFamily paths.entry.game (arc_value known.family.diagram)
+        (arc_value known.family.game) known.context.callings known.names) }
     // The system that its game was made of is kept, and nothing else.
     ensures made { IfOk result (λ known. IsFamilyMadeOf paths.entry.game (arc_value known.family.diagram)
         (arc_value known.family.game) known.context.behaviour) }
@@ -229,6 +235,8 @@ pub fn read_known<R: Files + AllocGlobal>(
         (arc_value known.family.game).features ≡ feature_count (arc_value known.family.diagram).lines) }
     ensures refused { IfErr result (λ unread. IsUnread unread.texts.diagram.items unread.texts.game.items
         unread.texts.system.items unread.texts.requirements.items unread.fault) }
+    // It is one of a file that the paths name.
+    ensures of_paths { IfErr result (λ unread. IsOfPaths paths.entry.game unread.fault) }
 {
     let texts = match read_texts(rt, alloc, paths) {
         Ok(texts) => texts,

@@ -18,3 +18,6 @@ returns-in-Ok-callings_of-clause-called c = record {
 pub returns-in-Ok-callings_of-clause-only : goal.returns-in-Ok-callings_of-clause-only
 returns-in-Ok-callings_of-clause-only c = λ (d : NamedDiagram) (g : NamedGame) h.
     c.in-Ok.ensures.only d g (spelled_there c.args.texts.now.diagram.items c.args.texts.now.game.items c.deref.result.now c.deref-2.result.now d g c.deref.ensures.value c.deref-2.ensures.value h)
+
+pub returns-in-Ok-callings_of-clause-names : goal.returns-in-Ok-callings_of-clause-names
+returns-in-Ok-callings_of-clause-names c = λ features file is text. c.in-Ok-read.ensures.told features file is (c.deref-3.ensures.value ∙ text)
