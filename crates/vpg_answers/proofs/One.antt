@@ -30,7 +30,9 @@ use Rattle.vpg_why.proofs.Next.{explanations_are_one}
 use Rattle.vpg_answers.specs.declared.query.Query.{Query}
 use Rattle.vpg_answers.specs.declared.query.Query.TheVariants as queries
 use Rattle.vpg_answers.specs.Texts.{verdict_word, verdict_line, other_line, lost_line, known_line, conflict_line, names_in, product_line}
-use Rattle.vpg_answers.specs.Answers.{MakeSo, IsReason, identifier_of, TellsVerdict, TellsVertex, TellsKnownBy, TellsFeature, TellsChoice, TellsProduct, TellsExample, TellsLost, TellsOfPage, TellsOfVertex, Tells, HasDoubt, lost_for}
+use Rattle.vpg_serving.specs.Answer.{Answer}
+use Rattle.vpg_serving.proofs.Given.{done_one}
+use Rattle.vpg_answers.specs.Answers.{MakeSo, IsReason, identifier_of, TellsVerdict, TellsVertex, TellsKnownBy, TellsFeature, TellsChoice, TellsConflict, TellsProduct, TellsExample, TellsLost, TellsOfPage, TellsOfVertex, Tells, HasDoubt, lost_for}
 use Rattle.vpg_answers.specs.Laws.{AnswersAreOne}
 use Rattle.vpg_answers.proofs.OneMoves.{tells_moves_one}
 use Rattle.vpg_answers.proofs.OneOffers.{offers_one}
@@ -127,22 +129,25 @@ module _ (scene : Scene) (limits others : Limits) (decisions : List Decision) (i
   known_one feature value one other a b =
       a.2 ∙ ap (known_line scene.names value feature) (reason_one (asks.Known feature value) a.0 b.0 a.1 b.1) ∙ sym b.2
 
-  feature_one : (feature : ℕ) (one other : List ℕ) → TellsFeature scene feature decisions one → TellsFeature scene feature decisions other → one ≡ other
-  feature_one feature one other (inl a) (inl b) = known_one feature true one other a b
-  feature_one feature one other (inl a) (inr (inl b)) = absurd (b.0 (all_make (asks.Known feature true) a.0 true a.1))
-  feature_one feature one other (inl a) (inr (inr b)) = absurd (b.0 (all_make (asks.Known feature true) a.0 true a.1))
-  feature_one feature one other (inr (inl a)) (inl b) = absurd (a.0 (all_make (asks.Known feature true) b.0 true b.1))
-  feature_one feature one other (inr (inl a)) (inr (inl b)) = known_one feature false one other a.1 b.1
-  feature_one feature one other (inr (inl a)) (inr (inr b)) = absurd (b.1 (all_make (asks.Known feature false) a.1.0 true a.1.1))
-  feature_one feature one other (inr (inr a)) (inl b) = absurd (a.0 (all_make (asks.Known feature true) b.0 true b.1))
-  feature_one feature one other (inr (inr a)) (inr (inl b)) = absurd (a.1 (all_make (asks.Known feature false) b.1.0 true b.1.1))
+  feature_one : (feature : ℕ) (one other : Answer) → TellsFeature scene feature decisions one → TellsFeature scene feature decisions other → one ≡ other
+  feature_one feature one other (inl a) (inl b) = done_one (TellsKnownBy scene feature true decisions) (TellsKnownBy scene feature true decisions) one other (known_one feature true one.text other.text) a b
+  feature_one feature one other (inl a) (inr (inl b)) = absurd (b.0 (all_make (asks.Known feature true) a.1.0 true a.1.1))
+  feature_one feature one other (inl a) (inr (inr b)) = absurd (b.0 (all_make (asks.Known feature true) a.1.0 true a.1.1))
+  feature_one feature one other (inr (inl a)) (inl b) = absurd (a.0 (all_make (asks.Known feature true) b.1.0 true b.1.1))
+  feature_one feature one other (inr (inl a)) (inr (inl b)) = done_one (TellsKnownBy scene feature false decisions) (TellsKnownBy scene feature false decisions) one other (known_one feature false one.text other.text) a.1 b.1
+  feature_one feature one other (inr (inl a)) (inr (inr b)) = absurd (b.1 (all_make (asks.Known feature false) a.1.1.0 true a.1.1.1))
+  feature_one feature one other (inr (inr a)) (inl b) = absurd (a.0 (all_make (asks.Known feature true) b.1.0 true b.1.1))
+  feature_one feature one other (inr (inr a)) (inr (inl b)) = absurd (a.1 (all_make (asks.Known feature false) b.1.1.0 true b.1.1.1))
   feature_one feature one other (inr (inr a)) (inr (inr b)) = a.2 ∙ sym b.2
 
-  choice_one : (feature : ℕ) (value : Bool) (one other : List ℕ) → TellsChoice scene feature value decisions one → TellsChoice scene feature value decisions other → one ≡ other
-  choice_one feature value one other (inl a) (inl b) =
+  conflict_one : (feature : ℕ) (value : Bool) (one other : List ℕ) → TellsConflict scene feature value decisions one → TellsConflict scene feature value decisions other → one ≡ other
+  conflict_one feature value one other a b =
       a.2 ∙ ap (conflict_line scene.names (choice feature value)) (reason_one (asks.Conflict feature value) a.0 b.0 a.1 b.1) ∙ sym b.2
-  choice_one feature value one other (inl a) (inr b) = absurd (b.0 (all_make (asks.Conflict feature value) a.0 true a.1))
-  choice_one feature value one other (inr a) (inl b) = absurd (a.0 (all_make (asks.Conflict feature value) b.0 true b.1))
+
+  choice_one : (feature : ℕ) (value : Bool) (one other : Answer) → TellsChoice scene feature value decisions one → TellsChoice scene feature value decisions other → one ≡ other
+  choice_one feature value one other (inl a) (inl b) = done_one (TellsConflict scene feature value decisions) (TellsConflict scene feature value decisions) one other (conflict_one feature value one.text other.text) a b
+  choice_one feature value one other (inl a) (inr b) = absurd (b.0 (all_make (asks.Conflict feature value) a.1.0 true a.1.1))
+  choice_one feature value one other (inr a) (inl b) = absurd (a.0 (all_make (asks.Conflict feature value) b.1.0 true b.1.1))
   choice_one feature value one other (inr a) (inr b) = a.1 ∙ sym b.1
 
   module _ (aim : Aim) where
@@ -211,12 +216,16 @@ module _ (scene : Scene) (limits others : Limits) (decisions : List Decision) (i
   of_page_one whole.Forced one other a b sure also = forced_one scene limits others aims.Any decisions one other a b sure also
   of_page_one whole.Empty one other a b sure also = lost_one aims.Any one other a b sure also
 
-  tells_one : (behaviour : Option Behaviour) (query : Query) (hopeful dual one other : List ℕ) → Tells behaviour scene limits query decisions hopeful dual one → Tells behaviour scene others query decisions hopeful dual other →
-      ¬ (HasDoubt one) → ¬ (HasDoubt other) → one ≡ other
-  tells_one behaviour (queries.OfVertex question vertex) hopeful dual one other a b sure also = of_vertex_one behaviour question vertex hopeful dual one other a b sure also
+  tells_one : (behaviour : Option Behaviour) (query : Query) (hopeful dual : List ℕ) (one other : Answer) → Tells behaviour scene limits query decisions hopeful dual one →
+      Tells behaviour scene others query decisions hopeful dual other → ¬ (HasDoubt one.text) → ¬ (HasDoubt other.text) → one ≡ other
+  tells_one behaviour (queries.OfVertex question vertex) hopeful dual one other a b sure also =
+      done_one (TellsOfVertex behaviour scene limits question vertex decisions hopeful dual) (TellsOfVertex behaviour scene others question vertex decisions hopeful dual) one other
+      (λ first second. of_vertex_one behaviour question vertex hopeful dual one.text other.text first second sure also) a b
   tells_one behaviour (queries.OfFeature feature) hopeful dual one other a b sure also = feature_one feature one other a b
   tells_one behaviour (queries.OfChoice feature value) hopeful dual one other a b sure also = choice_one feature value one other a b
-  tells_one behaviour (queries.OfPage question) hopeful dual one other a b sure also = of_page_one question one other a b sure also
+  tells_one behaviour (queries.OfPage question) hopeful dual one other a b sure also =
+      done_one (TellsOfPage scene limits question decisions) (TellsOfPage scene others question decisions) one other
+      (λ first second. of_page_one question one.text other.text first second sure also) a b
 
 pub answers_are_one : AnswersAreOne
 answers_are_one behaviour scene limits others query decisions hopeful dual one other a b sure also =

@@ -32,8 +32,9 @@ use Rattle.vpg_why.specs.declared.question.Question.TheVariants as asks
 use Rattle.vpg_why.proofs.Listing.{among_named}
 use Rattle.vpg_checking.specs.Behaviours.{Behaviour}
 use Rattle.vpg_answers.specs.declared.query.Query.{Query}
-use Rattle.vpg_answers.specs.Texts.{verdict_line, other_line, lost_line, known_line, not_known_line, conflict_line, no_conflict_line, product_line, none_line, unsettled_line, offers_text, forced_text}
-use Rattle.vpg_answers.specs.Answers.{identifier_of, TellsVerdict, TellsVertex, TellsKnownBy, IsNotKnown, TellsFeature, TellsChoice, TellsExample, TellsLost, TellsForced, TellsOffers, Tells, lost_for, forced_word, IsAnswer, Appends}
+use Rattle.vpg_answers.specs.Texts.{verdict_line, other_line, lost_line, known_line, conflict_line, product_line, none_line, unsettled_line, offers_text, forced_text}
+use Rattle.vpg_serving.specs.Answer.{Answer}
+use Rattle.vpg_answers.specs.Answers.{identifier_of, TellsVerdict, TellsVertex, TellsKnownBy, IsNotKnown, TellsConflict, TellsFeature, TellsChoice, TellsExample, TellsLost, TellsForced, TellsOffers, Tells, lost_for, forced_word, IsAnswer, Appends}
 use Rattle.vpg_answers.specs.Offers.{AreOffers}
 use Rattle.vpg_answers.specs.declared.offers.Offered.{Offered}
 use Rattle.vpg_answers.specs.Room.{RoundsSettleEach, RoundsSettleFor, SearchEnds}
@@ -50,9 +51,9 @@ module _ (order : OrderView) (is : IsOrder order) where
   listed_below names names_is listed among =
       named_below order.diagram.lines (length names) listed (among_named order.diagram.lines (choices listed) (choices order.decisions) among is.named) (ap length names_is ∙ is.diagram.each_named)
 
-  pub answers : (behaviour : Option Behaviour) (limits : Limits) (query : Query) (before after : List ℕ) → Appends (Tells behaviour scene limits query order.decisions order.hopeful order.dual) before after →
-      Appends (IsAnswer behaviour scene limits query order.decisions order.hopeful order.dual) before after
-  answers behaviour limits query before after (text, (tells, appended)) = (text, (record { diagram = is.diagram.diagram; named = is.named; tells = tells }, appended))
+  pub answers : (behaviour : Option Behaviour) (limits : Limits) (query : Query) (answer : Answer) → Tells behaviour scene limits query order.decisions order.hopeful order.dual answer →
+      IsAnswer behaviour scene limits query order.decisions order.hopeful order.dual answer
+  answers behaviour limits query answer tells = record { diagram = is.diagram.diagram; named = is.named; tells = tells }
 
 module _ (order : OrderView) (names : List (List ℕ)) (names_is : names ≡ order.diagram.names) where
   abbrev page : Scene
@@ -162,7 +163,7 @@ module _ (order : OrderView) (names : List (List ℕ)) (names_is : names ≡ ord
 
   module _ (feature : ℕ) (before after : List ℕ) where
     -- it is known so
-    known_so : (value : Bool) (listed : List Decision) (exact : Bool) → IsTrue exact → Explains (Suffice order.game order.diagram (asks.Known feature value)) order.decisions listed exact →
+    pub known_so : (value : Bool) (listed : List Decision) (exact : Bool) → IsTrue exact → Explains (Suffice order.game order.diagram (asks.Known feature value)) order.decisions listed exact →
         after ≡ before ++ known_line names value feature listed → Appends (TellsKnownBy page feature value order.decisions) before after
     known_so value listed exact sure explains appended = (
       known_line order.diagram.names value feature listed,
@@ -172,34 +173,15 @@ module _ (order : OrderView) (names : List (List ℕ)) (names_is : names ≡ ord
       ),
     )
 
-    pub told_in : (listed : List Decision) (exact : Bool) → IsTrue exact → Explains (Suffice order.game order.diagram (asks.Known feature true)) order.decisions listed exact →
-        after ≡ before ++ known_line names true feature listed → Appends (TellsFeature page feature order.decisions) before after
-    told_in listed exact sure explains appended =
-        let so = known_so true listed exact sure explains appended in
-        (so.0, (inl so.1.0, so.1.1))
-
-    pub told_out : (listed : List Decision) (exact : Bool) → IsTrue exact → Explains (Suffice order.game order.diagram (asks.Known feature false)) order.decisions listed exact →
-        IsNotKnown page feature true order.decisions → after ≡ before ++ known_line names false feature listed → Appends (TellsFeature page feature order.decisions) before after
-    told_out listed exact sure explains not_in appended =
-        let so = known_so false listed exact sure explains appended in
-        (so.0, (inr (inl (not_in, so.1.0)), so.1.1))
-
-    pub told_open : IsNotKnown page feature true order.decisions → IsNotKnown page feature false order.decisions → after ≡ before ++ not_known_line → Appends (TellsFeature page feature order.decisions) before after
-    told_open not_in not_out appended = (not_known_line, (inr (inr (not_in, not_out, refl)), appended))
-
     pub told_conflict : (value : Bool) (listed : List Decision) (exact : Bool) → IsTrue exact → Explains (Suffice order.game order.diagram (asks.Conflict feature value)) order.decisions listed exact →
-        after ≡ before ++ conflict_line names (choice feature value) listed → Appends (TellsChoice page feature value order.decisions) before after
+        after ≡ before ++ conflict_line names (choice feature value) listed → Appends (TellsConflict page feature value order.decisions) before after
     told_conflict value listed exact sure explains appended = (
       conflict_line order.diagram.names (choice feature value) listed,
       (
-        inl (listed, sharp (asks.Conflict feature value) listed exact sure explains, refl),
+        (listed, sharp (asks.Conflict feature value) listed exact sure explains, refl),
         appended ∙ ap (λ (ns : List (List ℕ)). before ++ conflict_line ns (choice feature value) listed) names_is,
       ),
     )
-
-    pub told_none : (value : Bool) → ¬ (Suffice order.game order.diagram (asks.Conflict feature value) (choices order.decisions)) → after ≡ before ++ no_conflict_line →
-        Appends (TellsChoice page feature value order.decisions) before after
-    told_none value none appended = (no_conflict_line, (inr (none, refl), appended))
 
 -- what is told where something was found, or nothing
 pub none_is_not : {X : Type 0} (found : Option X) (P : Type 0) → found ≡ None → IsSome found ↔ P → ¬ P

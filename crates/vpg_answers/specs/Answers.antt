@@ -18,6 +18,7 @@ use Rattle.vpg_script.specs.declared.command.PageQuestion.{PageQuestion}
 use Rattle.vpg_script.specs.declared.command.PageQuestion.TheVariants as whole
 use Rattle.vpg_script.specs.declared.command.VertexQuestion.{VertexQuestion}
 use Rattle.vpg_script.specs.declared.command.VertexQuestion.TheVariants as questions
+use Rattle.vpg_serving.specs.Answer.{Answer, IsDone}
 use Rattle.vpg_texts.specs.Scene.{Scene, table_in}
 use Rattle.vpg_why.specs.Explained.{choices, Explains}
 use Rattle.vpg_why.specs.Products.{MeetsIn, NoneMeetsIn, IsFirstIn, AreNeedsIn}
@@ -33,7 +34,7 @@ use Rattle.vpg_winners.specs.Joined.{PartView}
 use Rattle.vpg_answers.specs.declared.offers.Offered.{Offered}
 use Rattle.vpg_answers.specs.declared.query.Query.{Query}
 use Rattle.vpg_answers.specs.declared.query.Query.TheVariants as queries
-use Rattle.vpg_answers.specs.Texts.{verdict_line, other_line, lost_head, lost_line, known_line, not_known_line, conflict_line, no_conflict_line, product_line, none_line, unsettled_line, offers_text, forced_text, singles_text, several_text, moves_word, moves_text, winners_text, fact_line, mixed_text, empty_line}
+use Rattle.vpg_answers.specs.Texts.{verdict_line, other_line, lost_head, lost_line, known_line, not_known, conflict_line, no_conflict, product_line, none_line, unsettled_line, offers_text, forced_text, singles_text, several_text, moves_word, moves_text, winners_text, fact_line, mixed_text, empty_line}
 use Rattle.vpg_answers.specs.Offers.{AreOffers}
 use Rattle.vpg_answers.specs.Parts.{TellsPart}
 use Rattle.vpg_answers.specs.Repairs.{AreSingles}
@@ -83,20 +84,25 @@ abbrev pub IsNotKnown : Scene → (feature : ℕ) → (value : Bool) → List De
 IsNotKnown scene feature value decisions = ¬ (MakeSo scene (asks.Known feature value) (choices decisions))
 
 -- it is known to be in, or else to be out, or neither
-abbrev pub TellsFeature : Scene → (feature : ℕ) → List Decision → (text : List ℕ) → Type 0
-TellsFeature scene feature decisions text =
-    TellsKnownBy scene feature true decisions text
-    ⊎ (IsNotKnown scene feature true decisions × TellsKnownBy scene feature false decisions text)
-    ⊎ (IsNotKnown scene feature true decisions × IsNotKnown scene feature false decisions × (text ≡ not_known_line))
+abbrev pub TellsFeature : Scene → (feature : ℕ) → List Decision → Answer → Type 0
+TellsFeature scene feature decisions answer =
+    IsDone (TellsKnownBy scene feature true decisions) answer
+    ⊎ (IsNotKnown scene feature true decisions × IsDone (TellsKnownBy scene feature false decisions) answer)
+    ⊎ (IsNotKnown scene feature true decisions × IsNotKnown scene feature false decisions × (answer ≡ not_known))
 
 -- ---- one more decision
 
--- these decisions contradict it, or none do
-abbrev pub TellsChoice : Scene → (feature : ℕ) → (value : Bool) → List Decision → (text : List ℕ) → Type 0
-TellsChoice scene feature value decisions text =
-    ((listed : List Decision) × IsReason scene (asks.Conflict feature value) decisions listed true ×
-    (text ≡ conflict_line scene.names (choice feature value) listed))
-    ⊎ (¬ (MakeSo scene (asks.Conflict feature value) (choices decisions)) × (text ≡ no_conflict_line))
+-- these decisions contradict it
+abbrev pub TellsConflict : Scene → (feature : ℕ) → (value : Bool) → List Decision → (text : List ℕ) → Type 0
+TellsConflict scene feature value decisions text =
+    (listed : List Decision) × IsReason scene (asks.Conflict feature value) decisions listed true ×
+    (text ≡ conflict_line scene.names (choice feature value) listed)
+
+-- some decisions contradict it, or none do
+abbrev pub TellsChoice : Scene → (feature : ℕ) → (value : Bool) → List Decision → Answer → Type 0
+TellsChoice scene feature value decisions answer =
+    IsDone (TellsConflict scene feature value decisions) answer
+    ⊎ (¬ (MakeSo scene (asks.Conflict feature value) (choices decisions)) × (answer ≡ no_conflict))
 
 -- ---- a product
 
@@ -296,23 +302,24 @@ abbrev pub TellsOfPage : Scene → Limits → PageQuestion → List Decision →
 TellsOfPage scene limits whole.Forced decisions text = TellsForced scene limits aims.Any decisions text
 TellsOfPage scene limits whole.Empty decisions text = TellsLost scene limits aims.Any decisions text
 
-abbrev pub Tells : Option Behaviour → Scene → Limits → Query → List Decision → (hopeful dual text : List ℕ) → Type 0
-Tells behaviour scene limits (queries.OfVertex question vertex) decisions hopeful dual text =
-    TellsOfVertex behaviour scene limits question vertex decisions hopeful dual text
-Tells behaviour scene limits (queries.OfFeature feature) decisions hopeful dual text =
-    TellsFeature scene feature decisions text
-Tells behaviour scene limits (queries.OfChoice feature value) decisions hopeful dual text =
-    TellsChoice scene feature value decisions text
-Tells behaviour scene limits (queries.OfPage question) decisions hopeful dual text =
-    TellsOfPage scene limits question decisions text
+-- what answers a query
+abbrev pub Tells : Option Behaviour → Scene → Limits → Query → List Decision → (hopeful dual : List ℕ) → Answer → Type 0
+Tells behaviour scene limits (queries.OfVertex question vertex) decisions hopeful dual answer =
+    IsDone (TellsOfVertex behaviour scene limits question vertex decisions hopeful dual) answer
+Tells behaviour scene limits (queries.OfFeature feature) decisions hopeful dual answer =
+    TellsFeature scene feature decisions answer
+Tells behaviour scene limits (queries.OfChoice feature value) decisions hopeful dual answer =
+    TellsChoice scene feature value decisions answer
+Tells behaviour scene limits (queries.OfPage question) decisions hopeful dual answer =
+    IsDone (TellsOfPage scene limits question decisions) answer
 
--- The text answers the query within these limits, for the page with these decisions and tables: decisions on a
--- diagram's features. Traces are of the system that the game was made of.
+-- It answers the query within these limits, for the page with these decisions and tables: decisions on a diagram's
+-- features. Traces are of the system that the game was made of.
 pub record IsAnswer (behaviour : Option Behaviour) (scene : Scene) (limits : Limits) (query : Query)
-    (decisions : List Decision) (hopeful dual text : List ℕ) : Type 0 where
+    (decisions : List Decision) (hopeful dual : List ℕ) (answer : Answer) : Type 0 where
   pub diagram : IsDiagram scene.lines
   pub named : AreChoicesOf scene.lines (choices decisions)
-  pub tells : Tells behaviour scene limits query decisions hopeful dual text
+  pub tells : Tells behaviour scene limits query decisions hopeful dual answer
 
 -- a text with the property was appended
 abbrev pub Appends : (List ℕ → Type 0) → (before after : List ℕ) → Type 0

@@ -1,7 +1,8 @@
 //! Answers to queries.
-ghost use Rattle.std.specs.Prelude.{◌<◌, length, OnOk};
+ghost use Rattle.std.specs.Prelude.{◌<◌, length, IfOk, OnOk};
 ghost use Rattle.vpg_answers.specs.Answers.{Appends, HasItsSystem, IsAnswer, IsWithin, TellsOfPage, TellsOfVertex};
 ghost use Rattle.vpg_diagram.specs.FeatureDiagram.{feature_count};
+ghost use Rattle.vpg_serving.specs.Answer.{Gives};
 ghost use Rattle.vpg_texts.specs.Scene.{scene_of};
 
 use crate::query::Query;
@@ -12,6 +13,7 @@ use std::alloc::{AllocError, Global};
 use vpg_checking::Behaviour;
 use vpg_measure::Order;
 use vpg_script::{PageQuestion, VertexQuestion};
+use vpg_serving::{Tone, done};
 use vpg_verdict::Which;
 use vpg_why::{Aim, Limits};
 
@@ -71,7 +73,7 @@ fn of_page(
     }
 }
 
-/// Appends the answer to a query.
+/// Appends the answer to a query, and returns its tone.
 fn told(
     alloc: Global,
     order: &Order,
@@ -79,26 +81,27 @@ fn told(
     query: Query,
     limits: Limits,
     out: &mut Vec<u8>,
-) -> Result<(), AllocError>
+) -> Result<Tone, AllocError>
     requires { IsWithin behaviour.now (length order.now.game.vertices) (feature_count order.now.diagram.lines) query }
-    ensures { OnOk result (Appends
+    ensures { IfOk result
+        (λ tone. Gives
         (IsAnswer behaviour.now (scene_of order.now.game order.now.diagram) limits query order.now.decisions
-        order.now.hopeful order.now.dual) out.old.items out.new.items) }
+        order.now.hopeful order.now.dual) tone out.old.items out.new.items) }
 {
     // The invariant of every order, for the proof.
     let _order = order.game();
     match query {
         Query::OfVertex { question, vertex } => {
-            of_vertex(alloc, order, behaviour, question, vertex, limits, out)
+            done(of_vertex(alloc, order, behaviour, question, vertex, limits, out))
         }
         Query::OfFeature { feature } => reasons::feature(alloc, order, feature, out),
         Query::OfChoice { feature, value } => reasons::choice(alloc, order, feature, value, out),
-        Query::OfPage { question } => of_page(alloc, order, question, limits, out),
+        Query::OfPage { question } => done(of_page(alloc, order, question, limits, out)),
     }
 }
 
-/// Appends the answer to a query about an order's page. The one error is out of memory; a part may have been appended
-/// then.
+/// Appends the answer to a query about an order's page, and returns its tone. The one error is out of memory; a part
+/// may have been appended then.
 ///
 /// A trace needs the system that the order's game was made of, over the features of its diagram; no other query does.
 /// The function takes the order, since dropping it costs the prover time: it is dropped only here.
@@ -109,11 +112,12 @@ pub fn answer(
     query: Query,
     limits: Limits,
     out: &mut Vec<u8>,
-) -> Result<(), AllocError>
+) -> Result<Tone, AllocError>
     requires { IsWithin behaviour.now (length order.game.vertices) (feature_count order.diagram.lines) query }
-    ensures { OnOk result (Appends
+    ensures { IfOk result
+        (λ tone. Gives
         (IsAnswer behaviour.now (scene_of order.game order.diagram) limits query order.decisions order.hopeful
-        order.dual) out.old.items out.new.items) }
+        order.dual) tone out.old.items out.new.items) }
 {
     told(alloc, &order, behaviour, query, limits, out)
 }

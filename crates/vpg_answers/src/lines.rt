@@ -1,13 +1,15 @@
 //! The lines of answers.
-ghost use Rattle.std.specs.Prelude.{◌≡◌, ◌<◌, ◌++◌, All, OnOk, false, length, map, slice_index_or};
+ghost use Rattle.std.specs.Prelude.{◌≡◌, ◌<◌, ◌++◌, All, IfOk, OnOk, false, length, map, slice_index_or};
 ghost use Rattle.vpg_partial.specs.Known.{literal_of};
+ghost use Rattle.vpg_serving.specs.Answer.{IsGiven};
 ghost use Rattle.vpg_texts.specs.Text.{choice_text, choices_text, name_of};
-ghost use Rattle.vpg_answers.specs.Texts.{choice_line, conflict_line, doubt_text, known_line, known_word, lost_head, lost_word, more_text, names_in, no_conflict_line, none_line, not_known_line, other_line, other_word, product_line, product_word, reason_text, total_line, unsettled_line, verdict_line, verdict_word};
+ghost use Rattle.vpg_answers.specs.Texts.{choice_line, conflict_line, doubt_text, known_line, known_word, lost_head, lost_word, more_text, names_in, no_conflict, none_line, not_known, other_line, other_word, product_line, product_word, reason_text, total_line, unsettled_line, verdict_line, verdict_word};
 
 use std::alloc::AllocError;
 use vpg_diagram::Literal;
 use vpg_guards::Names;
 use vpg_partial::Decision;
+use vpg_serving::Tone;
 use vpg_texts::{blank_name, blank_number};
 use vpg_verdict::Which;
 
@@ -169,11 +171,12 @@ pub(crate) fn known(
     reason(names, listed, true, out)
 }
 
-/// Appends that a feature is not known.
-pub(crate) fn not_known(out: &mut Vec<u8>) -> Result<(), AllocError>
-    ensures { OnOk result (out.new.items ≡ out.old.items ++ not_known_line) }
+/// Appends the refusal of a feature that is not known.
+pub(crate) fn not_known(out: &mut Vec<u8>) -> Result<Tone, AllocError>
+    ensures { IfOk result (λ tone. IsGiven not_known tone out.old.items out.new.items) }
 {
-    out.extend_from_slice(b"refused NotKnown\n")
+    out.extend_from_slice(b"refused NotKnown\n")?;
+    Ok(Tone::Refused)
 }
 
 /// Appends one more decision, and those that contradict it.
@@ -192,11 +195,12 @@ pub(crate) fn conflict(
     reason(names, listed, true, out)
 }
 
-/// Appends that no decision contradicts another one.
-pub(crate) fn no_conflict(out: &mut Vec<u8>) -> Result<(), AllocError>
-    ensures { OnOk result (out.new.items ≡ out.old.items ++ no_conflict_line) }
+/// Appends the refusal of one more decision that none contradicts.
+pub(crate) fn no_conflict(out: &mut Vec<u8>) -> Result<Tone, AllocError>
+    ensures { IfOk result (λ tone. IsGiven no_conflict tone out.old.items out.new.items) }
 {
-    out.extend_from_slice(b"refused NoConflict\n")
+    out.extend_from_slice(b"refused NoConflict\n")?;
+    Ok(Tone::Refused)
 }
 
 fn has(product: &[bool], feature: u16) -> bool

@@ -1,9 +1,10 @@
 //! Reasons, by decisions of the page.
-ghost use Rattle.std.specs.Prelude.{◌≡◌, ◌<◌, length, slice_index, OnOk};
+ghost use Rattle.std.specs.Prelude.{◌≡◌, ◌<◌, length, slice_index, IfOk, OnOk};
 ghost use Rattle.vpg_answers.specs.Answers.{Appends, TellsChoice, TellsFeature, TellsVerdict, TellsVertex};
 ghost use Rattle.vpg_diagram.specs.FeatureDiagram.{feature_count};
 ghost use Rattle.vpg_game.specs.Game.{vertex_ids};
 ghost use Rattle.vpg_measure.specs.Orders.{IsOrder, order_table};
+ghost use Rattle.vpg_serving.specs.Answer.{Gives};
 ghost use Rattle.vpg_texts.specs.Scene.{scene_of};
 
 use crate::lines;
@@ -11,6 +12,7 @@ use std::alloc::{AllocError, Global};
 use vpg_diagram::Literal;
 use vpg_guards::Names;
 use vpg_measure::Order;
+use vpg_serving::{Tone, done};
 use vpg_verdict::Which;
 use vpg_why::{Limits, why, why_conflict, why_known};
 
@@ -67,45 +69,45 @@ pub(crate) fn vertex(
     verdict(alloc, order, Which::Dual, vertex, limits, out)
 }
 
-/// Appends why the feature is known, or that it isn't.
+/// Appends why the feature is known, or refuses if it isn't. Returns the answer's tone.
 pub(crate) fn feature(
     alloc: Global,
     order: &Order,
     feature: u16,
     out: &mut Vec<u8>,
-) -> Result<(), AllocError>
+) -> Result<Tone, AllocError>
     requires { feature < feature_count order.now.diagram.lines }
-    ensures { OnOk result (Appends
-        (TellsFeature (scene_of order.now.game order.now.diagram) feature order.now.decisions)
+    ensures { IfOk result
+        (λ tone. Gives (TellsFeature (scene_of order.now.game order.now.diagram) feature order.now.decisions) tone
         out.old.items out.new.items) }
 {
     let names = names(order);
     if let Some(found) = why_known(alloc, order, feature, true)? {
-        return lines::known(names, feature, true, &found.decisions, out);
+        return done(lines::known(names, feature, true, &found.decisions, out));
     }
     match why_known(alloc, order, feature, false)? {
-        Some(found) => lines::known(names, feature, false, &found.decisions, out),
+        Some(found) => done(lines::known(names, feature, false, &found.decisions, out)),
         None => lines::not_known(out),
     }
 }
 
-/// Appends why one more decision contradicts the page, or that it doesn't.
+/// Appends why one more decision contradicts the page, or refuses if it doesn't. Returns the answer's tone.
 pub(crate) fn choice(
     alloc: Global,
     order: &Order,
     feature: u16,
     value: bool,
     out: &mut Vec<u8>,
-) -> Result<(), AllocError>
+) -> Result<Tone, AllocError>
     requires { feature < feature_count order.now.diagram.lines }
-    ensures { OnOk result (Appends
-        (TellsChoice (scene_of order.now.game order.now.diagram) feature value order.now.decisions)
+    ensures { IfOk result
+        (λ tone. Gives (TellsChoice (scene_of order.now.game order.now.diagram) feature value order.now.decisions) tone
         out.old.items out.new.items) }
 {
     let names = names(order);
     let more = Literal { feature, value };
     match why_conflict(alloc, order, feature, value)? {
-        Some(found) => lines::conflict(names, more, &found.decisions, out),
+        Some(found) => done(lines::conflict(names, more, &found.decisions, out)),
         None => lines::no_conflict(out),
     }
 }

@@ -12,6 +12,7 @@ use Rattle.vpg_checking.specs.Behaviours.{Behaviour}
 use Rattle.vpg_checking.specs.Checking.{IsModelOfTexts}
 use Rattle.vpg_script.specs.Script as script
 use Rattle.vpg_script.specs.Script.{Request, Said, said}
+use Rattle.vpg_serving.specs.Answer.{Answer}
 use Rattle.vpg_serving.specs.Output.{Speaks, Answered}
 use Rattle.vpg_texts.specs.Changed.{seen_at}
 use Rattle.vpg_texts.specs.Scene.{Scene, scene_of}
@@ -23,18 +24,18 @@ use Rattle.vpg_assured.specs.Assured.{AreTrueOfEntries, SpeaksOfEntries, speakin
 
 module _ (meaning : Request → Request) (behaviour : Option Behaviour) (scene : Scene) (lifters : ℕ) (system : NamedSystem) (entries : List written.Entry) (roots : List ℕ)
     (true_of : (page : List Entry) (verdicts : List Verdict) → AreTrue scene page verdicts → AreTrueOfEntries scene system entries roots page verdicts) where
-  speaks : (page : List Entry) (command : script.Command) (text : List ℕ) → NamesWinners scene page command text → SpeaksOfEntries scene system entries roots page command text
-  speaks page command text (inl refused) = inl refused
-  speaks page command text (inr names) = inr (names.0, names.1, true_of page names.0 names.1, names.2)
+  speaks : (page : List Entry) (command : script.Command) (answer : Answer) → NamesWinners scene page command answer → SpeaksOfEntries scene system entries roots page command answer
+  speaks page command answer (inl refused) = inl refused
+  speaks page command answer (inr names) = inr (names.0, names.1, true_of page names.0 names.1, names.2)
 
-  line : (old : Between) (s : Said) (text : List ℕ) (new : Between) → Speaks (as_meant meaning (naming behaviour scene lifters)) old s text new → Speaks (as_meant meaning (speaking behaviour scene lifters system entries roots)) old s text new
-  line old (Ok None) text new so = so
-  line old (Ok (Some request)) text new so = (so.0, speaks old.book.present (meaning request).command text so.1)
-  line old (Err fault) text new so = absurd so
+  line : (old : Between) (s : Said) (answer : Answer) (new : Between) → Speaks (as_meant meaning (naming behaviour scene lifters)) old s answer new → Speaks (as_meant meaning (speaking behaviour scene lifters system entries roots)) old s answer new
+  line old (Ok None) answer new so = so
+  line old (Ok (Some request)) answer new so = (so.0, speaks old.book.present (meaning request).command answer so.1)
+  line old (Err fault) answer new so = absurd so
 
-  lines_speak : (old : Between) (lines : List (List ℕ)) (text : List ℕ) (new : Between) → Answered (as_meant meaning (naming behaviour scene lifters)) old lines text new → Answered (as_meant meaning (speaking behaviour scene lifters system entries roots)) old lines text new
-  lines_speak old [] text new so = so
-  lines_speak old (l ∷ ls) text new so = (so.0, so.1, so.2, line old (said l) so.1 so.0 so.3, so.4, lines_speak so.0 ls so.2 new so.5)
+  lines_speak : (old : Between) (lines : List (List ℕ)) (answers : List Answer) (new : Between) → Answered (as_meant meaning (naming behaviour scene lifters)) old lines answers new → Answered (as_meant meaning (speaking behaviour scene lifters system entries roots)) old lines answers new
+  lines_speak old [] answers new so = so
+  lines_speak old (l ∷ ls) answers new so = (so.0, so.1, so.2, line old (said l) so.1 so.0 so.3, so.4, lines_speak so.0 ls so.2 new so.5)
 
 true_of_entries : (game : NamedGame) (diagram : NamedDiagram) (system_text requirements_text roots : List ℕ)
     (made : IsModelOfTexts diagram.names diagram.lines system_text requirements_text (graph_of game) roots)
@@ -50,6 +51,6 @@ true_of_entries game diagram system_text requirements_text roots made page verdi
     means = are.each (slice_index roots n) (made.model.models n below).vertex
 
 pub answers_speak_of_requirements : AnswersSpeakOfRequirements
-answers_speak_of_requirements meaning behaviour game diagram system_text requirements_text roots made lifters lines text new opens answered =
-    lines_speak meaning behaviour (scene_of game diagram) lifters made.system made.entries roots (true_of_entries game diagram system_text requirements_text roots made) begun lines text new
-    (answers_name_winners meaning behaviour game diagram lifters lines text new opens answered)
+answers_speak_of_requirements meaning behaviour game diagram system_text requirements_text roots made lifters lines answers new opens answered =
+    lines_speak meaning behaviour (scene_of game diagram) lifters made.system made.entries roots (true_of_entries game diagram system_text requirements_text roots made) begun lines answers new
+    (answers_name_winners meaning behaviour game diagram lifters lines answers new opens answered)

@@ -14,6 +14,7 @@ use Rattle.vpg_winners.specs.Winners.{IsExactPart, IsWonAs}
 use Rattle.vpg_script.specs.declared.command.VertexQuestion.TheVariants as questions
 use Rattle.vpg_script.specs.Script as script
 use Rattle.vpg_script.specs.Script.{Request, Said, said}
+use Rattle.vpg_serving.specs.Answer.{Answer, IsDone}
 use Rattle.vpg_serving.specs.Output.{Speaks, Answered}
 use Rattle.vpg_texts.specs.Scene.{Scene, scene_of}
 use Rattle.vpg_answers.specs.Answers.{TellsWinners}
@@ -57,38 +58,38 @@ module _ (game : NamedGame) (diagram : NamedDiagram) (system_text requirements_t
       text_is = so.2;
     }
 
-  speaks : (behaviour : Option Behaviour) (book : Book) (named : script.Vertex) (text : List ℕ) (n : ℕ) (below : n < length made.entries) →
-      vertex_of scene named ≡ Some (slice_index roots n) → IsReplied behaviour game diagram questions.Winners book named text →
-      IsRefusal text ⊎ PartsProducts scene book.present (slice_index roots n) (EntryHoldsIn made.system made.entries n) text
-  speaks behaviour book named text n below at (inl refused) = inl refused
-  speaks behaviour book named text n below at (inr a) =
+  speaks : (behaviour : Option Behaviour) (book : Book) (named : script.Vertex) (answer : Answer) (n : ℕ) (below : n < length made.entries) →
+      vertex_of scene named ≡ Some (slice_index roots n) → IsReplied behaviour game diagram questions.Winners book named answer →
+      IsRefusal answer ⊎ IsDone (PartsProducts scene book.present (slice_index roots n) (EntryHoldsIn made.system made.entries n)) answer
+  speaks behaviour book named answer n below at (inl refused) = inl refused
+  speaks behaviour book named answer n below at (inr a) =
       let same : a.0 ≡ slice_index roots n = cc (a.1, at) in
-      inr (parts_products book.present n below text (subst (λ (v : ℕ). TellsWinners scene answer_limits v (decisions_of book.present) text) same a.4.tells))
+      inr (a.4.tells.0, parts_products book.present n below answer.text (subst (λ (v : ℕ). TellsWinners scene answer_limits v (decisions_of book.present) answer.text) same a.4.tells.1))
 
   -- ---- lines
 
   module _ (behaviour : Option Behaviour) (lifters : ℕ) (meaning : Request → Request) where
-    line : (old : Between) (s : Said) (text : List ℕ) (new : Between) →
-        Speaks (as_meant meaning (answering behaviour scene lifters)) old s text new →
-        Speaks (as_meant meaning (parting behaviour scene lifters made.system made.entries roots)) old s text new
-    line old (Ok None) text new so = so
-    line old (Ok (Some request)) text new so = (
+    line : (old : Between) (s : Said) (answer : Answer) (new : Between) →
+        Speaks (as_meant meaning (answering behaviour scene lifters)) old s answer new →
+        Speaks (as_meant meaning (parting behaviour scene lifters made.system made.entries roots)) old s answer new
+    line old (Ok None) answer new so = so
+    line old (Ok (Some request)) answer new so = (
       so,
       λ named n is below at.
-          speaks behaviour old.book named text n below at
-          (served behaviour game diagram questions.Winners old.book named text old.held old.calls (meaning request).label so.0.0 new.held so.0.1.1
+          speaks behaviour old.book named answer n below at
+          (served behaviour game diagram questions.Winners old.book named answer old.held old.calls (meaning request).label so.0.0 new.held so.0.1.1
           (subst (λ (command : script.Command). Serves behaviour scene old.held old.calls
-          (record { label = (meaning request).label; command = command }) so.0.0 text new.held) is so.0.1.0)),
+          (record { label = (meaning request).label; command = command }) so.0.0 answer new.held) is so.0.1.0)),
     )
-    line old (Err fault) text new so = absurd so
+    line old (Err fault) answer new so = absurd so
 
-    lines_part : (old : Between) (lines : List (List ℕ)) (text : List ℕ) (new : Between) →
-        Answered (as_meant meaning (answering behaviour scene lifters)) old lines text new →
-        Answered (as_meant meaning (parting behaviour scene lifters made.system made.entries roots)) old lines text new
-    lines_part old [] text new so = so
-    lines_part old (l ∷ ls) text new so =
+    lines_part : (old : Between) (lines : List (List ℕ)) (answers : List Answer) (new : Between) →
+        Answered (as_meant meaning (answering behaviour scene lifters)) old lines answers new →
+        Answered (as_meant meaning (parting behaviour scene lifters made.system made.entries roots)) old lines answers new
+    lines_part old [] answers new so = so
+    lines_part old (l ∷ ls) answers new so =
         (so.0, so.1, so.2, line old (said l) so.1 so.0 so.3, so.4, lines_part so.0 ls so.2 new so.5)
 
 pub parts_speak_of_requirements : PartsSpeakOfRequirements
-parts_speak_of_requirements meaning behaviour game diagram system_text requirements_text roots made lifters lines text new answered =
-    lines_part game diagram system_text requirements_text roots made behaviour lifters meaning begun lines text new answered
+parts_speak_of_requirements meaning behaviour game diagram system_text requirements_text roots made lifters lines answers new answered =
+    lines_part game diagram system_text requirements_text roots made behaviour lifters meaning begun lines answers new answered

@@ -14,6 +14,7 @@ use Rattle.vpg_texts.specs.Scene.{Scene, scene_of}
 use Rattle.vpg_answers.specs.Answers.{IsAnswer}
 use Rattle.vpg_answers.specs.declared.query.Query.{Query}
 use Rattle.vpg_answers.specs.declared.query.Query.TheVariants as queries
+use Rattle.vpg_serving.specs.Answer.{Answer}
 use Rattle.vpg_report.specs.Answers.{Follows, Asks, Begins, NoVertex, Own, own_text, refusal_text, vertex_of}
 use Rattle.vpg_report.specs.Held.{Held}
 use Rattle.vpg_report.specs.Requests.{Continues, Serves, answer_limits, is_answerable, order_or, query_if, query_of, query_or}
@@ -21,7 +22,7 @@ use Rattle.vpg_report.specs.Setting.{setting_in}
 use Rattle.vpg_report.specs.Winners.{IsRefusal}
 
 module _ (behaviour : Option Behaviour) (game : NamedGame) (diagram : NamedDiagram) (question : VertexQuestion) (book : Book)
-    (named : script.Vertex) (text : List ℕ) where
+    (named : script.Vertex) (answer : Answer) where
   abbrev scene : Scene
   scene = scene_of game diagram
 
@@ -31,11 +32,11 @@ module _ (behaviour : Option Behaviour) (game : NamedGame) (diagram : NamedDiagr
   abbrev inquiry : script.Inquiry
   inquiry = script.OfVertex question named
 
-  -- the line is refused, or the text answers the question about the vertex, on the page
+  -- the line is refused, or this answers the question about the vertex, on the page
   abbrev pub IsReplied : Type 0
-  IsReplied = IsRefusal text ⊎
+  IsReplied = IsRefusal answer ⊎
       ((v : ℕ) × (vertex_of scene named ≡ Some v) × (hopeful : List ℕ) × (dual : List ℕ) ×
-      IsAnswer behaviour scene answer_limits (queries.OfVertex question v) (decisions_of book.present) hopeful dual text)
+      IsAnswer behaviour scene answer_limits (queries.OfVertex question v) (decisions_of book.present) hopeful dual answer)
 
   -- ---- the query
 
@@ -53,16 +54,16 @@ module _ (behaviour : Option Behaviour) (game : NamedGame) (diagram : NamedDiagr
 
   answered : (decisions : List Decision) (hopeful dual : List ℕ) → decisions ≡ decisions_of book.present →
       (query : Query) → query_of behaviour scene inquiry ≡ Ok query →
-      IsAnswer behaviour scene answer_limits query decisions hopeful dual text → IsReplied
-  answered decisions hopeful dual same query e answer =
+      IsAnswer behaviour scene answer_limits query decisions hopeful dual answer → IsReplied
+  answered decisions hopeful dual same query e so =
       let (v, found, is) = of_query (is_answerable (length scene.names) behaviour question) (vertex_of scene named) query e in
       inr (
         v,
         found,
         hopeful,
         dual,
-        subst (λ (ds : List Decision). IsAnswer behaviour scene answer_limits (queries.OfVertex question v) ds hopeful dual text) same
-            (subst (λ (q : Query). IsAnswer behaviour scene answer_limits q decisions hopeful dual text) is answer),
+        subst (λ (ds : List Decision). IsAnswer behaviour scene answer_limits (queries.OfVertex question v) ds hopeful dual answer) same
+            (subst (λ (q : Query). IsAnswer behaviour scene answer_limits q decisions hopeful dual answer) is so),
       )
 
   -- the decisions that an order has
@@ -72,11 +73,11 @@ module _ (behaviour : Option Behaviour) (game : NamedGame) (diagram : NamedDiagr
   ordered decisions hopeful dual (Some r, (refuses, told)) = absurd (cc told)
 
   module _ (held : Held) (count label : ℕ) where
-    abbrev Rests : Reply → List Event → List ℕ → Held → Type 0
+    abbrev Rests : Reply → List Event → Answer → Held → Type 0
     Rests = Continues behaviour scene held count label (script.Ask inquiry)
 
     replied : (reply : Reply) (calls : List Event) (new : Held) → IsReply F book Order reply →
-        Follows scene held Rests reply calls text new → IsReplied
+        Follows scene held Rests reply calls answer new → IsReplied
     replied (Refused r) calls new told so = inl (refusal_text scene.names r, so.1)
     replied (Changed s) calls new told so = absurd so
     replied (Undone s) calls new told so = absurd so
@@ -90,18 +91,18 @@ module _ (behaviour : Option Behaviour) (game : NamedGame) (diagram : NamedDiagr
         answered decisions hopeful dual (ordered decisions hopeful dual told) so.0.0 so.0.1.0 so.0.1.1
 
     asked : (before : ℕ) (calls : List Event) (new : Held) → IsLegalFrom F book calls →
-        Asks scene held before label Order Rests calls text new → IsReplied
+        Asks scene held before label Order Rests calls answer new → IsReplied
     asked before calls new legal (inr (full, so)) = inl (codes "LogFull", so.1)
     asked before [] new legal (inl (less, so)) = absurd so
     asked before (e ∷ calls) new legal (inl (less, so)) =
         replied e.reply calls new (subst (λ c. IsReply F book c e.reply) so.1 legal.0) so.2
 
     begins : (query : Result Query Own) (before : ℕ) (calls : List Event) (new : Held) → IsLegalFrom F book calls →
-        Begins scene held before label Rests (order_or query) calls text new → IsReplied
+        Begins scene held before label Rests (order_or query) calls answer new → IsReplied
     begins (Err own) before calls new legal so = inl (own_text own, so.1)
     begins (Ok query) before calls new legal so = asked before calls new legal so
 
   pub served : (held : Held) (count label : ℕ) (calls : List Event) (new : Held) → IsLegalFrom F book calls →
-      Serves behaviour scene held count (record { label = label; command = script.Ask inquiry }) calls text new → IsReplied
+      Serves behaviour scene held count (record { label = label; command = script.Ask inquiry }) calls answer new → IsReplied
   served held count label calls new legal so =
       begins held (count + 1) label (query_of behaviour scene inquiry) count calls new legal so

@@ -6,6 +6,7 @@ use Rattle.vpg_checking.specs.Behaviours.{Behaviour}
 use Rattle.vpg_script.specs.declared.command.VertexQuestion.TheVariants as questions
 use Rattle.vpg_script.specs.Script as script
 use Rattle.vpg_script.specs.Script.{Request, Said, said}
+use Rattle.vpg_serving.specs.Answer.{Answer, IsDone}
 use Rattle.vpg_serving.specs.Output.{Speaks, Answered}
 use Rattle.vpg_texts.specs.Scene.{Scene, scene_of}
 use Rattle.vpg_family.specs.Made.{IsMadeOf}
@@ -23,40 +24,40 @@ module _ (game : NamedGame) (diagram : NamedDiagram) (system_text : List ℕ) (b
   abbrev scene : Scene
   scene = scene_of game diagram
 
-  reports : (book : Book) (named : script.Vertex) (text : List ℕ) → IsReplied (Some behaviour) game diagram questions.Trace book named text →
-      IsRefusal text ⊎ ((vertex : ℕ) × (vertex_of scene named ≡ Some vertex) ×
-      (HasNoWalk scene vertex text ⊎ ReportsWalk scene made.system behaviour book.present vertex text))
-  reports book named text (inl refused) = inl refused
-  reports book named text (inr a) = inr (
+  reports : (book : Book) (named : script.Vertex) (answer : Answer) → IsReplied (Some behaviour) game diagram questions.Trace book named answer →
+      IsRefusal answer ⊎ ((vertex : ℕ) × (vertex_of scene named ≡ Some vertex) ×
+      IsDone (λ text. HasNoWalk scene vertex text ⊎ ReportsWalk scene made.system behaviour book.present vertex text) answer)
+  reports book named answer (inl refused) = inl refused
+  reports book named answer (inr a) = inr (
     a.0,
     a.1,
-    reports_trace game diagram system_text behaviour made a.4.diagram book.present a.2 a.3 answer_limits a.0 text a.4.tells,
+    (a.4.tells.0, reports_trace game diagram system_text behaviour made a.4.diagram book.present a.2 a.3 answer_limits a.0 answer.text a.4.tells.1),
   )
 
   -- ---- lines
 
   module _ (lifters : ℕ) (meaning : Request → Request) where
-    line : (old : Between) (s : Said) (text : List ℕ) (new : Between) →
-        Speaks (as_meant meaning (answering (Some behaviour) scene lifters)) old s text new →
-        Speaks (as_meant meaning (tracing behaviour scene lifters made.system)) old s text new
-    line old (Ok None) text new so = so
-    line old (Ok (Some request)) text new so = (
+    line : (old : Between) (s : Said) (answer : Answer) (new : Between) →
+        Speaks (as_meant meaning (answering (Some behaviour) scene lifters)) old s answer new →
+        Speaks (as_meant meaning (tracing behaviour scene lifters made.system)) old s answer new
+    line old (Ok None) answer new so = so
+    line old (Ok (Some request)) answer new so = (
       so,
       λ named is.
-          reports old.book named text
-          (served (Some behaviour) game diagram questions.Trace old.book named text old.held old.calls (meaning request).label so.0.0 new.held so.0.1.1
+          reports old.book named answer
+          (served (Some behaviour) game diagram questions.Trace old.book named answer old.held old.calls (meaning request).label so.0.0 new.held so.0.1.1
           (subst (λ (command : script.Command). Serves (Some behaviour) scene old.held old.calls
-          (record { label = (meaning request).label; command = command }) so.0.0 text new.held) is so.0.1.0)),
+          (record { label = (meaning request).label; command = command }) so.0.0 answer new.held) is so.0.1.0)),
     )
-    line old (Err fault) text new so = absurd so
+    line old (Err fault) answer new so = absurd so
 
-    lines_report : (old : Between) (lines : List (List ℕ)) (text : List ℕ) (new : Between) →
-        Answered (as_meant meaning (answering (Some behaviour) scene lifters)) old lines text new →
-        Answered (as_meant meaning (tracing behaviour scene lifters made.system)) old lines text new
-    lines_report old [] text new so = so
-    lines_report old (l ∷ ls) text new so =
+    lines_report : (old : Between) (lines : List (List ℕ)) (answers : List Answer) (new : Between) →
+        Answered (as_meant meaning (answering (Some behaviour) scene lifters)) old lines answers new →
+        Answered (as_meant meaning (tracing behaviour scene lifters made.system)) old lines answers new
+    lines_report old [] answers new so = so
+    lines_report old (l ∷ ls) answers new so =
         (so.0, so.1, so.2, line old (said l) so.1 so.0 so.3, so.4, lines_report so.0 ls so.2 new so.5)
 
 pub traced_steps_are_there : TracedStepsAreThere
-traced_steps_are_there meaning behaviour game diagram system_text made lifters lines text new answered =
-    lines_report game diagram system_text behaviour made lifters meaning begun lines text new answered
+traced_steps_are_there meaning behaviour game diagram system_text made lifters lines answers new answered =
+    lines_report game diagram system_text behaviour made lifters meaning begun lines answers new answered

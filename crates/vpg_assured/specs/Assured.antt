@@ -13,6 +13,7 @@ use Rattle.vpg_checking.specs.Behaviours.{Behaviour}
 use Rattle.vpg_checking.specs.Checking.{EntryHoldsIn, IsModelOfTexts}
 use Rattle.vpg_script.specs.Script as script
 use Rattle.vpg_script.specs.Script.{Request}
+use Rattle.vpg_serving.specs.Answer.{Answer}
 use Rattle.vpg_serving.specs.Output.{Machine, Answered}
 use Rattle.vpg_texts.specs.Changed.{seen_at}
 use Rattle.vpg_texts.specs.Scene.{Scene, scene_of}
@@ -32,17 +33,17 @@ AreTrueOfEntries scene system entries roots page verdicts = (n : ℕ) → n < le
 
 -- An answer that isn't a refusal says of vertices what is true of the page, and of the entries' requirements.
 abbrev pub SpeaksOfEntries : Scene → NamedSystem → List written.Entry → List ℕ → List Entry → script.Command →
-    List ℕ → Type 0
-SpeaksOfEntries scene system entries roots page command text =
-    IsRefusal text ⊎
+    Answer → Type 0
+SpeaksOfEntries scene system entries roots page command answer =
+    IsRefusal answer ⊎
     ((verdicts : List Verdict) × AreTrue scene page verdicts ×
-    AreTrueOfEntries scene system entries roots page verdicts × SaysVerdicts scene command verdicts text)
+    AreTrueOfEntries scene system entries roots page verdicts × SaysVerdicts scene command verdicts answer)
 
 -- Each request is answered as by a run, with verdicts that are true of the entries on the page at that point.
 abbrev pub speaking : Option Behaviour → Scene → ℕ → NamedSystem → List written.Entry → List ℕ → Machine Between
-speaking behaviour scene lifters system entries roots old request text new =
-    answering behaviour scene lifters old request text new ×
-    SpeaksOfEntries scene system entries roots old.book.present request.command text
+speaking behaviour scene lifters system entries roots old request answer new =
+    answering behaviour scene lifters old request answer new ×
+    SpeaksOfEntries scene system entries roots old.book.present request.command answer
 
 -- A run of an office on the game of two texts, of a system and of requirements, answers `show`, `assert` and `changed`.
 -- The verdicts in its answers are true of these requirements in this system, under any meaning of the lines.
@@ -51,9 +52,9 @@ AnswersSpeakOfRequirements =
     (meaning : Request → Request) (behaviour : Option Behaviour) (game : NamedGame) (diagram : NamedDiagram)
     (system_text requirements_text : List ℕ) (roots : List ℕ)
     (made : IsModelOfTexts diagram.names diagram.lines system_text requirements_text (graph_of game) roots)
-    (lifters : ℕ) (lines : List (List ℕ)) (text : List ℕ) (new : Between) →
+    (lifters : ℕ) (lines : List (List ℕ)) (answers : List Answer) (new : Between) →
     IsOpened game diagram →
-    Answered (as_meant meaning (answering behaviour (scene_of game diagram) lifters)) begun lines text new →
+    Answered (as_meant meaning (answering behaviour (scene_of game diagram) lifters)) begun lines answers new →
     Answered
     (as_meant meaning (speaking behaviour (scene_of game diagram) lifters made.system made.entries roots)) begun lines
-    text new
+    answers new

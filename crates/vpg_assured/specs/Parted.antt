@@ -16,6 +16,7 @@ use Rattle.vpg_winners.specs.Winners.{ArePartition, is_in}
 use Rattle.vpg_script.specs.declared.command.VertexQuestion.TheVariants as questions
 use Rattle.vpg_script.specs.Script as script
 use Rattle.vpg_script.specs.Script.{Request}
+use Rattle.vpg_serving.specs.Answer.{Answer, IsDone}
 use Rattle.vpg_serving.specs.Output.{Machine, Answered}
 use Rattle.vpg_texts.specs.Scene.{Scene, scene_of}
 use Rattle.vpg_answers.specs.Texts.{winners_text}
@@ -46,17 +47,17 @@ winners_of named = script.Ask (script.OfVertex questions.Winners named)
 -- If the command is `winners V`, and V is the vertex of an entry, its answer parts the products left by whether the
 -- entry's requirement holds, unless the line is refused.
 abbrev pub PartsByEntries : Scene → NamedSystem → List written.Entry → List ℕ → List Entry → script.Command →
-    List ℕ → Type 0
-PartsByEntries scene system entries roots page command text =
+    Answer → Type 0
+PartsByEntries scene system entries roots page command answer =
     (named : script.Vertex) (n : ℕ) → command ≡ winners_of named → n < length entries →
-    vertex_of scene named ≡ Some (slice_index roots n) → IsRefusal text ⊎
-    PartsProducts scene page (slice_index roots n) (EntryHoldsIn system entries n) text
+    vertex_of scene named ≡ Some (slice_index roots n) → IsRefusal answer ⊎
+    IsDone (PartsProducts scene page (slice_index roots n) (EntryHoldsIn system entries n)) answer
 
 -- Each request is answered as by a run, with parts that are true of the entries on the page at that point.
 abbrev pub parting : Option Behaviour → Scene → ℕ → NamedSystem → List written.Entry → List ℕ → Machine Between
-parting behaviour scene lifters system entries roots old request text new =
-    answering behaviour scene lifters old request text new ×
-    PartsByEntries scene system entries roots old.book.present request.command text
+parting behaviour scene lifters system entries roots old request answer new =
+    answering behaviour scene lifters old request answer new ×
+    PartsByEntries scene system entries roots old.book.present request.command answer
 
 -- A run on the game of two texts, of a system and of requirements, answers `winners V`. The parts in its answers are
 -- true of these requirements in this system, under any meaning of the lines.
@@ -65,7 +66,7 @@ PartsSpeakOfRequirements =
     (meaning : Request → Request) (behaviour : Option Behaviour) (game : NamedGame) (diagram : NamedDiagram)
     (system_text requirements_text : List ℕ) (roots : List ℕ)
     (made : IsModelOfTexts diagram.names diagram.lines system_text requirements_text (graph_of game) roots)
-    (lifters : ℕ) (lines : List (List ℕ)) (text : List ℕ) (new : Between) →
-    Answered (as_meant meaning (answering behaviour (scene_of game diagram) lifters)) begun lines text new →
+    (lifters : ℕ) (lines : List (List ℕ)) (answers : List Answer) (new : Between) →
+    Answered (as_meant meaning (answering behaviour (scene_of game diagram) lifters)) begun lines answers new →
     Answered (as_meant meaning (parting behaviour (scene_of game diagram) lifters made.system made.entries roots)) begun
-    lines text new
+    lines answers new

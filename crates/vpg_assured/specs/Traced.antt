@@ -30,6 +30,7 @@ use Rattle.vpg_trace.specs.Walks.{visit_at, visit_before}
 use Rattle.vpg_script.specs.declared.command.VertexQuestion.TheVariants as questions
 use Rattle.vpg_script.specs.Script as script
 use Rattle.vpg_script.specs.Script.{Request}
+use Rattle.vpg_serving.specs.Answer.{Answer, IsDone}
 use Rattle.vpg_serving.specs.Output.{Machine, Answered}
 use Rattle.vpg_texts.specs.Scene.{Scene, scene_of}
 use Rattle.vpg_family.specs.Made.{IsMadeOf}
@@ -129,17 +130,17 @@ abbrev pub trace_of : script.Vertex → script.Command
 trace_of named = script.Ask (script.OfVertex questions.Trace named)
 
 -- If the command is `trace V`, its answer reports a walk from the vertex, unless there is none or the line is refused.
-abbrev pub ReportsSteps : Scene → NamedSystem → Behaviour → List Entry → script.Command → List ℕ → Type 0
-ReportsSteps scene system behaviour page command text =
-    (named : script.Vertex) → command ≡ trace_of named → IsRefusal text ⊎
+abbrev pub ReportsSteps : Scene → NamedSystem → Behaviour → List Entry → script.Command → Answer → Type 0
+ReportsSteps scene system behaviour page command answer =
+    (named : script.Vertex) → command ≡ trace_of named → IsRefusal answer ⊎
     ((vertex : ℕ) × (vertex_of scene named ≡ Some vertex) ×
-    (HasNoWalk scene vertex text ⊎ ReportsWalk scene system behaviour page vertex text))
+    IsDone (λ text. HasNoWalk scene vertex text ⊎ ReportsWalk scene system behaviour page vertex text) answer)
 
 -- Each request is answered as by a run, and traces report steps of the system on the page at that point.
 abbrev pub tracing : Behaviour → Scene → ℕ → NamedSystem → Machine Between
-tracing behaviour scene lifters system old request text new =
-    answering (Some behaviour) scene lifters old request text new ×
-    ReportsSteps scene system behaviour old.book.present request.command text
+tracing behaviour scene lifters system old request answer new =
+    answering (Some behaviour) scene lifters old request answer new ×
+    ReportsSteps scene system behaviour old.book.present request.command answer
 
 -- A run on the game of a system and requirements answers `trace V` by steps of this system, under any meaning of the
 -- lines. A step that is not marked is one of each product that is left on the page at that point.
@@ -147,6 +148,6 @@ abbrev pub TracedStepsAreThere : Type 0
 TracedStepsAreThere =
     (meaning : Request → Request) (behaviour : Behaviour) (game : NamedGame) (diagram : NamedDiagram)
     (system_text : List ℕ) (made : IsMadeOf diagram system_text game behaviour) (lifters : ℕ)
-    (lines : List (List ℕ)) (text : List ℕ) (new : Between) →
-    Answered (as_meant meaning (answering (Some behaviour) (scene_of game diagram) lifters)) begun lines text new →
-    Answered (as_meant meaning (tracing behaviour (scene_of game diagram) lifters made.system)) begun lines text new
+    (lines : List (List ℕ)) (answers : List Answer) (new : Between) →
+    Answered (as_meant meaning (answering (Some behaviour) (scene_of game diagram) lifters)) begun lines answers new →
+    Answered (as_meant meaning (tracing behaviour (scene_of game diagram) lifters made.system)) begun lines answers new

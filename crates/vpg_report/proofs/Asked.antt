@@ -1,6 +1,6 @@
 -- A request's calls, its answer, and what is held then.
 use Rattle.std.proofs.Common.{◌≡◌, ℕ, ◌+◌, ◌<◌, Bool, true, false, List, [], ◌∷◌, ◌++◌, Option, Some, Result, Ok, Err, refl, sym, ap, ◌∙◌, subst, inl, inr, arith}
-use Rattle.std.specs.Prelude.{length, codes, OnOk}
+use Rattle.std.specs.Prelude.{length, codes, IfOk, OnOk}
 use Rattle.vpg_features.specs.Names.{index_of}
 use Rattle.vpg_diagram.specs.DiagramText.{NamedDiagram}
 use Rattle.vpg_trail.specs.Page.{Which, Decision, Entry}
@@ -8,6 +8,8 @@ use Rattle.vpg_desk.specs.Book.{Harvest, Call, Reply, Decide, Order, Commit, Set
 use Rattle.vpg_desk.specs.Desk.{family_of}
 use Rattle.vpg_desk.specs.History.{Event, IsLegalFrom, book_after}
 use Rattle.vpg_desk.specs.State.{setting_between, setting_of}
+use Rattle.vpg_serving.specs.Answer.{Answer, IsGiven, done, refused as refusal_of}
+use Rattle.vpg_serving.specs.declared.tone.Tone.{Tone}
 use Rattle.vpg_report.specs.Client.{ClientState, IsLogged}
 use Rattle.vpg_report.specs.Faults.{Tells, UnlessStray}
 use Rattle.vpg_report.specs.declared.fault.ClientFault.{ClientFault}
@@ -16,7 +18,7 @@ use Rattle.vpg_script.specs.Script as script
 use Rattle.vpg_script.specs.Script.{Request}
 use Rattle.vpg_report.specs.Held.{Held, with_harvest}
 use Rattle.vpg_texts.specs.Scene.{Scene}
-use Rattle.vpg_report.specs.Answers.{Own, NoFeature, NoVertex, IsOwn, own_text, full_line, refused_line, refusal_text, numbered, settled_text, room, call_or, vertex_of, first_call, IsSwept, IsLifted, most_sweeps, sweeps_of, Rest, Follows, Continues, Begins}
+use Rattle.vpg_report.specs.Answers.{Own, NoFeature, NoVertex, IsOwn, own_text, full_log, refusal_text, numbered, settled_text, room, call_or, vertex_of, first_call, IsSwept, IsLifted, most_sweeps, sweeps_of, Rest, Follows, Continues, Begins}
 use Rattle.vpg_report.specs.Made.{IsMadeBy, AreMadeBy}
 use Rattle.vpg_report.specs.Setting.{setting_in}
 use Rattle.vpg_report.specs.Engine.{EngineState, scene_at, deciding, TellsRefusal, TellsFault, AnswersBy, AnswersTo, SweepsTo}
@@ -24,41 +26,45 @@ use Rattle.vpg_report.specs.Engine.{EngineState, scene_at, deciding, TellsRefusa
 -- ---- what the code shows
 
 -- an answer of an engine by its fields is one of what contracts see of it
-pub on_view : {E : Type 0} (r : Result (Unit {0}) E) (P : Type 0) (seen old new : EngineState) (request : Request) (before after : List ℕ) → seen ≡ old →
-    (P → AnswersTo seen request before after new) → OnOk r P → OnOk r (AnswersTo old request before after new)
-on_view (Ok done) P seen old new request before after same f p = subst (λ (e : EngineState). AnswersTo e request before after new) same (f p)
+pub on_view : {E : Type 0} (r : Result Tone E) (P : Tone → Type 0) (seen old new : EngineState) (request : Request) (before after : List ℕ) → seen ≡ old →
+    ((tone : Tone) → P tone → AnswersTo seen request tone before after new) → IfOk r P → IfOk r (λ tone. AnswersTo old request tone before after new)
+on_view (Ok tone) P seen old new request before after same f p = subst (λ (e : EngineState). AnswersTo e request tone before after new) same (f tone p)
 on_view (Err e) P seen old new request before after same f p = tt
 
+-- the same of one tone
+pub on_view_told : {tone : Tone} (seen old new : EngineState) (request : Request) (before after : List ℕ) → seen ≡ old → AnswersTo seen request tone before after new → AnswersTo old request tone before after new
+on_view_told {tone = tone} seen old new request before after same so = subst (λ (e : EngineState). AnswersTo e request tone before after new) same so
+
 -- the same, where nothing changes
-pub on_same_view : {E : Type 0} (r : Result (Unit {0}) E) (P : Type 0) (seen old : EngineState) (request : Request) (before after : List ℕ) → seen ≡ old →
-    (P → AnswersTo seen request before after seen) → OnOk r P → OnOk r (AnswersTo old request before after old)
-on_same_view (Ok done) P seen old request before after same f p = subst (λ (e : EngineState). AnswersTo e request before after e) same (f p)
+pub on_same_view : {E : Type 0} (r : Result Tone E) (P : Tone → Type 0) (seen old : EngineState) (request : Request) (before after : List ℕ) → seen ≡ old →
+    ((tone : Tone) → P tone → AnswersTo seen request tone before after seen) → IfOk r P → IfOk r (λ tone. AnswersTo old request tone before after old)
+on_same_view (Ok tone) P seen old request before after same f p = subst (λ (e : EngineState). AnswersTo e request tone before after e) same (f tone p)
 on_same_view (Err e) P seen old request before after same f p = tt
 
 -- the same, of what sweeps made
-pub on_view_by : {E : Type 0} (r : Result (Unit {0}) E) (P : Type 0) (seen old new : EngineState) (lifters : ℕ) (request : Request) (before after : List ℕ) → seen ≡ old →
-    (P → SweepsTo seen lifters request before after new) → OnOk r P → OnOk r (SweepsTo old lifters request before after new)
-on_view_by (Ok done) P seen old new lifters request before after same f p = subst (λ (e : EngineState). SweepsTo e lifters request before after new) same (f p)
+pub on_view_by : {E : Type 0} (r : Result Tone E) (P : Tone → Type 0) (seen old new : EngineState) (lifters : ℕ) (request : Request) (before after : List ℕ) → seen ≡ old →
+    ((tone : Tone) → P tone → SweepsTo seen lifters request tone before after new) → IfOk r P → IfOk r (λ tone. SweepsTo old lifters request tone before after new)
+on_view_by (Ok tone) P seen old new lifters request before after same f p = subst (λ (e : EngineState). SweepsTo e lifters request tone before after new) same (f tone p)
 on_view_by (Err e) P seen old new lifters request before after same f p = tt
 
 -- what is said of an answer by two clauses
-pub both_on : {E : Type 0} (r : Result (Unit {0}) E) (P Q : Type 0) → OnOk r P → OnOk r Q → OnOk r (P × Q)
-both_on (Ok done) P Q p q = (p, q)
+pub both_on : {E : Type 0} (r : Result Tone E) (P : Type 0) (Q : Tone → Type 0) → OnOk r P → IfOk r Q → IfOk r (λ tone. P × Q tone)
+both_on (Ok tone) P Q p q = (p, q)
 both_on (Err e) P Q p q = tt
 
 -- the answer to a request is one to the same request as it is shown
-pub served : {E : Type 0} (r : Result (Unit {0}) E) (old new : EngineState) (lifters : ℕ) (request shown : Request) (before after : List ℕ) → request ≡ shown → IsOwn request.command →
-    ((calls : List Event) (held : Held) → AreMadeBy (setting_in (scene_at old)) lifters request.command calls held) → OnOk r (AnswersTo old request before after new) →
-    OnOk r (IsOwn shown.command × SweepsTo old lifters shown before after new)
-served (Ok done) old new lifters request shown before after same own plain so =
-    subst (λ (q : Request). IsOwn q.command × SweepsTo old lifters q before after new) same (own, record { answers = so; made = plain so.by.answer.0 new.held })
+pub served : {E : Type 0} (r : Result Tone E) (old new : EngineState) (lifters : ℕ) (request shown : Request) (before after : List ℕ) → request ≡ shown → IsOwn request.command →
+    ((calls : List Event) (held : Held) → AreMadeBy (setting_in (scene_at old)) lifters request.command calls held) → IfOk r (λ tone. AnswersTo old request tone before after new) →
+    IfOk r (λ tone. IsOwn shown.command × SweepsTo old lifters shown tone before after new)
+served (Ok tone) old new lifters request shown before after same own plain so =
+    subst (λ (q : Request). IsOwn q.command × SweepsTo old lifters q tone before after new) same (own, record { answers = so; made = plain so.by.answers.0 new.held })
 served (Err e) old new lifters request shown before after same own plain so = tt
 
 -- the same, of what sweeps made
-pub served_by : {E : Type 0} (r : Result (Unit {0}) E) (old new : EngineState) (lifters : ℕ) (request shown : Request) (before after : List ℕ) → request ≡ shown → IsOwn request.command →
-    OnOk r (SweepsTo old lifters request before after new) → OnOk r (IsOwn shown.command × SweepsTo old lifters shown before after new)
-served_by (Ok done) old new lifters request shown before after same own so =
-    subst (λ (q : Request). IsOwn q.command × SweepsTo old lifters q before after new) same (own, so)
+pub served_by : {E : Type 0} (r : Result Tone E) (old new : EngineState) (lifters : ℕ) (request shown : Request) (before after : List ℕ) → request ≡ shown → IsOwn request.command →
+    IfOk r (λ tone. SweepsTo old lifters request tone before after new) → IfOk r (λ tone. IsOwn shown.command × SweepsTo old lifters shown tone before after new)
+served_by (Ok tone) old new lifters request shown before after same own so =
+    subst (λ (q : Request). IsOwn q.command × SweepsTo old lifters q tone before after new) same (own, so)
 served_by (Err e) old new lifters request shown before after same own so = tt
 
 -- ---- calls of a client
@@ -96,33 +102,33 @@ one : (limit : ℕ) (old new : ClientState) (label : ℕ) (call : Call) (reply :
 one limit old new label call reply first = then limit old new new label call reply [] first (none new new refl)
 
 -- a line is answered by them
-abbrev answers_by : (old new : EngineState) (label : ℕ) (first : Result Call Own) (P : Reply → Rest) (calls : List Event) (text before after : List ℕ) →
-    Begins (scene_at old) old.held old.client.calls label P first calls text new.held → Calls old.client calls new.client → after ≡ before ++ text → AnswersBy old label first P before after new
-answers_by old new label first P calls text before after begins made appended = record {
-  text = text;
-  answer = (calls, (begins, made.legal, made.left, made.counted));
-  appended = appended;
+abbrev answers_by : {tone : Tone} (old new : EngineState) (label : ℕ) (first : Result Call Own) (P : Reply → Rest) (calls : List Event) (answer : Answer) (before after : List ℕ) →
+    Begins (scene_at old) old.held old.client.calls label P first calls answer new.held → Calls old.client calls new.client → IsGiven answer tone before after → AnswersBy old label first P tone before after new
+answers_by old new label first P calls answer before after begins made appended = record {
+  answer = answer;
+  answers = (calls, (begins, made.legal, made.left, made.counted));
+  given = appended;
   game = made.game;
   diagram = made.diagram;
 }
 
 -- a request is served by them
-abbrev answers : (old new : EngineState) (label : ℕ) (command : script.Command) (calls : List Event) (text before after : List ℕ) →
-    Begins (scene_at old) old.held old.client.calls label (Continues (scene_at old) old.held (old.client.calls + 1) label command) (first_call (scene_at old) old.held command) calls text new.held →
-    Calls old.client calls new.client → after ≡ before ++ text → AnswersTo old (record { label = label; command = command }) before after new
-answers old new label command calls text before after begins made appended =
-    record { by = answers_by old new label (first_call (scene_at old) old.held command) (Continues (scene_at old) old.held (old.client.calls + 1) label command) calls text before after begins made appended }
+abbrev answers : {tone : Tone} (old new : EngineState) (label : ℕ) (command : script.Command) (calls : List Event) (answer : Answer) (before after : List ℕ) →
+    Begins (scene_at old) old.held old.client.calls label (Continues (scene_at old) old.held (old.client.calls + 1) label command) (first_call (scene_at old) old.held command) calls answer new.held →
+    Calls old.client calls new.client → IsGiven answer tone before after → AnswersTo old (record { label = label; command = command }) tone before after new
+answers old new label command calls answer before after begins made appended =
+    record { by = answers_by old new label (first_call (scene_at old) old.held command) (Continues (scene_at old) old.held (old.client.calls + 1) label command) calls answer before after begins made appended }
 
 -- ---- no call
 
-pub unasked_by : (old : EngineState) (label : ℕ) (first : Result Call Own) (P : Reply → Rest) (own : Own) (before after : List ℕ) → first ≡ Err own → after ≡ before ++ refused_line (own_text own) →
-    AnswersBy old label first P before after old
+pub unasked_by : {tone : Tone} (old : EngineState) (label : ℕ) (first : Result Call Own) (P : Reply → Rest) (own : Own) (before after : List ℕ) → first ≡ Err own → IsGiven (refusal_of (own_text own)) tone before after →
+    AnswersBy old label first P tone before after old
 unasked_by old label first P own before after is appended =
-    answers_by old old label first P [] (refused_line (own_text own)) before after
-    (subst (λ call. Begins (scene_at old) old.held old.client.calls label P call [] (refused_line (own_text own)) old.held) (sym is) (refl, refl, refl)) (none old.client old.client refl) appended
+    answers_by old old label first P [] (refusal_of (own_text own)) before after
+    (subst (λ call. Begins (scene_at old) old.held old.client.calls label P call [] (refusal_of (own_text own)) old.held) (sym is) (refl, refl, refl)) (none old.client old.client refl) appended
 
-pub unasked : (old : EngineState) (label : ℕ) (command : script.Command) (own : Own) (before after : List ℕ) → first_call (scene_at old) old.held command ≡ Err own →
-    after ≡ before ++ refused_line (own_text own) → AnswersTo old (record { label = label; command = command }) before after old
+pub unasked : {tone : Tone} (old : EngineState) (label : ℕ) (command : script.Command) (own : Own) (before after : List ℕ) → first_call (scene_at old) old.held command ≡ Err own →
+    IsGiven (refusal_of (own_text own)) tone before after → AnswersTo old (record { label = label; command = command }) tone before after old
 unasked old label command own before after is appended =
     record { by = unasked_by old label (first_call (scene_at old) old.held command) (Continues (scene_at old) old.held (old.client.calls + 1) label command) own before after is appended }
 
@@ -133,62 +139,62 @@ module _ (limit : ℕ) (limit_is : limit ≡ room) (label : ℕ) where
 
   -- ---- one call
 
-  pub asked_by : (old new : EngineState) (first : Result Call Own) (P : Reply → Rest) (call : Call) (reply : Reply) (text before after : List ℕ) → first ≡ Ok call →
-      IsLogged limit old.client label call reply new.client → Follows (scene_at old) old.held P reply [] text new.held → after ≡ before ++ text → AnswersBy old label first P before after new
-  asked_by old new first P call reply text before after is logged follows appended =
-      answers_by old new label first P (event label call reply ∷ []) text before after
-      (subst (λ c. Begins (scene_at old) old.held old.client.calls label P c (event label call reply ∷ []) text new.held) (sym is)
+  pub asked_by : {tone : Tone} (old new : EngineState) (first : Result Call Own) (P : Reply → Rest) (call : Call) (reply : Reply) (answer : Answer) (before after : List ℕ) → first ≡ Ok call →
+      IsLogged limit old.client label call reply new.client → Follows (scene_at old) old.held P reply [] answer new.held → IsGiven answer tone before after → AnswersBy old label first P tone before after new
+  asked_by old new first P call reply answer before after is logged follows appended =
+      answers_by old new label first P (event label call reply ∷ []) answer before after
+      (subst (λ c. Begins (scene_at old) old.held old.client.calls label P c (event label call reply ∷ []) answer new.held) (sym is)
       (inl (had_room old.client.calls old.client.calls refl logged.had_room, (refl, refl, follows)))) (one limit old.client new.client label call reply logged) appended
 
-  pub asked : (old new : EngineState) (command : script.Command) (call : Call) (reply : Reply) (text before after : List ℕ) → first_call (scene_at old) old.held command ≡ Ok call →
-      IsLogged limit old.client label call reply new.client → Follows (scene_at old) old.held (Continues (scene_at old) old.held (old.client.calls + 1) label command) reply [] text new.held →
-      after ≡ before ++ text → AnswersTo old (record { label = label; command = command }) before after new
-  asked old new command call reply text before after first logged follows appended =
-      record { by = asked_by old new (first_call (scene_at old) old.held command) (Continues (scene_at old) old.held (old.client.calls + 1) label command) call reply text before after first logged follows appended }
+  pub asked : {tone : Tone} (old new : EngineState) (command : script.Command) (call : Call) (reply : Reply) (answer : Answer) (before after : List ℕ) → first_call (scene_at old) old.held command ≡ Ok call →
+      IsLogged limit old.client label call reply new.client → Follows (scene_at old) old.held (Continues (scene_at old) old.held (old.client.calls + 1) label command) reply [] answer new.held →
+      IsGiven answer tone before after → AnswersTo old (record { label = label; command = command }) tone before after new
+  asked old new command call reply answer before after first logged follows appended =
+      record { by = asked_by old new (first_call (scene_at old) old.held command) (Continues (scene_at old) old.held (old.client.calls + 1) label command) call reply answer before after first logged follows appended }
 
   -- a full log leaves the engine as it was
-  pub full_by : (old new : EngineState) (first : Result Call Own) (P : Reply → Rest) (call : Call) (before after : List ℕ) → first ≡ Ok call → old.client.calls ≡ limit →
-      new.client ≡ old.client → new.held ≡ old.held → after ≡ before ++ full_line → AnswersBy old label first P before after new
+  pub full_by : {tone : Tone} (old new : EngineState) (first : Result Call Own) (P : Reply → Rest) (call : Call) (before after : List ℕ) → first ≡ Ok call → old.client.calls ≡ limit →
+      new.client ≡ old.client → new.held ≡ old.held → IsGiven full_log tone before after → AnswersBy old label first P tone before after new
   full_by old new first P call before after begins is client held appended =
-      answers_by old new label first P [] full_line before after
-      (subst (λ c. Begins (scene_at old) old.held old.client.calls label P c [] full_line new.held) (sym begins) (inr (omega (arith, is, limit_is), (refl, refl, held))))
+      answers_by old new label first P [] full_log before after
+      (subst (λ c. Begins (scene_at old) old.held old.client.calls label P c [] full_log new.held) (sym begins) (inr (omega (arith, is, limit_is), (refl, refl, held))))
       (none old.client new.client client) appended
 
-  pub full : (old new : EngineState) (command : script.Command) (call : Call) (before after : List ℕ) → first_call (scene_at old) old.held command ≡ Ok call → old.client.calls ≡ limit →
-      new.client ≡ old.client → new.held ≡ old.held → after ≡ before ++ full_line → AnswersTo old (record { label = label; command = command }) before after new
+  pub full : {tone : Tone} (old new : EngineState) (command : script.Command) (call : Call) (before after : List ℕ) → first_call (scene_at old) old.held command ≡ Ok call → old.client.calls ≡ limit →
+      new.client ≡ old.client → new.held ≡ old.held → IsGiven full_log tone before after → AnswersTo old (record { label = label; command = command }) tone before after new
   full old new command call before after first is client held appended =
       record { by = full_by old new (first_call (scene_at old) old.held command) (Continues (scene_at old) old.held (old.client.calls + 1) label command) call before after first is client held appended }
 
   -- the desk's refusal leaves what is held
-  pub refused : (old new : EngineState) (command : script.Command) (call : Call) (r : Refusal) (names : List (List ℕ)) (before after : List ℕ) → first_call (scene_at old) old.held command ≡ Ok call →
+  pub refused : {tone : Tone} (old new : EngineState) (command : script.Command) (call : Call) (r : Refusal) (names : List (List ℕ)) (before after : List ℕ) → first_call (scene_at old) old.held command ≡ Ok call →
       IsLogged limit old.client label call (Refused r) new.client → new.held ≡ old.held → names ≡ new.client.desk.diagram.names →
-      after ≡ before ++ refused_line (refusal_text names r) → AnswersTo old (record { label = label; command = command }) before after new
-  refused old new command call r names before after first logged held names_are told =
-      asked old new command call (Refused r) (refused_line (refusal_text old.client.desk.diagram.names r)) before after first logged (refl, refl, held)
-      (told ∙ ap (λ (ns : List (List ℕ)). before ++ refused_line (refusal_text ns r)) (names_are ∙ ap (λ (d : NamedDiagram). d.names) logged.step.diagram))
+      IsGiven (refusal_of (refusal_text names r)) tone before after → AnswersTo old (record { label = label; command = command }) tone before after new
+  refused {tone = tone} old new command call r names before after first logged held names_are told =
+      asked old new command call (Refused r) (refusal_of (refusal_text old.client.desk.diagram.names r)) before after first logged (refl, refl, held)
+      (subst (λ (ns : List (List ℕ)). IsGiven (refusal_of (refusal_text ns r)) tone before after) (names_are ∙ ap (λ (d : NamedDiagram). d.names) logged.step.diagram) told)
 
   -- what the client tells of a call that it doesn't make
-  pub unanswered : {F : Type 0} (refusal : F → Option Refusal) (old new : EngineState) (command : script.Command) (call : Call) (fault : ClientFault F) (names : List (List ℕ)) (before after : List ℕ) →
+  pub unanswered : {F : Type 0} {tone : Tone} (refusal : F → Option Refusal) (old new : EngineState) (command : script.Command) (call : Call) (fault : ClientFault F) (names : List (List ℕ)) (before after : List ℕ) →
       first_call (scene_at old) old.held command ≡ Ok call → Tells limit refusal old.client label call new.client fault → UnlessStray fault (new.held ≡ old.held) →
-      names ≡ new.client.desk.diagram.names → TellsFault names refusal fault before after → AnswersTo old (record { label = label; command = command }) before after new
+      names ≡ new.client.desk.diagram.names → TellsFault names refusal fault tone before after → AnswersTo old (record { label = label; command = command }) tone before after new
   unanswered refusal old new command call faults.LogFull names before after first tells held names_are told = full old new command call before after first tells.0 tells.1 held told
-  unanswered refusal old new command call (faults.Refused fault) names before after first tells held names_are told =
-      refused old new command call tells.0 names before after first tells.1.1 held names_are (subst (λ (x : Option Refusal). TellsRefusal names x before after) tells.1.0 told)
+  unanswered {tone = tone} refusal old new command call (faults.Refused fault) names before after first tells held names_are told =
+      refused old new command call tells.0 names before after first tells.1.1 held names_are (subst (λ (x : Option Refusal). TellsRefusal names x tone before after) tells.1.0 told)
   unanswered refusal old new command call faults.Stray names before after first tells held names_are told = absurd told
   unanswered refusal old new command call faults.Memory names before after first tells held names_are told = absurd told
 
   -- the same of a call that the desk never refuses
-  pub log_full_by : {F : Type 0} (refusal : F → Option Refusal) (old new : EngineState) (first : Result Call Own) (P : Reply → Rest) (call : Call) (fault : ClientFault F) (before after : List ℕ) →
-      first ≡ Ok call → Tells limit refusal old.client label call new.client fault → UnlessStray fault (new.held ≡ old.held) → fault ≡ faults.LogFull → after ≡ before ++ full_line →
-      AnswersBy old label first P before after new
+  pub log_full_by : {F : Type 0} {tone : Tone} (refusal : F → Option Refusal) (old new : EngineState) (first : Result Call Own) (P : Reply → Rest) (call : Call) (fault : ClientFault F) (before after : List ℕ) →
+      first ≡ Ok call → Tells limit refusal old.client label call new.client fault → UnlessStray fault (new.held ≡ old.held) → fault ≡ faults.LogFull → IsGiven full_log tone before after →
+      AnswersBy old label first P tone before after new
   log_full_by {F} refusal old new first P call fault before after begins tells held is told =
       let so : Tells limit refusal old.client label call new.client faults.LogFull = subst (λ (f : ClientFault F). Tells limit refusal old.client label call new.client f) is tells in
       let stays : new.held ≡ old.held = subst (λ (f : ClientFault F). UnlessStray f (new.held ≡ old.held)) is held in
       full_by old new first P call before after begins so.0 so.1 stays told
 
-  pub log_full : {F : Type 0} (refusal : F → Option Refusal) (old new : EngineState) (command : script.Command) (call : Call) (fault : ClientFault F) (before after : List ℕ) →
+  pub log_full : {F : Type 0} {tone : Tone} (refusal : F → Option Refusal) (old new : EngineState) (command : script.Command) (call : Call) (fault : ClientFault F) (before after : List ℕ) →
       first_call (scene_at old) old.held command ≡ Ok call → Tells limit refusal old.client label call new.client fault → UnlessStray fault (new.held ≡ old.held) →
-      fault ≡ faults.LogFull → after ≡ before ++ full_line → AnswersTo old (record { label = label; command = command }) before after new
+      fault ≡ faults.LogFull → IsGiven full_log tone before after → AnswersTo old (record { label = label; command = command }) tone before after new
   log_full refusal old new command call fault before after first tells held is told =
       record { by = log_full_by refusal old new (first_call (scene_at old) old.held command) (Continues (scene_at old) old.held (old.client.calls + 1) label command) call fault before after first tells held is told }
 
@@ -205,9 +211,9 @@ module _ (limit : ℕ) (limit_is : limit ≡ room) (label : ℕ) where
     module _ (sweeps : Option ℕ) (swept : IsSwept (family_of (setting_of old.client.desk)) (sweeps_of sweeps) decisions hopeful dual made)
         (by : IsMadeBy (setting_of old.client.desk) lifters (sweeps_of sweeps) decisions hopeful dual made) where
       -- it is swept, and the log is full
-      pub settle_full : first.calls ≡ limit → new.client ≡ first → new.held ≡ old.held → after ≡ before ++ full_line → SweepsTo old lifters (record { label = label; command = script.Settle sweeps }) before after new
+      pub settle_full : {tone : Tone} → first.calls ≡ limit → new.client ≡ first → new.held ≡ old.held → IsGiven full_log tone before after → SweepsTo old lifters (record { label = label; command = script.Settle sweeps }) tone before after new
       settle_full is client held appended = record {
-        answers = answers old new label (script.Settle sweeps) (event label Order (Ordered decisions hopeful dual) ∷ []) full_line before after
+        answers = answers old new label (script.Settle sweeps) (event label Order (Ordered decisions hopeful dual) ∷ []) full_log before after
             (inl (order_room, (refl, refl, (made, swept, inr (omega (arith, is, limit_is, order.counted), (refl, refl, held))))))
             (then limit old.client first new.client label Order (Ordered decisions hopeful dual) [] order (none first new.client client)) appended;
         made = tt;
@@ -218,9 +224,9 @@ module _ (limit : ℕ) (limit_is : limit ≡ room) (label : ℕ) where
         commit_room = had_room (old.client.calls + 1) first.calls (sym order.counted) commit.had_room
 
         -- it is swept and committed, and the log is full
-        pub commit_full : second.calls ≡ limit → new.client ≡ second → new.held ≡ old.held → after ≡ before ++ full_line → SweepsTo old lifters (record { label = label; command = script.Settle sweeps }) before after new
+        pub commit_full : {tone : Tone} → second.calls ≡ limit → new.client ≡ second → new.held ≡ old.held → IsGiven full_log tone before after → SweepsTo old lifters (record { label = label; command = script.Settle sweeps }) tone before after new
         commit_full is client held appended = record {
-          answers = answers old new label (script.Settle sweeps) (event label Order (Ordered decisions hopeful dual) ∷ event label (Commit made) (Added n) ∷ []) full_line before after
+          answers = answers old new label (script.Settle sweeps) (event label Order (Ordered decisions hopeful dual) ∷ event label (Commit made) (Added n) ∷ []) full_log before after
               (inl (order_room, (refl, refl, (made, swept, inl (commit_room, (refl, refl, inr (omega (arith, is, limit_is, order.counted, commit.counted), (refl, refl, held))))))))
               (then limit old.client first new.client label Order (Ordered decisions hopeful dual) (event label (Commit made) (Added n) ∷ []) order
               (then limit first second new.client label (Commit made) (Added n) [] commit (none second new.client client))) appended;
@@ -228,10 +234,10 @@ module _ (limit : ℕ) (limit_is : limit ≡ room) (label : ℕ) where
         }
 
         -- it is swept and committed, and the page is told to be settled or not
-        pub settles : (b : Bool) → IsLogged limit second label Settled (IsSettled b) new.client → new.held ≡ old.held → after ≡ before ++ settled_text b n →
-            SweepsTo old lifters (record { label = label; command = script.Settle sweeps }) before after new
+        pub settles : {tone : Tone} (b : Bool) → IsLogged limit second label Settled (IsSettled b) new.client → new.held ≡ old.held → IsGiven (done (settled_text b n)) tone before after →
+            SweepsTo old lifters (record { label = label; command = script.Settle sweeps }) tone before after new
         settles b settled held appended = record {
-          answers = answers old new label (script.Settle sweeps) (event label Order (Ordered decisions hopeful dual) ∷ event label (Commit made) (Added n) ∷ event label Settled (IsSettled b) ∷ []) (settled_text b n) before after
+          answers = answers old new label (script.Settle sweeps) (event label Order (Ordered decisions hopeful dual) ∷ event label (Commit made) (Added n) ∷ event label Settled (IsSettled b) ∷ []) (done (settled_text b n)) before after
               (inl (order_room, (refl, refl, (made, swept, inl (commit_room, (refl, refl, inl (had_room (old.client.calls + 1 + 1) second.calls (omega (arith, order.counted, commit.counted)) settled.had_room, (refl, refl, (refl, refl, held)))))))))
               (then limit old.client first new.client label Order (Ordered decisions hopeful dual) (event label (Commit made) (Added n) ∷ event label Settled (IsSettled b) ∷ []) order
               (then limit first second new.client label (Commit made) (Added n) (event label Settled (IsSettled b) ∷ []) commit (one limit second new.client label Settled (IsSettled b) settled))) appended;
@@ -243,61 +249,61 @@ module _ (limit : ℕ) (limit_is : limit ≡ room) (label : ℕ) where
       lift_first = ap (λ (x : Option ℕ). call_or NoVertex (λ v. Order) x) vertex
 
       -- it is lifted once, and the log is full
-      pub lift_full : first.calls ≡ limit → new.client ≡ first → new.held ≡ old.held → after ≡ before ++ full_line → AnswersTo old (record { label = label; command = script.Lift table named }) before after new
+      pub lift_full : {tone : Tone} → first.calls ≡ limit → new.client ≡ first → new.held ≡ old.held → IsGiven full_log tone before after → AnswersTo old (record { label = label; command = script.Lift table named }) tone before after new
       lift_full is client held appended =
-          answers old new label (script.Lift table named) (event label Order (Ordered decisions hopeful dual) ∷ []) full_line before after
-          (subst (λ found. Begins (scene_at old) old.held old.client.calls label (Continues (scene_at old) old.held (old.client.calls + 1) label (script.Lift table named)) found (event label Order (Ordered decisions hopeful dual) ∷ []) full_line new.held) (sym lift_first)
+          answers old new label (script.Lift table named) (event label Order (Ordered decisions hopeful dual) ∷ []) full_log before after
+          (subst (λ found. Begins (scene_at old) old.held old.client.calls label (Continues (scene_at old) old.held (old.client.calls + 1) label (script.Lift table named)) found (event label Order (Ordered decisions hopeful dual) ∷ []) full_log new.held) (sym lift_first)
           (inl (order_room, (refl, refl, (v, made, vertex, lifted, inr (omega (arith, is, limit_is, order.counted), (refl, refl, held)))))))
           (then limit old.client first new.client label Order (Ordered decisions hopeful dual) [] order (none first new.client client)) appended
 
       -- it is lifted once and committed
-      pub lifts : (n : ℕ) → IsLogged limit first label (Commit made) (Added n) new.client → new.held ≡ old.held → after ≡ before ++ numbered (codes "added") n →
-          AnswersTo old (record { label = label; command = script.Lift table named }) before after new
+      pub lifts : {tone : Tone} (n : ℕ) → IsLogged limit first label (Commit made) (Added n) new.client → new.held ≡ old.held → IsGiven (done (numbered (codes "added") n)) tone before after →
+          AnswersTo old (record { label = label; command = script.Lift table named }) tone before after new
       lifts n commit held appended =
-          answers old new label (script.Lift table named) (event label Order (Ordered decisions hopeful dual) ∷ event label (Commit made) (Added n) ∷ []) (numbered (codes "added") n) before after
-          (subst (λ found. Begins (scene_at old) old.held old.client.calls label (Continues (scene_at old) old.held (old.client.calls + 1) label (script.Lift table named)) found (event label Order (Ordered decisions hopeful dual) ∷ event label (Commit made) (Added n) ∷ []) (numbered (codes "added") n) new.held) (sym lift_first)
+          answers old new label (script.Lift table named) (event label Order (Ordered decisions hopeful dual) ∷ event label (Commit made) (Added n) ∷ []) (done (numbered (codes "added") n)) before after
+          (subst (λ found. Begins (scene_at old) old.held old.client.calls label (Continues (scene_at old) old.held (old.client.calls + 1) label (script.Lift table named)) found (event label Order (Ordered decisions hopeful dual) ∷ event label (Commit made) (Added n) ∷ []) (done (numbered (codes "added") n)) new.held) (sym lift_first)
           (inl (order_room, (refl, refl, (v, made, vertex, lifted, inl (had_room (old.client.calls + 1) first.calls (sym order.counted) commit.had_room, (refl, refl, (refl, refl, held))))))))
           (then limit old.client first new.client label Order (Ordered decisions hopeful dual) (event label (Commit made) (Added n) ∷ []) order
           (one limit first new.client label (Commit made) (Added n) commit)) appended
 
     -- it is swept and kept
-    pub keeps : (n : ℕ) → IsSwept (family_of (setting_of old.client.desk)) most_sweeps decisions hopeful dual made → IsMadeBy (setting_of old.client.desk) lifters most_sweeps decisions hopeful dual made →
-        new.client ≡ first → new.held ≡ with_harvest old.held made → n ≡ length old.held.harvests + 1 → after ≡ before ++ numbered (codes "harvest") n →
-        SweepsTo old lifters (record { label = label; command = script.Harvest }) before after new
+    pub keeps : {tone : Tone} (n : ℕ) → IsSwept (family_of (setting_of old.client.desk)) most_sweeps decisions hopeful dual made → IsMadeBy (setting_of old.client.desk) lifters most_sweeps decisions hopeful dual made →
+        new.client ≡ first → new.held ≡ with_harvest old.held made → n ≡ length old.held.harvests + 1 → IsGiven (done (numbered (codes "harvest") n)) tone before after →
+        SweepsTo old lifters (record { label = label; command = script.Harvest }) tone before after new
     keeps n swept by client held counted appended = record {
-      answers = answers old new label script.Harvest (event label Order (Ordered decisions hopeful dual) ∷ []) (numbered (codes "harvest") n) before after
-          (inl (order_room, (refl, refl, (made, swept, (refl, ap (λ (k : ℕ). numbered (codes "harvest") k) counted, held)))))
+      answers = answers old new label script.Harvest (event label Order (Ordered decisions hopeful dual) ∷ []) (done (numbered (codes "harvest") n)) before after
+          (inl (order_room, (refl, refl, (made, swept, (refl, ap (λ (k : ℕ). done (numbered (codes "harvest") k)) counted, held)))))
           (then limit old.client first new.client label Order (Ordered decisions hopeful dual) [] order (none first new.client client)) appended;
       made = (old.held.harvests, made, (ap (λ (h : Held). h.harvests) held, by));
     }
 
   -- a sweep that isn't begun, since the log is full
-  pub first_full : {F : Type 0} (refusal : F → Option Refusal) (old new : EngineState) (lifters : ℕ) (sweeps : Option ℕ) (fault : ClientFault F) (before after : List ℕ) →
-      Tells limit refusal old.client label Order new.client fault → new.held ≡ old.held → fault ≡ faults.LogFull → after ≡ before ++ full_line →
-      SweepsTo old lifters (record { label = label; command = script.Settle sweeps }) before after new
+  pub first_full : {F : Type 0} {tone : Tone} (refusal : F → Option Refusal) (old new : EngineState) (lifters : ℕ) (sweeps : Option ℕ) (fault : ClientFault F) (before after : List ℕ) →
+      Tells limit refusal old.client label Order new.client fault → new.held ≡ old.held → fault ≡ faults.LogFull → IsGiven full_log tone before after →
+      SweepsTo old lifters (record { label = label; command = script.Settle sweeps }) tone before after new
   first_full {F} refusal old new lifters sweeps fault before after tells held is told =
       let so : Tells limit refusal old.client label Order new.client faults.LogFull = subst (λ (f : ClientFault F). Tells limit refusal old.client label Order new.client f) is tells in
       record {
-        answers = answers old new label (script.Settle sweeps) [] full_line before after (inr (omega (arith, so.0, limit_is), (refl, refl, held))) (none old.client new.client so.1) told;
+        answers = answers old new label (script.Settle sweeps) [] full_log before after (inr (omega (arith, so.0, limit_is), (refl, refl, held))) (none old.client new.client so.1) told;
         made = tt;
       }
 
-  pub harvest_none : {F : Type 0} (refusal : F → Option Refusal) (old new : EngineState) (lifters : ℕ) (fault : ClientFault F) (before after : List ℕ) →
-      Tells limit refusal old.client label Order new.client fault → new.held ≡ old.held → fault ≡ faults.LogFull → after ≡ before ++ full_line →
-      SweepsTo old lifters (record { label = label; command = script.Harvest }) before after new
+  pub harvest_none : {F : Type 0} {tone : Tone} (refusal : F → Option Refusal) (old new : EngineState) (lifters : ℕ) (fault : ClientFault F) (before after : List ℕ) →
+      Tells limit refusal old.client label Order new.client fault → new.held ≡ old.held → fault ≡ faults.LogFull → IsGiven full_log tone before after →
+      SweepsTo old lifters (record { label = label; command = script.Harvest }) tone before after new
   harvest_none {F} refusal old new lifters fault before after tells held is told =
       let so : Tells limit refusal old.client label Order new.client faults.LogFull = subst (λ (f : ClientFault F). Tells limit refusal old.client label Order new.client f) is tells in
       record {
-        answers = answers old new label script.Harvest [] full_line before after (inr (omega (arith, so.0, limit_is), (refl, refl, held))) (none old.client new.client so.1) told;
+        answers = answers old new label script.Harvest [] full_log before after (inr (omega (arith, so.0, limit_is), (refl, refl, held))) (none old.client new.client so.1) told;
         made = tt;
       }
 
   -- ---- a page
 
-  pub page_told : (old new : EngineState) (command : script.Command) (page : List Entry) (text before after : List ℕ) → first_call (scene_at old) old.held command ≡ Ok Page →
-      IsLogged limit old.client label Page (PageIs page) new.client → Continues (scene_at old) old.held (old.client.calls + 1) label command (PageIs page) [] text new.held →
-      after ≡ before ++ text → AnswersTo old (record { label = label; command = command }) before after new
-  page_told old new command page text before after first logged so appended = asked old new command Page (PageIs page) text before after first logged so appended
+  pub page_told : {tone : Tone} (old new : EngineState) (command : script.Command) (page : List Entry) (answer : Answer) (before after : List ℕ) → first_call (scene_at old) old.held command ≡ Ok Page →
+      IsLogged limit old.client label Page (PageIs page) new.client → Continues (scene_at old) old.held (old.client.calls + 1) label command (PageIs page) [] answer new.held →
+      IsGiven answer tone before after → AnswersTo old (record { label = label; command = command }) tone before after new
+  page_told old new command page answer before after first logged so appended = asked old new command Page (PageIs page) answer before after first logged so appended
 
 -- ---- a name
 
@@ -306,6 +312,6 @@ named_first scene held true name = refl
 named_first scene held false name = refl
 
 pub continues_decided : (scene : Scene) (held new : Held) (made label s : ℕ) (value : Bool) (name : List ℕ) → new ≡ record held { undos = held.undos ++ s ∷ [] } →
-    Continues scene held made label (deciding value name) (Changed s) [] (numbered (codes "done") s) new
+    Continues scene held made label (deciding value name) (Changed s) [] (done (numbered (codes "done") s)) new
 continues_decided scene held new made label s true name is = (refl, refl, is)
 continues_decided scene held new made label s false name is = (refl, refl, is)

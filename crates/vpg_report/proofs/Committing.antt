@@ -13,13 +13,15 @@ use Rattle.vpg_desk.specs.Commit.{IsOrderOf, commit_refusal, handed_in}
 use Rattle.vpg_faults.specs.declared.fault.CommitFault.{CommitFault}
 use Rattle.vpg_faults.specs.declared.fault.CommitFault.TheVariants as commits
 use Rattle.vpg_desk.specs.State.{DeskState, Replies}
+use Rattle.vpg_serving.specs.Answer.{IsGiven, done, refused}
+use Rattle.vpg_serving.specs.declared.tone.Tone.{Tone}
 use Rattle.vpg_report.specs.Client.{ClientState, IsLogged}
 use Rattle.vpg_report.specs.Faults.{Tells, CommitTells, UnlessStray}
 use Rattle.vpg_report.specs.declared.fault.ClientFault.{ClientFault}
 use Rattle.vpg_report.specs.declared.fault.ClientFault.TheVariants as faults
 use Rattle.vpg_script.specs.Script as script
 use Rattle.vpg_report.specs.Held.{harvest_kept, without_harvest}
-use Rattle.vpg_report.specs.Answers.{NoHarvest, own_text, refused_line, first_call, room, call_or, numbered}
+use Rattle.vpg_report.specs.Answers.{NoHarvest, own_text, first_call, room, call_or, numbered}
 use Rattle.vpg_report.specs.Engine.{EngineState, scene_at, TellsFault, AnswersTo}
 use Rattle.vpg_report.specs.EngineFields.{IsOwnHarvest, AreOwnHarvests, harvests_of}
 use Rattle.vpg_settle.specs.Sweeping.{IsOfPage}
@@ -33,18 +35,18 @@ module _ (old : EngineState) (session number : ℕ) (harvests : List (Option Har
   held_at : (h : Option HarvestView) → h ≡ harvest_kept harvests number → harvest_kept old.held.harvests number ≡ option_map (handed_in true) h
   held_at h is = ap (λ (hs : List (Option Harvest)). harvest_kept hs number) same ∙ seen_at harvests number h is
 
-  pub commit_unknown : None ≡ harvest_kept harvests number → after ≡ before ++ refused_line (own_text NoHarvest) →
-      AnswersTo old (record { label = session; command = script.Commit number }) before after old
+  pub commit_unknown : {tone : Tone} → None ≡ harvest_kept harvests number → IsGiven (refused (own_text NoHarvest)) tone before after →
+      AnswersTo old (record { label = session; command = script.Commit number }) tone before after old
   commit_unknown is appended = unasked old session (script.Commit number) NoHarvest before after (ap (λ (x : Option Harvest). call_or NoHarvest Commit x) (held_at None is)) appended
 
   module _ (limit : ℕ) (limit_is : limit ≡ room) (new : EngineState) (harvest : HarvestView) (is : Some harvest ≡ harvest_kept harvests number) where
     commit_first : first_call (scene_at old) old.held (script.Commit number) ≡ Ok (Commit (handed_in true harvest))
     commit_first = ap (λ (x : Option Harvest). call_or NoHarvest Commit x) (held_at (Some harvest) is)
 
-    pub committed : (added : ℕ) → IsLogged limit old.client session (Commit (handed_in true harvest)) (Added added) new.client → new.held ≡ without_harvest old.held number →
-        after ≡ before ++ numbered (codes "added") added → AnswersTo old (record { label = session; command = script.Commit number }) before after new
+    pub committed : {tone : Tone} (added : ℕ) → IsLogged limit old.client session (Commit (handed_in true harvest)) (Added added) new.client → new.held ≡ without_harvest old.held number →
+        IsGiven (done (numbered (codes "added") added)) tone before after → AnswersTo old (record { label = session; command = script.Commit number }) tone before after new
     committed added logged held appended =
-        asked limit limit_is session old new (script.Commit number) (Commit (handed_in true harvest)) (Added added) (numbered (codes "added") added) before after commit_first logged (refl, refl, held) appended
+        asked limit limit_is session old new (script.Commit number) (Commit (handed_in true harvest)) (Added added) (done (numbered (codes "added") added)) before after commit_first logged (refl, refl, held) appended
 
     -- a kept harvest is of the desk
     of_own : (fault : ClientFault CommitFault) → IsOrderOf old.client.desk harvest.order → CommitTells limit old.client session harvest new.client fault →
@@ -54,9 +56,9 @@ module _ (old : EngineState) (session number : ℕ) (harvests : List (Option Har
     of_own faults.Stray own told = told
     of_own faults.Memory own told = told
 
-    pub commit_refused : (fault : ClientFault CommitFault) (names : List (List ℕ)) → IsOrderOf old.client.desk harvest.order → CommitTells limit old.client session harvest new.client fault →
-        UnlessStray fault (new.held ≡ old.held) → names ≡ new.client.desk.diagram.names → TellsFault names commit_refusal fault before after →
-        AnswersTo old (record { label = session; command = script.Commit number }) before after new
+    pub commit_refused : {tone : Tone} (fault : ClientFault CommitFault) (names : List (List ℕ)) → IsOrderOf old.client.desk harvest.order → CommitTells limit old.client session harvest new.client fault →
+        UnlessStray fault (new.held ≡ old.held) → names ≡ new.client.desk.diagram.names → TellsFault names commit_refusal fault tone before after →
+        AnswersTo old (record { label = session; command = script.Commit number }) tone before after new
     commit_refused fault names own tells held names_are told =
         unanswered limit limit_is session commit_refusal old new (script.Commit number) (Commit (handed_in true harvest)) fault names before after commit_first (of_own fault own tells) held names_are told
 

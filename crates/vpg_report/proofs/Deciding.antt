@@ -10,51 +10,53 @@ use Rattle.vpg_faults.specs.declared.fault.RetractFault.{RetractFault}
 use Rattle.vpg_desk.specs.Desk.{family_of}
 use Rattle.vpg_desk.specs.State.{setting_of}
 use Rattle.vpg_faults.specs.declared.fault.DecideFault.TheVariants as decides
+use Rattle.vpg_serving.specs.Answer.{IsGiven, done, refused}
+use Rattle.vpg_serving.specs.declared.tone.Tone.{Tone}
 use Rattle.vpg_report.specs.Client.{ClientState, IsLogged}
 use Rattle.vpg_report.specs.Faults.{Tells, UnlessStray}
 use Rattle.vpg_report.specs.declared.fault.ClientFault.{ClientFault}
 use Rattle.vpg_report.specs.declared.fault.ClientFault.TheVariants as faults
 use Rattle.vpg_script.specs.Script as script
 use Rattle.vpg_report.specs.Held.{after_change}
-use Rattle.vpg_report.specs.Answers.{NoFeature, own_text, refused_line, numbered, room, call_or, first_call}
+use Rattle.vpg_report.specs.Answers.{NoFeature, own_text, numbered, room, call_or, first_call}
 use Rattle.vpg_report.specs.Engine.{EngineState, scene_at, deciding, TellsFault, AnswersTo}
 use Rattle.vpg_report.proofs.Asked.{unasked, asked, unanswered, named_first, continues_decided}
 
 module _ (old : EngineState) (session : ℕ) (name : List ℕ) where
-  pub decide_unknown : (value : Bool) (before after : List ℕ) → index_of old.client.desk.diagram.names name ≡ None → after ≡ before ++ refused_line (own_text NoFeature) →
-      AnswersTo old (record { label = session; command = deciding value name }) before after old
+  pub decide_unknown : {tone : Tone} (value : Bool) (before after : List ℕ) → index_of old.client.desk.diagram.names name ≡ None → IsGiven (refused (own_text NoFeature)) tone before after →
+      AnswersTo old (record { label = session; command = deciding value name }) tone before after old
   decide_unknown value before after none appended =
       unasked old session (deciding value name) NoFeature before after (named_first (scene_at old) old.held value name ∙ ap (λ (x : Option ℕ). call_or NoFeature (λ f. Decide f value) x) none) appended
 
-  pub retract_unknown : (before after : List ℕ) → index_of old.client.desk.diagram.names name ≡ None → after ≡ before ++ refused_line (own_text NoFeature) →
-      AnswersTo old (record { label = session; command = script.Retract name }) before after old
+  pub retract_unknown : {tone : Tone} (before after : List ℕ) → index_of old.client.desk.diagram.names name ≡ None → IsGiven (refused (own_text NoFeature)) tone before after →
+      AnswersTo old (record { label = session; command = script.Retract name }) tone before after old
   retract_unknown before after none appended = unasked old session (script.Retract name) NoFeature before after (ap (λ (x : Option ℕ). call_or NoFeature Retract x) none) appended
 
   module _ (limit : ℕ) (limit_is : limit ≡ room) (new : EngineState) (f : ℕ) (before after : List ℕ) (found : index_of old.client.desk.diagram.names name ≡ Some f) where
     decide_first : (value : Bool) → first_call (scene_at old) old.held (deciding value name) ≡ Ok (Decide f value)
     decide_first value = named_first (scene_at old) old.held value name ∙ ap (λ (x : Option ℕ). call_or NoFeature (λ f. Decide f value) x) found
 
-    pub decided : (value : Bool) (s : ℕ) → IsLogged limit old.client session (Decide f value) (Changed s) new.client → new.held ≡ after_change old.held s → after ≡ before ++ numbered (codes "done") s →
-        AnswersTo old (record { label = session; command = deciding value name }) before after new
+    pub decided : {tone : Tone} (value : Bool) (s : ℕ) → IsLogged limit old.client session (Decide f value) (Changed s) new.client → new.held ≡ after_change old.held s → IsGiven (done (numbered (codes "done") s)) tone before after →
+        AnswersTo old (record { label = session; command = deciding value name }) tone before after new
     decided value s logged held appended =
-        asked limit limit_is session old new (deciding value name) (Decide f value) (Changed s) (numbered (codes "done") s) before after (decide_first value) logged
+        asked limit limit_is session old new (deciding value name) (Decide f value) (Changed s) (done (numbered (codes "done") s)) before after (decide_first value) logged
         (continues_decided (scene_at old) old.held new.held (old.client.calls + 1) session s value name held) appended
 
-    pub decide_refused : (value : Bool) (fault : ClientFault DecideFault) (names : List (List ℕ)) → Tells limit decide_refusal old.client session (Decide f value) new.client fault →
-        UnlessStray fault (new.held ≡ old.held) → names ≡ new.client.desk.diagram.names → TellsFault names decide_refusal fault before after →
-        AnswersTo old (record { label = session; command = deciding value name }) before after new
+    pub decide_refused : {tone : Tone} (value : Bool) (fault : ClientFault DecideFault) (names : List (List ℕ)) → Tells limit decide_refusal old.client session (Decide f value) new.client fault →
+        UnlessStray fault (new.held ≡ old.held) → names ≡ new.client.desk.diagram.names → TellsFault names decide_refusal fault tone before after →
+        AnswersTo old (record { label = session; command = deciding value name }) tone before after new
     decide_refused value fault names tells held names_are told =
         unanswered limit limit_is session decide_refusal old new (deciding value name) (Decide f value) fault names before after (decide_first value) tells held names_are told
 
-    pub retracted : (s : ℕ) → IsLogged limit old.client session (Retract f) (Changed s) new.client → new.held ≡ after_change old.held s → after ≡ before ++ numbered (codes "done") s →
-        AnswersTo old (record { label = session; command = script.Retract name }) before after new
+    pub retracted : {tone : Tone} (s : ℕ) → IsLogged limit old.client session (Retract f) (Changed s) new.client → new.held ≡ after_change old.held s → IsGiven (done (numbered (codes "done") s)) tone before after →
+        AnswersTo old (record { label = session; command = script.Retract name }) tone before after new
     retracted s logged held appended =
-        asked limit limit_is session old new (script.Retract name) (Retract f) (Changed s) (numbered (codes "done") s) before after (ap (λ (x : Option ℕ). call_or NoFeature Retract x) found) logged
+        asked limit limit_is session old new (script.Retract name) (Retract f) (Changed s) (done (numbered (codes "done") s)) before after (ap (λ (x : Option ℕ). call_or NoFeature Retract x) found) logged
         (refl, refl, held) appended
 
-    pub retract_refused : (fault : ClientFault RetractFault) (names : List (List ℕ)) → Tells limit retract_refusal old.client session (Retract f) new.client fault →
-        UnlessStray fault (new.held ≡ old.held) → names ≡ new.client.desk.diagram.names → TellsFault names retract_refusal fault before after →
-        AnswersTo old (record { label = session; command = script.Retract name }) before after new
+    pub retract_refused : {tone : Tone} (fault : ClientFault RetractFault) (names : List (List ℕ)) → Tells limit retract_refusal old.client session (Retract f) new.client fault →
+        UnlessStray fault (new.held ≡ old.held) → names ≡ new.client.desk.diagram.names → TellsFault names retract_refusal fault tone before after →
+        AnswersTo old (record { label = session; command = script.Retract name }) tone before after new
     retract_refused fault names tells held names_are told =
         unanswered limit limit_is session retract_refusal old new (script.Retract name) (Retract f) fault names before after (ap (λ (x : Option ℕ). call_or NoFeature Retract x) found) tells held names_are told
 

@@ -10,11 +10,12 @@ use Rattle.vpg_desk.specs.Desk.{family_of}
 use Rattle.vpg_desk.specs.Lawful.{IsLawful, HandsIn, AllHandIn}
 use Rattle.vpg_script.specs.Script as script
 use Rattle.vpg_script.specs.Script.{Said, Request, said}
+use Rattle.vpg_serving.specs.Answer.{Answer, IsDone}
 use Rattle.vpg_serving.specs.Output.{Speaks, Answered}
 use Rattle.vpg_report.specs.Held.{Held, undo_meant, redo_meant, harvest_kept, after_change, after_undo, after_redo, after_keep, after_forget, with_harvest, without_harvest, with_seen}
 use Rattle.vpg_texts.specs.Scene.{Scene}
 use Rattle.vpg_texts.specs.Sights.{has_vertices}
-use Rattle.vpg_report.specs.Answers.{Own, NoFeature, NoToken, NoHarvest, NoVertex, vertex_of, call_or, page_if, full_line, Rest, Ends, Follows, Makes, Asks, TellsSettled, AsksSettled, TellsAdded, Sweeps, Keeps, Lifts, TellsChanged, TellsUndone, TellsRedone, TellsSpent, Sees, TellsNamed, TellsPage, verdicts_on, TellsVerdicts}
+use Rattle.vpg_report.specs.Answers.{Own, NoFeature, NoToken, NoHarvest, NoVertex, vertex_of, call_or, page_if, full_log, Rest, Ends, Follows, Makes, Asks, TellsSettled, AsksSettled, TellsAdded, Sweeps, Keeps, Lifts, TellsChanged, TellsUndone, TellsRedone, TellsSpent, Sees, TellsNamed, TellsPage, verdicts_on, TellsVerdicts}
 use Rattle.vpg_report.specs.Requests.{query_of, order_or, first_call, TellsAnswer, Continues, Begins, Serves}
 use Rattle.vpg_checking.specs.Behaviours.{Behaviour}
 use Rattle.vpg_answers.specs.declared.query.Query.{Query}
@@ -55,77 +56,77 @@ module _ (L : Harvest → Type 0) where
 
   -- what the calls hand in is lawful, and so is what is kept then
   abbrev IsFine : Rest → Type 0
-  IsFine R = (calls : List Event) (text : List ℕ) (new : Held) → R calls text new → AllHandIn L calls × AreLawful new.harvests
+  IsFine R = (calls : List Event) (answer : Answer) (new : Held) → R calls answer new → AllHandIn L calls × AreLawful new.harvests
 
-  ends : (answer : List ℕ) (held : Held) → AreLawful held.harvests → IsFine (Ends answer held)
-  ends answer held all calls text new so =
+  ends : (given : Answer) (held : Held) → AreLawful held.harvests → IsFine (Ends given held)
+  ends given held all calls answer new so =
       (subst (λ (es : List Event). AllHandIn L es) (sym so.0) tt, subst (λ (h : Held). AreLawful h.harvests) (sym so.2) all)
 
   module _ (scene : Scene) (held : Held) (all : AreLawful held.harvests) where
     follows : (P : Reply → Rest) → ((reply : Reply) → IsFine (P reply)) → (reply : Reply) → IsFine (Follows scene held P reply)
-    follows P fine (Refused r) calls text new so = ends _ held all calls text new so
-    follows P fine (Changed s) calls text new so = fine (Changed s) calls text new so
-    follows P fine (Undone s) calls text new so = fine (Undone s) calls text new so
-    follows P fine (Redone s) calls text new so = fine (Redone s) calls text new so
-    follows P fine Spent calls text new so = fine Spent calls text new so
-    follows P fine (Ordered d h u) calls text new so = fine (Ordered d h u) calls text new so
-    follows P fine (Added n) calls text new so = fine (Added n) calls text new so
-    follows P fine (IsSettled b) calls text new so = fine (IsSettled b) calls text new so
-    follows P fine (VerdictIs a b) calls text new so = fine (VerdictIs a b) calls text new so
-    follows P fine (PageIs page) calls text new so = fine (PageIs page) calls text new so
+    follows P fine (Refused r) calls answer new so = ends _ held all calls answer new so
+    follows P fine (Changed s) calls answer new so = fine (Changed s) calls answer new so
+    follows P fine (Undone s) calls answer new so = fine (Undone s) calls answer new so
+    follows P fine (Redone s) calls answer new so = fine (Redone s) calls answer new so
+    follows P fine Spent calls answer new so = fine Spent calls answer new so
+    follows P fine (Ordered d h u) calls answer new so = fine (Ordered d h u) calls answer new so
+    follows P fine (Added n) calls answer new so = fine (Added n) calls answer new so
+    follows P fine (IsSettled b) calls answer new so = fine (IsSettled b) calls answer new so
+    follows P fine (VerdictIs a b) calls answer new so = fine (VerdictIs a b) calls answer new so
+    follows P fine (PageIs page) calls answer new so = fine (PageIs page) calls answer new so
 
     makes : (label : ℕ) (call : Call) (P : Reply → Rest) → HandsIn L call → ((reply : Reply) → IsFine (P reply)) → IsFine (Makes scene held label call P)
-    makes label call P hands fine [] text new so = absurd so
-    makes label call P hands fine (e ∷ calls) text new so =
-        let rest : AllHandIn L calls × AreLawful new.harvests = follows P fine e.reply calls text new so.2 in
+    makes label call P hands fine [] answer new so = absurd so
+    makes label call P hands fine (e ∷ calls) answer new so =
+        let rest : AllHandIn L calls × AreLawful new.harvests = follows P fine e.reply calls answer new so.2 in
         ((subst (λ (c : Call). HandsIn L c) (sym so.1) hands, rest.0), rest.1)
 
     asks : (made label : ℕ) (call : Call) (P : Reply → Rest) → HandsIn L call → ((reply : Reply) → IsFine (P reply)) → IsFine (Asks scene held made label call P)
-    asks made label call P hands fine calls text new (inl (less, so)) = makes label call P hands fine calls text new so
-    asks made label call P hands fine calls text new (inr (full, so)) = ends full_line held all calls text new so
+    asks made label call P hands fine calls answer new (inl (less, so)) = makes label call P hands fine calls answer new so
+    asks made label call P hands fine calls answer new (inr (full, so)) = ends full_log held all calls answer new so
 
   -- ---- after a line's replies
 
   module _ (held : Held) (all : AreLawful held.harvests) where
     tells_settled : (n : ℕ) (reply : Reply) → IsFine (TellsSettled held n reply)
-    tells_settled n (IsSettled b) calls text new so = ends _ held all calls text new so
-    tells_settled n _ calls text new so = absurd so
+    tells_settled n (IsSettled b) calls answer new so = ends _ held all calls answer new so
+    tells_settled n _ calls answer new so = absurd so
 
     tells_added : (reply : Reply) → IsFine (TellsAdded held reply)
-    tells_added (Added n) calls text new so = ends _ held all calls text new so
-    tells_added _ calls text new so = absurd so
+    tells_added (Added n) calls answer new so = ends _ held all calls answer new so
+    tells_added _ calls answer new so = absurd so
 
     tells_changed : (reply : Reply) → IsFine (TellsChanged held reply)
-    tells_changed (Changed s) calls text new so = ends _ (after_change held s) all calls text new so
-    tells_changed _ calls text new so = absurd so
+    tells_changed (Changed s) calls answer new so = ends _ (after_change held s) all calls answer new so
+    tells_changed _ calls answer new so = absurd so
 
     tells_undone : (reply : Reply) → IsFine (TellsUndone held reply)
-    tells_undone (Undone s) calls text new so = ends _ (after_undo held s) all calls text new so
-    tells_undone _ calls text new so = absurd so
+    tells_undone (Undone s) calls answer new so = ends _ (after_undo held s) all calls answer new so
+    tells_undone _ calls answer new so = absurd so
 
     tells_redone : (reply : Reply) → IsFine (TellsRedone held reply)
-    tells_redone (Redone s) calls text new so = ends _ (after_redo held s) all calls text new so
-    tells_redone _ calls text new so = absurd so
+    tells_redone (Redone s) calls answer new so = ends _ (after_redo held s) all calls answer new so
+    tells_redone _ calls answer new so = absurd so
 
-    tells_spent : (answer : List ℕ) (reply : Reply) → IsFine (TellsSpent answer held reply)
-    tells_spent answer Spent calls text new so = ends answer held all calls text new so
-    tells_spent answer _ calls text new so = absurd so
+    tells_spent : (given : Answer) (reply : Reply) → IsFine (TellsSpent given held reply)
+    tells_spent given Spent calls answer new so = ends given held all calls answer new so
+    tells_spent given _ calls answer new so = absurd so
 
-    tells_page : (Tells : List Entry → List ℕ → Type 0) (reply : Reply) → IsFine (TellsPage Tells held reply)
-    tells_page Tells (PageIs page) calls text new so = ends text held all calls text new (so.1, refl, so.2)
-    tells_page Tells _ calls text new so = absurd so
+    tells_page : (Tells : List Entry → Answer → Type 0) (reply : Reply) → IsFine (TellsPage Tells held reply)
+    tells_page Tells (PageIs page) calls answer new so = ends answer held all calls answer new (so.1, refl, so.2)
+    tells_page Tells _ calls answer new so = absurd so
 
     tells_verdicts : (scene : Scene) (reply : Reply) → IsFine (TellsVerdicts scene held reply)
-    tells_verdicts scene (PageIs page) calls text new so = ends _ (with_seen held (verdicts_on scene page)) all calls text new so
-    tells_verdicts scene _ calls text new so = absurd so
+    tells_verdicts scene (PageIs page) calls answer new so = ends _ (with_seen held (verdicts_on scene page)) all calls answer new so
+    tells_verdicts scene _ calls answer new so = absurd so
 
     tells_answer : (behaviour : Option Behaviour) (scene : Scene) (inquiry : script.Inquiry) (reply : Reply) → IsFine (TellsAnswer behaviour scene held inquiry reply)
-    tells_answer behaviour scene inquiry (Ordered d h u) calls text new so = ends text held all calls text new (so.1, refl, so.2)
-    tells_answer behaviour scene inquiry _ calls text new so = absurd so
+    tells_answer behaviour scene inquiry (Ordered d h u) calls answer new so = ends answer held all calls answer new (so.1, refl, so.2)
+    tells_answer behaviour scene inquiry _ calls answer new so = absurd so
 
     asks_settled : (scene : Scene) (made label : ℕ) (reply : Reply) → IsFine (AsksSettled scene held made label reply)
-    asks_settled scene made label (Added n) calls text new so = asks scene held all made label Settled (TellsSettled held n) tt (tells_settled n) calls text new so
-    asks_settled scene made label _ calls text new so = absurd so
+    asks_settled scene made label (Added n) calls answer new so = asks scene held all made label Settled (TellsSettled held n) tt (tells_settled n) calls answer new so
+    asks_settled scene made label _ calls answer new so = absurd so
 
 module _ (behaviour : Option Behaviour) (scene : Scene) (held : Held) where
   abbrev L : Harvest → Type 0
@@ -133,52 +134,52 @@ module _ (behaviour : Option Behaviour) (scene : Scene) (held : Held) where
 
   module _ (all : AreLawful L held.harvests) where
     sweeps : (made label n : ℕ) (reply : Reply) → IsFine L (Sweeps scene held made label n reply)
-    sweeps made label n (Ordered d h u) calls text new so =
-        asks L scene held all made label (Commit so.0) (AsksSettled scene held (made + 1) label) (λ _. so.1.of_order.lawful) (asks_settled L held all scene (made + 1) label) calls text new so.2
-    sweeps made label n _ calls text new so = absurd so
+    sweeps made label n (Ordered d h u) calls answer new so =
+        asks L scene held all made label (Commit so.0) (AsksSettled scene held (made + 1) label) (λ _. so.1.of_order.lawful) (asks_settled L held all scene (made + 1) label) calls answer new so.2
+    sweeps made label n _ calls answer new so = absurd so
 
     keeps : (reply : Reply) → IsFine L (Keeps scene held reply)
-    keeps (Ordered d h u) calls text new so =
-        ends L _ (with_harvest held so.0) (all_more (λ h. IfSome h L) held.harvests (Some so.0 ∷ []) all (so.1.of_order.lawful, tt)) calls text new so.2
-    keeps _ calls text new so = absurd so
+    keeps (Ordered d h u) calls answer new so =
+        ends L _ (with_harvest held so.0) (all_more (λ h. IfSome h L) held.harvests (Some so.0 ∷ []) all (so.1.of_order.lawful, tt)) calls answer new so.2
+    keeps _ calls answer new so = absurd so
 
     lifts : (made label : ℕ) (table : Which) (named : script.Vertex) (reply : Reply) → IsFine L (Lifts scene held made label table named reply)
-    lifts made label table named (Ordered d h u) calls text new so =
-        asks L scene held all made label (Commit so.1) (TellsAdded held) (λ _. so.3.of_order.lawful) (tells_added L held all) calls text new so.4
-    lifts made label table named _ calls text new so = absurd so
+    lifts made label table named (Ordered d h u) calls answer new so =
+        asks L scene held all made label (Commit so.1) (TellsAdded held) (λ _. so.3.of_order.lawful) (tells_added L held all) calls answer new so.4
+    lifts made label table named _ calls answer new so = absurd so
 
     continues : (made label : ℕ) (command : script.Command) (reply : Reply) → IsFine L (Continues behaviour scene held made label command reply)
-    continues made label (script.Select name) reply calls text new so = tells_changed L held all reply calls text new so
-    continues made label (script.Exclude name) reply calls text new so = tells_changed L held all reply calls text new so
-    continues made label (script.Retract name) reply calls text new so = tells_changed L held all reply calls text new so
-    continues made label (script.Undo s) reply calls text new so = tells_undone L held all reply calls text new so
-    continues made label (script.Redo s) reply calls text new so = tells_redone L held all reply calls text new so
-    continues made label (script.Keep s) reply calls text new so = tells_spent L (after_keep held s) all _ reply calls text new so
-    continues made label (script.Forget s) reply calls text new so = tells_spent L (after_forget held s) all _ reply calls text new so
-    continues made label (script.Lift table named) reply calls text new so = lifts made label table named reply calls text new so
-    continues made label script.Harvest reply calls text new so = keeps reply calls text new so
-    continues made label (script.Commit k) reply calls text new so = tells_added L (without_harvest held k) (gone_lawful L held.harvests (k - 1) all) reply calls text new so
-    continues made label (script.Settle n) reply calls text new so = sweeps made label _ reply calls text new so
-    continues made label (script.Look lookup) reply calls text new so = tells_page L held all (Sees scene lookup) reply calls text new so
-    continues made label script.Changed reply calls text new so = tells_verdicts L held all scene reply calls text new so
-    continues made label (script.Known name) reply calls text new so = tells_page L held all (TellsNamed scene name) reply calls text new so
-    continues made label (script.Ask inquiry) reply calls text new so = tells_answer L held all behaviour scene inquiry reply calls text new so
+    continues made label (script.Select name) reply calls answer new so = tells_changed L held all reply calls answer new so
+    continues made label (script.Exclude name) reply calls answer new so = tells_changed L held all reply calls answer new so
+    continues made label (script.Retract name) reply calls answer new so = tells_changed L held all reply calls answer new so
+    continues made label (script.Undo s) reply calls answer new so = tells_undone L held all reply calls answer new so
+    continues made label (script.Redo s) reply calls answer new so = tells_redone L held all reply calls answer new so
+    continues made label (script.Keep s) reply calls answer new so = tells_spent L (after_keep held s) all _ reply calls answer new so
+    continues made label (script.Forget s) reply calls answer new so = tells_spent L (after_forget held s) all _ reply calls answer new so
+    continues made label (script.Lift table named) reply calls answer new so = lifts made label table named reply calls answer new so
+    continues made label script.Harvest reply calls answer new so = keeps reply calls answer new so
+    continues made label (script.Commit k) reply calls answer new so = tells_added L (without_harvest held k) (gone_lawful L held.harvests (k - 1) all) reply calls answer new so
+    continues made label (script.Settle n) reply calls answer new so = sweeps made label _ reply calls answer new so
+    continues made label (script.Look lookup) reply calls answer new so = tells_page L held all (Sees scene lookup) reply calls answer new so
+    continues made label script.Changed reply calls answer new so = tells_verdicts L held all scene reply calls answer new so
+    continues made label (script.Known name) reply calls answer new so = tells_page L held all (λ page. IsDone (TellsNamed scene name page)) reply calls answer new so
+    continues made label (script.Ask inquiry) reply calls answer new so = tells_answer L held all behaviour scene inquiry reply calls answer new so
 
     begins : (made label : ℕ) (command : script.Command) (call : Call) → HandsIn L call → IsFine L (Begins behaviour scene held made label command (Ok call))
     begins made label command call hands = asks L scene held all made label call (Continues behaviour scene held (made + 1) label command) hands (continues (made + 1) label command)
 
     begins_or : {X : Type 0} (made label : ℕ) (command : script.Command) (own : Own) (call : X → Call) (found : Option X) → ((x : X) → found ≡ Some x → HandsIn L (call x)) →
         IsFine L (Begins behaviour scene held made label command (call_or own call found))
-    begins_or made label command own call None hands calls text new so = ends L _ held all calls text new so
-    begins_or made label command own call (Some x) hands calls text new so = begins made label command (call x) (hands x refl) calls text new so
+    begins_or made label command own call None hands calls answer new so = ends L _ held all calls answer new so
+    begins_or made label command own call (Some x) hands calls answer new so = begins made label command (call x) (hands x refl) calls answer new so
 
     begins_order : (made label : ℕ) (inquiry : script.Inquiry) (found : Result Query Own) → IsFine L (Begins behaviour scene held made label (script.Ask inquiry) (order_or found))
-    begins_order made label inquiry (Err own) calls text new so = ends L _ held all calls text new so
-    begins_order made label inquiry (Ok query) calls text new so = begins made label (script.Ask inquiry) Order tt calls text new so
+    begins_order made label inquiry (Err own) calls answer new so = ends L _ held all calls answer new so
+    begins_order made label inquiry (Ok query) calls answer new so = begins made label (script.Ask inquiry) Order tt calls answer new so
 
     begins_page : (made label : ℕ) (lookup : script.Lookup) (has : Bool) → IsFine L (Begins behaviour scene held made label (script.Look lookup) (page_if has))
-    begins_page made label lookup true calls text new so = begins made label (script.Look lookup) Page tt calls text new so
-    begins_page made label lookup false calls text new so = ends L _ held all calls text new so
+    begins_page made label lookup true calls answer new so = begins made label (script.Look lookup) Page tt calls answer new so
+    begins_page made label lookup false calls answer new so = ends L _ held all calls answer new so
 
     serves : (made label : ℕ) (command : script.Command) → IsFine L (Begins behaviour scene held made label command (first_call behaviour scene held command))
     serves made label (script.Select name) = begins_or made label (script.Select name) NoFeature (λ f. Decide f Bool.true) (index_of scene.names name) (λ _ _. tt)
@@ -216,9 +217,9 @@ module _ (meaning : Request → Request) (behaviour : Option Behaviour) (scene :
   none_more : (old new : Between) (before : List Event) → old.calls ≡ length before → new ≡ old → new.calls ≡ length (before ++ [])
   none_more old new before counted same = omega (arith, ap (λ (b : Between). b.calls) same, counted, length-append before [])
 
-  pub line_of : (old : Between) (before : List Event) (s : Said) (text : List ℕ) (new : Between) → old.calls ≡ length before → AreLawful (IsLawful family) old.held.harvests → Speaks (as_meant meaning (calling behaviour scene)) old s text new →
-      Calls (λ a b. Speaks (as_meant meaning (asking behaviour scene)) a s text b) old before new
-  line_of old before (Ok None) text new counted all speaks = record {
+  pub line_of : (old : Between) (before : List Event) (s : Said) (answer : Answer) (new : Between) → old.calls ≡ length before → AreLawful (IsLawful family) old.held.harvests → Speaks (as_meant meaning (calling behaviour scene)) old s answer new →
+      Calls (λ a b. Speaks (as_meant meaning (asking behaviour scene)) a s answer b) old before new
+  line_of old before (Ok None) answer new counted all speaks = record {
     calls = [];
     legal = tt;
     lawful = tt;
@@ -227,22 +228,22 @@ module _ (meaning : Request → Request) (behaviour : Option Behaviour) (scene :
     left = ap (λ (b : Between). b.book) speaks.1;
     counted = none_more old new before counted speaks.1;
   }
-  line_of old before (Ok (Some request)) text new counted all speaks =
-      let fine = serves behaviour scene old.held all old.calls (meaning request).label (meaning request).command speaks.0 text new.held speaks.1.0 in
+  line_of old before (Ok (Some request)) answer new counted all speaks =
+      let fine = serves behaviour scene old.held all old.calls (meaning request).label (meaning request).command speaks.0 answer new.held speaks.1.0 in
       record {
         calls = speaks.0;
         legal = speaks.1.1;
         lawful = fine.0;
         kept = fine.1;
-        asked = (speaks.0, (subst (λ (n : ℕ). Serves behaviour scene old.held n (meaning request) speaks.0 text new.held) counted speaks.1.0, refl));
+        asked = (speaks.0, (subst (λ (n : ℕ). Serves behaviour scene old.held n (meaning request) speaks.0 answer new.held) counted speaks.1.0, refl));
         left = speaks.1.2;
         counted = omega (arith, speaks.1.3, counted, length-append before speaks.0);
       }
-  line_of old before (Err fault) text new counted all speaks = absurd speaks
+  line_of old before (Err fault) answer new counted all speaks = absurd speaks
 
-  lines_of : (old : Between) (before : List Event) (lines : List (List ℕ)) (text : List ℕ) (new : Between) → old.calls ≡ length before → AreLawful (IsLawful family) old.held.harvests → Answered (as_meant meaning (calling behaviour scene)) old lines text new →
-      Calls (λ a b. Answered (as_meant meaning (asking behaviour scene)) a lines text b) old before new
-  lines_of old before [] text new counted all answered = record {
+  lines_of : (old : Between) (before : List Event) (lines : List (List ℕ)) (answers : List Answer) (new : Between) → old.calls ≡ length before → AreLawful (IsLawful family) old.held.harvests → Answered (as_meant meaning (calling behaviour scene)) old lines answers new →
+      Calls (λ a b. Answered (as_meant meaning (asking behaviour scene)) a lines answers b) old before new
+  lines_of old before [] answers new counted all answered = record {
     calls = [];
     legal = tt;
     lawful = tt;
@@ -251,7 +252,7 @@ module _ (meaning : Request → Request) (behaviour : Option Behaviour) (scene :
     left = ap (λ (b : Between). b.book) answered.1;
     counted = none_more old new before counted answered.1;
   }
-  lines_of old before (line ∷ lines) text new counted all answered =
+  lines_of old before (line ∷ lines) answers new counted all answered =
       let mid = answered.0 in
       let first : Calls (λ a b. Speaks (as_meant meaning (asking behaviour scene)) a (said line) answered.1 b) old before mid = line_of old before (said line) answered.1 mid counted all answered.3 in
       let rest : Calls (λ a b. Answered (as_meant meaning (asking behaviour scene)) a lines answered.2 b) mid (before ++ first.calls) new = lines_of mid (before ++ first.calls) lines answered.2 new first.counted first.kept answered.5 in
@@ -275,17 +276,17 @@ module _ (meaning : Request → Request) (behaviour : Option Behaviour) (scene :
 
 -- what sweeps made is no part of a history
 module _ (meaning : Request → Request) (behaviour : Option Behaviour) (scene : Scene) (lifters : ℕ) where
-  pub speaks_calls : (old : Between) (s : Said) (text : List ℕ) (new : Between) → Speaks (as_meant meaning (answering behaviour scene lifters)) old s text new → Speaks (as_meant meaning (calling behaviour scene)) old s text new
-  speaks_calls old (Ok None) text new so = so
-  speaks_calls old (Ok (Some request)) text new so = so.0
-  speaks_calls old (Err fault) text new so = so
+  pub speaks_calls : (old : Between) (s : Said) (answer : Answer) (new : Between) → Speaks (as_meant meaning (answering behaviour scene lifters)) old s answer new → Speaks (as_meant meaning (calling behaviour scene)) old s answer new
+  speaks_calls old (Ok None) answer new so = so
+  speaks_calls old (Ok (Some request)) answer new so = so.0
+  speaks_calls old (Err fault) answer new so = so
 
-  answered_calls : (old : Between) (lines : List (List ℕ)) (text : List ℕ) (new : Between) → Answered (as_meant meaning (answering behaviour scene lifters)) old lines text new → Answered (as_meant meaning (calling behaviour scene)) old lines text new
-  answered_calls old [] text new so = so
-  answered_calls old (line ∷ lines) text new so =
+  answered_calls : (old : Between) (lines : List (List ℕ)) (answers : List Answer) (new : Between) → Answered (as_meant meaning (answering behaviour scene lifters)) old lines answers new → Answered (as_meant meaning (calling behaviour scene)) old lines answers new
+  answered_calls old [] answers new so = so
+  answered_calls old (line ∷ lines) answers new so =
       (so.0, so.1, so.2, speaks_calls old (said line) so.1 so.0 so.3, so.4, answered_calls so.0 lines so.2 new so.5)
 
 pub answers_are_histories : AnswersAreHistories
-answers_are_histories meaning behaviour scene lifters lines text new answered =
-    let all = lines_of meaning behaviour scene begun [] lines text new refl tt (answered_calls meaning behaviour scene lifters begun lines text new answered) in
+answers_are_histories meaning behaviour scene lifters lines answers new answered =
+    let all = lines_of meaning behaviour scene begun [] lines answers new refl tt (answered_calls meaning behaviour scene lifters begun lines answers new answered) in
     (all.calls, (record { legal = all.legal; lawful = all.lawful; leaves = sym all.left }, all.asked))

@@ -1,7 +1,7 @@
 -- What lines ask of the page, and how it is answered.
-use Rattle.std.proofs.Common.{◌≡◌, ℕ, ◌+◌, ◌<◌, Bool, true, false, List, ◌++◌, length, Option, Some, None, Result, Ok, Err, refl, sym, ap, subst}
+use Rattle.std.proofs.Common.{◌≡◌, ℕ, ◌+◌, ◌<◌, Bool, true, false, List, length, Option, Some, None, Result, Ok, Err, refl, sym, ap, subst}
 use Rattle.std.proofs.lemmas.Bool.{eqb-true, false≢true}
-use Rattle.std.specs.Prelude.{IfSome, OnOk, slice_get}
+use Rattle.std.specs.Prelude.{IfSome, slice_get}
 use Rattle.std.proofs.lemmas.List.{length-map}
 use Rattle.std.proofs.lemmas.Option.{slice_get_within}
 use Rattle.vpg_diagram.specs.DiagramText.{NamedDiagram}
@@ -10,11 +10,13 @@ use Rattle.vpg_game.specs.Game.{NamedGame, NamedVertex, vertex_ids}
 use Rattle.vpg_measure.specs.Orders.{OrderView, IsOrder}
 use Rattle.vpg_desk.specs.Book.{Call, Order, Ordered, Refusal, Reply}
 use Rattle.vpg_desk.specs.Commit.{IsOrderOf}
+use Rattle.vpg_serving.specs.Answer.{Gives, IsGiven, refused}
+use Rattle.vpg_serving.specs.declared.tone.Tone.{Tone}
 use Rattle.vpg_report.specs.Client.{IsLogged}
 use Rattle.vpg_report.specs.Faults.{Tells}
 use Rattle.vpg_report.specs.declared.fault.ClientFault.{ClientFault}
 use Rattle.vpg_report.specs.declared.fault.ClientFault.TheVariants.{LogFull}
-use Rattle.vpg_answers.specs.Answers.{HasItsSystem, IsAnswer, IsWithin, Appends}
+use Rattle.vpg_answers.specs.Answers.{HasItsSystem, IsAnswer, IsWithin}
 use Rattle.vpg_checking.specs.Behaviours.{Behaviour}
 use Rattle.vpg_answers.specs.declared.query.Query.{Query}
 use Rattle.vpg_answers.specs.declared.query.Query.TheVariants as queries
@@ -22,7 +24,7 @@ use Rattle.vpg_script.specs.declared.command.VertexQuestion.{VertexQuestion}
 use Rattle.vpg_script.specs.declared.command.VertexQuestion.TheVariants as questions
 use Rattle.vpg_script.specs.Script as script
 use Rattle.vpg_texts.specs.Scene.{scene_of}
-use Rattle.vpg_report.specs.Answers.{Own, NoSystem, NoVertex, Rest, full_line, own_text, refused_line, room}
+use Rattle.vpg_report.specs.Answers.{Own, NoSystem, NoVertex, Rest, full_log, own_text, room}
 use Rattle.vpg_report.specs.Engine.{EngineState, scene_at}
 use Rattle.vpg_report.proofs.Asked.{unasked_by, asked_by, log_full_by}
 use Rattle.vpg_report.proofs.Enduring.{unless_stray_any}
@@ -65,11 +67,6 @@ pub asked_not : (answerable : Bool) (question : VertexQuestion) (place : Option 
 asked_not false question place is = refl
 asked_not true question place is = absurd (false≢true (sym is))
 
--- what follows where a result is Ok
-pub on_ok : {E : Type 0} (r : Result (Unit {0}) E) (P Q : Type 0) → (P → Q) → OnOk r P → OnOk r Q
-on_ok (Ok done) P Q f p = f p
-on_ok (Err e) P Q f p = tt
-
 module _ (behaviour : Option Behaviour) (old : EngineState) (session : ℕ) (game : NamedGame) (diagram : NamedDiagram) (game_is : game ≡ old.client.desk.game) (diagram_is : diagram ≡ old.client.desk.diagram) (inquiry : script.Inquiry) where
   here : (found : Result Query Own) → query_of behaviour (scene_of game diagram) inquiry ≡ found → query_of behaviour (scene_at old) inquiry ≡ found
   here found is = coe 0 1 (k. query_of behaviour (scene_of (game_is k) (diagram_is k)) inquiry ≡ found) is
@@ -81,21 +78,21 @@ module _ (behaviour : Option Behaviour) (old : EngineState) (session : ℕ) (gam
   then = Continues behaviour (scene_at old) old.held (old.client.calls + 1) session (script.Ask inquiry)
 
   -- what it names is missing
-  pub missing_answers : (own : Own) (before after : List ℕ) → query_of behaviour (scene_of game diagram) inquiry ≡ Err own → after ≡ before ++ refused_line (own_text own) →
-      AnswersTo behaviour old (record { label = session; command = script.Ask inquiry }) before after old
+  pub missing_answers : {tone : Tone} (own : Own) (before after : List ℕ) → query_of behaviour (scene_of game diagram) inquiry ≡ Err own → IsGiven (refused (own_text own)) tone before after →
+      AnswersTo behaviour old (record { label = session; command = script.Ask inquiry }) tone before after old
   missing_answers own before after is told = unasked_by old session first then own before after (ap order_or (here (Err own) is)) told
 
   module _ (limit : ℕ) (limit_is : limit ≡ room) (new : EngineState) (query : Query) (before after : List ℕ) (asks : query_of behaviour (scene_of game diagram) inquiry ≡ Ok query) where
     -- its order finds the log full
-    pub full_answers : {F : Type 0} (refusal : F → Option Refusal) (fault : ClientFault F) → Tells limit refusal old.client session Order new.client fault → new.held ≡ old.held →
-        (fault ≡ LogFull) × (after ≡ before ++ full_line) → AnswersTo behaviour old (record { label = session; command = script.Ask inquiry }) before after new
+    pub full_answers : {F : Type 0} {tone : Tone} (refusal : F → Option Refusal) (fault : ClientFault F) → Tells limit refusal old.client session Order new.client fault → new.held ≡ old.held →
+        (fault ≡ LogFull) × IsGiven full_log tone before after → AnswersTo behaviour old (record { label = session; command = script.Ask inquiry }) tone before after new
     full_answers refusal fault tells held told =
         log_full_by limit limit_is session refusal old new first then Order fault before after (ap order_or (here (Ok query) asks)) tells (unless_stray_any fault _ held) told.0 told.1
 
     -- it is answered of an order of the desk
-    pub ask_answers : (order : OrderView) → IsLogged limit old.client session Order (Ordered order.decisions order.hopeful order.dual) new.client → IsOrderOf old.client.desk order → new.held ≡ old.held →
-        Appends (IsAnswer behaviour (scene_of order.game order.diagram) answer_limits query order.decisions order.hopeful order.dual) before after →
-        AnswersTo behaviour old (record { label = session; command = script.Ask inquiry }) before after new
-    ask_answers order logged ours held (text, (answered, appended)) =
-        asked_by limit limit_is session old new first then Order (Ordered order.decisions order.hopeful order.dual) text before after (ap order_or (here (Ok query) asks)) logged
-        ((query, (here (Ok query) asks, coe 0 1 (k. IsAnswer behaviour (scene_of (ours.0 k) (ours.1 k)) answer_limits query order.decisions order.hopeful order.dual text) answered)), refl, held) appended
+    pub ask_answers : {tone : Tone} (order : OrderView) → IsLogged limit old.client session Order (Ordered order.decisions order.hopeful order.dual) new.client → IsOrderOf old.client.desk order → new.held ≡ old.held →
+        Gives (IsAnswer behaviour (scene_of order.game order.diagram) answer_limits query order.decisions order.hopeful order.dual) tone before after →
+        AnswersTo behaviour old (record { label = session; command = script.Ask inquiry }) tone before after new
+    ask_answers order logged ours held (answer, (answered, given)) =
+        asked_by limit limit_is session old new first then Order (Ordered order.decisions order.hopeful order.dual) answer before after (ap order_or (here (Ok query) asks)) logged
+        ((query, (here (Ok query) asks, coe 0 1 (k. IsAnswer behaviour (scene_of (ours.0 k) (ours.1 k)) answer_limits query order.decisions order.hopeful order.dual answer) answered)), refl, held) given

@@ -19,6 +19,8 @@ use Rattle.vpg_faults.specs.declared.fault.CommitFault.{CommitFault}
 use Rattle.vpg_desk.specs.Desk.{family_of}
 use Rattle.vpg_desk.specs.Lawful.{harvested}
 use Rattle.vpg_desk.specs.State.{DeskState, setting_between, setting_of}
+use Rattle.vpg_serving.specs.Answer.{IsGiven, done}
+use Rattle.vpg_serving.specs.declared.tone.Tone.{Tone}
 use Rattle.vpg_report.specs.Client.{ClientState, IsLogged}
 use Rattle.vpg_report.specs.Faults.{Tells}
 use Rattle.vpg_report.specs.declared.fault.ClientFault.{ClientFault}
@@ -26,7 +28,7 @@ use Rattle.vpg_report.specs.declared.fault.ClientFault.TheVariants.{LogFull}
 use Rattle.vpg_desk.proofs.Lawful.{harvests_are_lawful}
 use Rattle.vpg_script.specs.Script as script
 use Rattle.vpg_texts.specs.Scene.{table_in}
-use Rattle.vpg_report.specs.Answers.{IsOf, IsLifted, full_line, room, vertex_of, numbered}
+use Rattle.vpg_report.specs.Answers.{IsOf, IsLifted, full_log, room, vertex_of, numbered}
 use Rattle.vpg_report.specs.Engine.{EngineState, scene_at, AnswersTo}
 use Rattle.vpg_report.proofs.Asked.{lifts, lift_full}
 use Rattle.vpg_report.proofs.Settling.{order_setting}
@@ -92,14 +94,14 @@ module _ (order : OrderView) (harvest : HarvestView) (is_order : IsOrder order) 
   module _ (limit : ℕ) (limit_is : limit ≡ room) (session : ℕ) (old new : EngineState) (first : ClientState) (named : script.Vertex) (before after : List ℕ) (vertex : vertex_of (scene_at old) named ≡ Some v)
       (ordered : IsLogged limit old.client session Order (Ordered order.decisions order.hopeful order.dual) first) (ours : IsOrderOf old.client.desk order) (held : new.held ≡ old.held) where
     -- an order of the desk is lifted once, and its harvest is committed
-    pub lift_answers : (added : ℕ) → IsLogged limit first session (Commit (handed_in true harvest)) (Added added) new.client → after ≡ before ++ numbered (codes "added") added →
-        AnswersTo old (record { label = session; command = script.Lift table named }) before after new
+    pub lift_answers : {tone : Tone} (added : ℕ) → IsLogged limit first session (Commit (handed_in true harvest)) (Added added) new.client → IsGiven (done (numbered (codes "added") added)) tone before after →
+        AnswersTo old (record { label = session; command = script.Lift table named }) tone before after new
     lift_answers added commit appended =
         lifts limit limit_is session old new first 0 order.decisions order.hopeful order.dual (handed_in true harvest) before after ordered table named v vertex (lifted old.client.desk ours.0 ours.1) added commit held appended
 
     -- the log is full before it is committed
-    pub lifted_full : (fault : ClientFault CommitFault) → fault ≡ LogFull → Tells limit commit_refusal first session (Commit (handed_in true harvest)) new.client fault → after ≡ before ++ full_line →
-        AnswersTo old (record { label = session; command = script.Lift table named }) before after new
+    pub lifted_full : {tone : Tone} (fault : ClientFault CommitFault) → fault ≡ LogFull → Tells limit commit_refusal first session (Commit (handed_in true harvest)) new.client fault → IsGiven full_log tone before after →
+        AnswersTo old (record { label = session; command = script.Lift table named }) tone before after new
     lifted_full fault is tells appended =
         let full = subst (λ (f : ClientFault CommitFault). Tells limit commit_refusal first session (Commit (handed_in true harvest)) new.client f) is tells in
         lift_full limit limit_is session old new first 0 order.decisions order.hopeful order.dual (handed_in true harvest) before after ordered table named v vertex (lifted old.client.desk ours.0 ours.1) full.0 full.1 held appended

@@ -3,7 +3,8 @@ use Rattle.std.proofs.Common.{◌≡◌, ◌≢◌, ℕ, ◌+◌, List, [], ◌�
 use Rattle.std.specs.Prelude.{⊤}
 use Rattle.std.specs.List.{AllByRecursion}
 use Rattle.vpg_script.specs.Lines.{NextLine, ReadLines}
-use Rattle.vpg_serving.specs.Output.{Machine, Speaks, Answered, Wrote, IsEmptyKnown, BeginsFaulty, FaultyKnown}
+use Rattle.vpg_serving.specs.Answer.{Answer}
+use Rattle.vpg_serving.specs.Output.{Machine, Speaks, Answered, Wrote, IsEmptyKnown, BeginsFaulty, FaultyKnown, text_of}
 use Rattle.vpg_report.specs.Output.{Outcome}
 use Rattle.vpg_report.specs.Results.{IsThrough}
 use Rattle.vpg_report.specs.Run.{Between, begun, as_meant}
@@ -63,13 +64,13 @@ read_one script (line ∷ lines) (last ∷ others) rest left one other a b fine 
 
 -- ---- runs
 
-speaks_faultless : {S : Type 0} (serves : Machine S) (s new : S) (line text : List ℕ) (says : Said) → said line ≡ says → Speaks serves s says text new → (fault : LineFault) → said line ≢ Err fault
-speaks_faultless serves s new line text (Ok r) is speaks fault also = absurd (cc (is, also))
-speaks_faultless serves s new line text (Err f) is speaks fault also = absurd speaks
+speaks_faultless : {S : Type 0} (serves : Machine S) (s new : S) (line : List ℕ) (answer : Answer) (says : Said) → said line ≡ says → Speaks serves s says answer new → (fault : LineFault) → said line ≢ Err fault
+speaks_faultless serves s new line answer (Ok r) is speaks fault also = absurd (cc (is, also))
+speaks_faultless serves s new line answer (Err f) is speaks fault also = absurd speaks
 
-answered_faultless : {S : Type 0} (serves : Machine S) (s new : S) (lines : List (List ℕ)) (text : List ℕ) → Answered serves s lines text new → AreFaultless lines
-answered_faultless serves s new [] text answered = tt
-answered_faultless serves s new (line ∷ lines) text answered =
+answered_faultless : {S : Type 0} (serves : Machine S) (s new : S) (lines : List (List ℕ)) (answers : List Answer) → Answered serves s lines answers new → AreFaultless lines
+answered_faultless serves s new [] answers answered = tt
+answered_faultless serves s new (line ∷ lines) answers answered =
     (speaks_faultless serves s answered.0 line answered.1 (said line) refl answered.3, answered_faultless serves answered.0 new lines answered.2 answered.5)
 
 -- a run through a known script: its lines, their answers, and where it stops
@@ -78,18 +79,18 @@ record Through (meaning : Request → Request) (behaviour : Option Behaviour) (s
   read : ReadLines script lines rest
   stops_at : Stops stop rest
   new : Between
-  text : List ℕ
-  answered : Answered (as_meant meaning (settling behaviour scene)) begun lines text new
-  written : after ≡ before ++ text
+  answers : List Answer
+  answered : Answered (as_meant meaning (settling behaviour scene)) begun lines answers new
+  written : after ≡ before ++ text_of answers
 
 through_one : (meaning : Request → Request) (behaviour : Option Behaviour) (scene : Scene) (script before after later : List ℕ) (lines others : List (List ℕ)) (one other : Option LineFault) → Through meaning behaviour scene script before after lines one →
     Through meaning behaviour scene script before later others other → (after ≡ later) × (lines ≡ others) × (one ≡ other)
 through_one meaning behaviour scene script before after later lines others one other a b =
-    let same : (lines ≡ others) × (one ≡ other) = read_one script lines others a.rest b.rest one other a.read b.read (answered_faultless (as_meant meaning (settling behaviour scene)) begun a.new lines a.text a.answered)
-    (answered_faultless (as_meant meaning (settling behaviour scene)) begun b.new others b.text b.answered) a.stops_at b.stops_at in
-    let texts : (a.text ≡ b.text) × (a.new ≡ b.new) = lines_one meaning behaviour scene begun lines a.text b.text a.new b.new a.answered
-    (subst (λ (ls : List (List ℕ)). Answered (as_meant meaning (settling behaviour scene)) begun ls b.text b.new) (sym same.0) b.answered) in
-    (a.written ∙ ap (λ (t : List ℕ). before ++ t) texts.0 ∙ sym b.written, same.0, same.1)
+    let same : (lines ≡ others) × (one ≡ other) = read_one script lines others a.rest b.rest one other a.read b.read (answered_faultless (as_meant meaning (settling behaviour scene)) begun a.new lines a.answers a.answered)
+    (answered_faultless (as_meant meaning (settling behaviour scene)) begun b.new others b.answers b.answered) a.stops_at b.stops_at in
+    let given : (a.answers ≡ b.answers) × (a.new ≡ b.new) = lines_one meaning behaviour scene begun lines a.answers b.answers a.new b.new a.answered
+    (subst (λ (ls : List (List ℕ)). Answered (as_meant meaning (settling behaviour scene)) begun ls b.answers b.new) (sym same.0) b.answered) in
+    (a.written ∙ ap (λ (given : List Answer). before ++ text_of given) given.0 ∙ sym b.written, same.0, same.1)
 
 -- the result of a run through these lines, with this stop
 abbrev result_of : List (List ℕ) → Option LineFault → Result (Unit {0}) RunFault
@@ -101,7 +102,7 @@ module _ (meaning : Request → Request) (behaviour : Option Behaviour) (scene :
       ((r : List ℕ) → rest ≡ Some r → Stops stop r) → Through meaning behaviour scene script before after lines stop
   made lines stop None new wrote stops_here = absurd wrote.read
   made lines stop (Some r) new wrote stops_here =
-      record { rest = r; read = wrote.read; stops_at = stops_here r refl; new = new; text = wrote.text; answered = wrote.answered; written = wrote.written }
+      record { rest = r; read = wrote.read; stops_at = stops_here r refl; new = new; answers = wrote.answers; answered = wrote.answered; written = wrote.written }
 
   through : (result : Result (Unit {0}) RunFault) → IsThrough result → Outcome (as_meant meaning (settling behaviour scene)) (λ _. ⊤) begun (Some script) left (Some before) (Some after) result →
       (lines : List (List ℕ)) × (stop : Option LineFault) × (Through meaning behaviour scene script before after lines stop × (result ≡ result_of lines stop))

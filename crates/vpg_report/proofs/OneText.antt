@@ -1,4 +1,4 @@
--- Settled answers are one text.
+-- Settled answers are one.
 use Rattle.std.proofs.Common.{◌≡◌, ℕ, ◌+◌, Bool, true, false, List, [], ◌∷◌, ◌++◌, length, Option, Some, None, Result, Ok, Err, sym, ap, ap₂, ◌∙◌, subst, inl, inr, arith}
 use Rattle.std.specs.Prelude.{IfSome, map, not, if◌then◌else◌, ⊤}
 use Rattle.vpg_features.specs.Names.{index_of}
@@ -15,11 +15,13 @@ use Rattle.vpg_desk.specs.Desk.{family_of}
 use Rattle.vpg_desk.specs.Lawful.{harvested}
 use Rattle.vpg_script.specs.Script as script
 use Rattle.vpg_script.specs.Script.{Said, Request, said}
+use Rattle.vpg_serving.specs.Answer.{Answer, IsDone}
 use Rattle.vpg_serving.specs.Output.{Speaks, Answered}
+use Rattle.vpg_serving.proofs.Given.{done_one}
 use Rattle.vpg_report.specs.Held.{Held, undo_meant, redo_meant, harvest_kept, after_change, after_undo, after_redo, after_keep, after_forget, with_harvest, without_harvest, with_seen}
 use Rattle.vpg_texts.specs.Scene.{Scene, UnderKnown, TellsFeature, table_in}
 use Rattle.vpg_texts.specs.Sights.{has_vertices}
-use Rattle.vpg_report.specs.Answers.{Own, NoFeature, NoToken, NoHarvest, NoVertex, Checks, IsOf, IsLifted, vertex_of, call_or, page_if, full_line, settled_text, Rest, Ends, Follows, Makes, Asks, TellsSettled, AsksSettled, TellsAdded, Sweeps, Keeps, Lifts, TellsChanged, TellsUndone, TellsRedone, TellsSpent, Sees, TellsNamed, TellsPage, verdicts_on, TellsVerdicts}
+use Rattle.vpg_report.specs.Answers.{Own, NoFeature, NoToken, NoHarvest, NoVertex, Checks, IsOf, IsLifted, vertex_of, call_or, page_if, full_log, settled_text, Rest, Ends, Follows, Makes, Asks, TellsSettled, AsksSettled, TellsAdded, Sweeps, Keeps, Lifts, TellsChanged, TellsUndone, TellsRedone, TellsSpent, Sees, TellsNamed, TellsPage, verdicts_on, TellsVerdicts}
 use Rattle.vpg_report.specs.Requests.{query_of, answer_limits, order_or, first_call, TellsAnswer, Continues, Begins}
 use Rattle.vpg_answers.specs.Answers.{IsAnswer, HasDoubt}
 use Rattle.vpg_checking.specs.Behaviours.{Behaviour}
@@ -73,9 +75,9 @@ module _ (scene : Scene) (decisions : List Decision) (hopeful dual : List ℕ) w
 
 abbrev first_byte : List ℕ → ℕ
 first_byte [] = 0
-first_byte (b ∷ text) = b
+first_byte (b ∷ answer) = b
 
-not_full : (n : ℕ) → full_line ≡ settled_text true n → ⊥
+not_full : (n : ℕ) → full_log.text ≡ settled_text true n → ⊥
 not_full n e = let same : 114 ≡ 115 = ap first_byte e in absurd (omega (arith, same))
 
 not_unsettled : (m n : ℕ) → settled_text false m ≡ settled_text true n → ⊥
@@ -86,23 +88,23 @@ query_one asked one other a b = cc (a, b)
 
 -- ---- calls from one book
 
--- with what is told of the line's text
-module _ (behaviour : Option Behaviour) (scene : Scene) (held : Held) (Told : List ℕ → Type 0) where
+-- with what is told of the line's answer
+module _ (behaviour : Option Behaviour) (scene : Scene) (held : Held) (Told : Answer → Type 0) where
   abbrev all : Family
   all = family_of (setting_in scene)
 
   -- what the machine asks of calls
-  record Fits (book : Book) (calls : List Event) (text : List ℕ) (new : Held) : Type 0 where
+  record Fits (book : Book) (calls : List Event) (answer : Answer) (new : Held) : Type 0 where
     legal : IsLegalFrom all book calls
-    told : Told text
+    told : Told answer
     checked : AreChecked scene new
 
   abbrev IsOne : Book → Rest → Type 0
-  IsOne book P = (calls more : List Event) (text other : List ℕ) (new newer : Held) → P calls text new → P more other newer → Fits book calls text new → Fits book more other newer →
-      (calls ≡ more) × (text ≡ other) × (new ≡ newer)
+  IsOne book P = (calls more : List Event) (answer other : Answer) (new newer : Held) → P calls answer new → P more other newer → Fits book calls answer new → Fits book more other newer →
+      (calls ≡ more) × (answer ≡ other) × (new ≡ newer)
 
-  ends : (book : Book) (answer : List ℕ) (after : Held) → IsOne book (Ends answer after)
-  ends book answer after calls more text other new newer a b fit fits = (a.0 ∙ sym b.0, a.1 ∙ sym b.1, a.2 ∙ sym b.2)
+  ends : (book : Book) (given : Answer) (after : Held) → IsOne book (Ends given after)
+  ends book given after calls more answer other new newer a b fit fits = (a.0 ∙ sym b.0, a.1 ∙ sym b.1, a.2 ∙ sym b.2)
 
   follows : (book : Book) (P : Reply → Rest) (reply : Reply) → IsOne book (P reply) → IsOne book (Follows scene held P reply)
   follows book P (Refused r) one = ends book _ held
@@ -120,18 +122,18 @@ module _ (behaviour : Option Behaviour) (scene : Scene) (held : Held) (Told : Li
   event label call reply = record { session = label; call = call; reply = reply }
 
   -- the first of the calls
-  record First (book : Book) (label : ℕ) (call : Call) (P : Reply → Rest) (calls : List Event) (text : List ℕ) (new : Held) : Type 0 where
+  record First (book : Book) (label : ℕ) (call : Call) (P : Reply → Rest) (calls : List Event) (answer : Answer) (new : Held) : Type 0 where
     reply : Reply
     rest : List Event
     is : calls ≡ event label call reply ∷ rest
     told : IsReply all book call reply
-    goes : Follows scene held P reply rest text new
-    fits : Fits (next all book label call reply) rest text new
+    goes : Follows scene held P reply rest answer new
+    fits : Fits (next all book label call reply) rest answer new
 
-  first : (book : Book) (label : ℕ) (call : Call) (P : Reply → Rest) (calls : List Event) (text : List ℕ) (new : Held) →
-      Makes scene held label call P calls text new → Fits book calls text new → First book label call P calls text new
-  first book label call P [] text new a fit = absurd a
-  first book label call P (e ∷ calls) text new a fit =
+  first : (book : Book) (label : ℕ) (call : Call) (P : Reply → Rest) (calls : List Event) (answer : Answer) (new : Held) →
+      Makes scene held label call P calls answer new → Fits book calls answer new → First book label call P calls answer new
+  first book label call P [] answer new a fit = absurd a
+  first book label call P (e ∷ calls) answer new a fit =
       let same : e ≡ event label call e.reply = λ i. record { session = a.0 i; call = a.1 i; reply = e.reply } in
       record {
         reply = e.reply;
@@ -143,59 +145,59 @@ module _ (behaviour : Option Behaviour) (scene : Scene) (held : Held) (Told : Li
       }
 
   makes : (book : Book) (label : ℕ) (call : Call) (P : Reply → Rest) → ((reply : Reply) → IsReply all book call reply → IsOne (next all book label call reply) (P reply)) → IsOne book (Makes scene held label call P)
-  makes book label call P one calls more text other new newer a b fit fits =
-      let f : First book label call P calls text new = first book label call P calls text new a fit in
+  makes book label call P one calls more answer other new newer a b fit fits =
+      let f : First book label call P calls answer new = first book label call P calls answer new a fit in
       let g : First book label call P more other newer = first book label call P more other newer b fits in
       let same : g.reply ≡ f.reply = reply_one all book call g.reply f.reply g.told f.told in
-      let rest : (f.rest ≡ g.rest) × (text ≡ other) × (new ≡ newer) =
-      follows (next all book label call f.reply) P f.reply (one f.reply f.told) f.rest g.rest text other new newer f.goes
+      let rest : (f.rest ≡ g.rest) × (answer ≡ other) × (new ≡ newer) =
+      follows (next all book label call f.reply) P f.reply (one f.reply f.told) f.rest g.rest answer other new newer f.goes
       (subst (λ (r : Reply). Follows scene held P r g.rest other newer) same g.goes) f.fits (subst (λ (r : Reply). Fits (next all book label call r) g.rest other newer) same g.fits) in
       (f.is ∙ ap₂ (λ (r : Reply) (es : List Event). event label call r ∷ es) (sym same) rest.0 ∙ sym g.is, rest.1, rest.2)
 
   asks : (book : Book) (made label : ℕ) (call : Call) (P : Reply → Rest) → ((reply : Reply) → IsReply all book call reply → IsOne (next all book label call reply) (P reply)) → IsOne book (Asks scene held made label call P)
-  asks book made label call P one calls more text other new newer (inl (less, a)) (inl (also, b)) fit fits = makes book label call P one calls more text other new newer a b fit fits
-  asks book made label call P one calls more text other new newer (inl (less, a)) (inr (full, b)) fit fits = absurd (omega (arith, less, full))
-  asks book made label call P one calls more text other new newer (inr (full, a)) (inl (less, b)) fit fits = absurd (omega (arith, less, full))
-  asks book made label call P one calls more text other new newer (inr (full, a)) (inr (also, b)) fit fits = ends book full_line held calls more text other new newer a b fit fits
+  asks book made label call P one calls more answer other new newer (inl (less, a)) (inl (also, b)) fit fits = makes book label call P one calls more answer other new newer a b fit fits
+  asks book made label call P one calls more answer other new newer (inl (less, a)) (inr (full, b)) fit fits = absurd (omega (arith, less, full))
+  asks book made label call P one calls more answer other new newer (inr (full, a)) (inl (less, b)) fit fits = absurd (omega (arith, less, full))
+  asks book made label call P one calls more answer other new newer (inr (full, a)) (inr (also, b)) fit fits = ends book full_log held calls more answer other new newer a b fit fits
 
   -- ---- after a line's replies
 
   module _ (book : Book) where
     tells_settled : (n : ℕ) (reply : Reply) → IsOne book (TellsSettled held n reply)
     tells_settled n (IsSettled b) = ends book _ held
-    tells_settled n _ = λ calls more text other new newer a. absurd a
+    tells_settled n _ = λ calls more answer other new newer a. absurd a
 
     tells_added : (after : Held) (reply : Reply) → IsOne book (TellsAdded after reply)
     tells_added after (Added n) = ends book _ after
-    tells_added after _ = λ calls more text other new newer a. absurd a
+    tells_added after _ = λ calls more answer other new newer a. absurd a
 
     tells_changed : (reply : Reply) → IsOne book (TellsChanged held reply)
     tells_changed (Changed s) = ends book _ (after_change held s)
-    tells_changed _ = λ calls more text other new newer a. absurd a
+    tells_changed _ = λ calls more answer other new newer a. absurd a
 
     tells_undone : (reply : Reply) → IsOne book (TellsUndone held reply)
     tells_undone (Undone s) = ends book _ (after_undo held s)
-    tells_undone _ = λ calls more text other new newer a. absurd a
+    tells_undone _ = λ calls more answer other new newer a. absurd a
 
     tells_redone : (reply : Reply) → IsOne book (TellsRedone held reply)
     tells_redone (Redone s) = ends book _ (after_redo held s)
-    tells_redone _ = λ calls more text other new newer a. absurd a
+    tells_redone _ = λ calls more answer other new newer a. absurd a
 
-    tells_spent : (answer : List ℕ) (after : Held) (reply : Reply) → IsOne book (TellsSpent answer after reply)
-    tells_spent answer after Spent = ends book answer after
-    tells_spent answer after _ = λ calls more text other new newer a. absurd a
+    tells_spent : (given : Answer) (after : Held) (reply : Reply) → IsOne book (TellsSpent given after reply)
+    tells_spent given after Spent = ends book given after
+    tells_spent given after _ = λ calls more answer other new newer a. absurd a
 
-    tells_page : (Tells : List Entry → List ℕ → Type 0) → ((page : List Entry) (text other : List ℕ) → Tells page text → Tells page other → text ≡ other) → (reply : Reply) → IsOne book (TellsPage Tells held reply)
-    tells_page Tells one (PageIs page) = λ calls more text other new newer a b fit fits. (a.1 ∙ sym b.1, one page text other a.0 b.0, a.2 ∙ sym b.2)
-    tells_page Tells one _ = λ calls more text other new newer a. absurd a
+    tells_page : (Tells : List Entry → Answer → Type 0) → ((page : List Entry) (answer other : Answer) → Tells page answer → Tells page other → answer ≡ other) → (reply : Reply) → IsOne book (TellsPage Tells held reply)
+    tells_page Tells one (PageIs page) = λ calls more answer other new newer a b fit fits. (a.1 ∙ sym b.1, one page answer other a.0 b.0, a.2 ∙ sym b.2)
+    tells_page Tells one _ = λ calls more answer other new newer a. absurd a
 
     tells_verdicts : (reply : Reply) → IsOne book (TellsVerdicts scene held reply)
     tells_verdicts (PageIs page) = ends book _ (with_seen held (verdicts_on scene page))
-    tells_verdicts _ = λ calls more text other new newer a. absurd a
+    tells_verdicts _ = λ calls more answer other new newer a. absurd a
 
   asks_settled : (book : Book) (made label : ℕ) (reply : Reply) → IsOne book (AsksSettled scene held made label reply)
   asks_settled book made label (Added n) = asks book made label Settled (TellsSettled held n) (λ reply told. tells_settled (next all book label Settled reply) n reply)
-  asks_settled book made label _ = λ calls more text other new newer a. absurd a
+  asks_settled book made label _ = λ calls more answer other new newer a. absurd a
 
   -- ---- harvests
 
@@ -221,44 +223,44 @@ module _ (behaviour : Option Behaviour) (scene : Scene) (held : Held) (Told : Li
         fine = ap₂ (λ (x : Bool) (ds : List Decision). if not x then Some OtherGame else outdated_at (first_missing (choices_of book.present) (map literal_of ds))) of.of_this_desk (of.same_decisions ∙ order.decisions_are)
             ∙ ap outdated_at (none_missing (choices_of book.present))
 
-    told_settled : (after : Book) (made label n m : ℕ) (calls : List Event) (text : List ℕ) (new : Held) → text ≡ settled_text true m → Asks scene held made label Settled (TellsSettled held n) calls text new →
-        Fits after calls text new → IsSettledPage all after.present
-    told_settled after made label n m calls text new is (inr (full, a)) fit = absurd (not_full m (sym a.1 ∙ is))
-    told_settled after made label n m calls text new is (inl (less, a)) fit = go f.reply f.told f.goes
+    told_settled : (after : Book) (made label n m : ℕ) (calls : List Event) (answer : Answer) (new : Held) → answer.text ≡ settled_text true m → Asks scene held made label Settled (TellsSettled held n) calls answer new →
+        Fits after calls answer new → IsSettledPage all after.present
+    told_settled after made label n m calls answer new is (inr (full, a)) fit = absurd (not_full m (sym (ap (λ (x : Answer). x.text) a.1) ∙ is))
+    told_settled after made label n m calls answer new is (inl (less, a)) fit = go f.reply f.told f.goes
       where
-        f : First after label Settled (TellsSettled held n) calls text new
-        f = first after label Settled (TellsSettled held n) calls text new a fit
+        f : First after label Settled (TellsSettled held n) calls answer new
+        f = first after label Settled (TellsSettled held n) calls answer new a fit
 
-        go : (reply : Reply) → IsReply all after Settled reply → Follows scene held (TellsSettled held n) reply f.rest text new → IsSettledPage all after.present
+        go : (reply : Reply) → IsReply all after Settled reply → Follows scene held (TellsSettled held n) reply f.rest answer new → IsSettledPage all after.present
         go (IsSettled true) (None, (refuses, told)) goes = told.1.0.0 (cc told.1.1)
         go (IsSettled true) (Some r, (refuses, told)) goes = absurd (cc told)
-        go (IsSettled false) told goes = absurd (not_unsettled n m (sym goes.1 ∙ is))
+        go (IsSettled false) told goes = absurd (not_unsettled n m (sym (ap (λ (x : Answer). x.text) goes.1) ∙ is))
         go (Refused r) (None, (refuses, told)) goes = absurd (cc told.1.1)
         go (Refused r) (Some s, (refuses, told)) goes = absurd (cc refuses)
         go _ told goes = absurd goes
 
     -- where the commit of a harvest is followed by `settled`, it settles the page
-    settles : (harvest : Harvest) → Of harvest → (made label m : ℕ) (calls : List Event) (text : List ℕ) (new : Held) → text ≡ settled_text true m →
-        Asks scene held made label (Commit harvest) (AsksSettled scene held (made + 1) label) calls text new → Fits book calls text new → IsSettledPage all (book.present ++ raises_of all harvest book.present)
-    settles harvest of made label m calls text new is (inr (full, a)) fit = absurd (not_full m (sym a.1 ∙ is))
-    settles harvest of made label m calls text new is (inl (less, a)) fit = go f.reply f.told f.goes f.fits
+    settles : (harvest : Harvest) → Of harvest → (made label m : ℕ) (calls : List Event) (answer : Answer) (new : Held) → answer.text ≡ settled_text true m →
+        Asks scene held made label (Commit harvest) (AsksSettled scene held (made + 1) label) calls answer new → Fits book calls answer new → IsSettledPage all (book.present ++ raises_of all harvest book.present)
+    settles harvest of made label m calls answer new is (inr (full, a)) fit = absurd (not_full m (sym (ap (λ (x : Answer). x.text) a.1) ∙ is))
+    settles harvest of made label m calls answer new is (inl (less, a)) fit = go f.reply f.told f.goes f.fits
       where
-        f : First book label (Commit harvest) (AsksSettled scene held (made + 1) label) calls text new
-        f = first book label (Commit harvest) (AsksSettled scene held (made + 1) label) calls text new a fit
+        f : First book label (Commit harvest) (AsksSettled scene held (made + 1) label) calls answer new
+        f = first book label (Commit harvest) (AsksSettled scene held (made + 1) label) calls answer new a fit
 
-        go : (reply : Reply) → IsReply all book (Commit harvest) reply → Follows scene held (AsksSettled scene held (made + 1) label) reply f.rest text new → Fits (next all book label (Commit harvest) reply) f.rest text new →
+        go : (reply : Reply) → IsReply all book (Commit harvest) reply → Follows scene held (AsksSettled scene held (made + 1) label) reply f.rest answer new → Fits (next all book label (Commit harvest) reply) f.rest answer new →
             IsSettledPage all (book.present ++ raises_of all harvest book.present)
         go (Refused r) told goes fits = absurd (not_refused harvest of r told)
-        go (Added n) told goes fits = told_settled (next all book label (Commit harvest) (Added n)) (made + 1) label n m f.rest text new is goes fits
+        go (Added n) told goes fits = told_settled (next all book label (Commit harvest) (Added n)) (made + 1) label n m f.rest answer new is goes fits
         go _ told goes fits = absurd goes
 
-    swept : (made label n : ℕ) → ((text : List ℕ) → Told text → (m : ℕ) × (text ≡ settled_text true m)) → IsOne book (Sweeps scene held made label n (Ordered decisions hopeful dual))
-    swept made label n is calls more text other new newer a b fit fits =
-        let t : (m : ℕ) × (text ≡ settled_text true m) = is text fit.told in
-        let u : (m : ℕ) × (other ≡ settled_text true m) = is other fits.told in
+    swept : (made label n : ℕ) → ((answer : Answer) → Told answer → (m : ℕ) × (answer.text ≡ settled_text true m)) → IsOne book (Sweeps scene held made label n (Ordered decisions hopeful dual))
+    swept made label n is calls more answer other new newer a b fit fits =
+        let t : (m : ℕ) × (answer.text ≡ settled_text true m) = is answer fit.told in
+        let u : (m : ℕ) × (other.text ≡ settled_text true m) = is other fits.told in
         let same : b.0 ≡ a.0 = settling_are_one all decisions hopeful dual book.present (ap (map literal_of) order.decisions_are) order.hopeful_is order.dual_is b.0 a.0 b.1.of_order a.1.of_order
-        (settles b.0 b.1.of_order made label u.0 more other newer u.1 b.2 fits) (settles a.0 a.1.of_order made label t.0 calls text new t.1 a.2 fit) in
-        asks book made label (Commit a.0) (AsksSettled scene held (made + 1) label) (λ reply told. asks_settled (next all book label (Commit a.0) reply) (made + 1) label reply) calls more text other new newer a.2
+        (settles b.0 b.1.of_order made label u.0 more other newer u.1 b.2 fits) (settles a.0 a.1.of_order made label t.0 calls answer new t.1 a.2 fit) in
+        asks book made label (Commit a.0) (AsksSettled scene held (made + 1) label) (λ reply told. asks_settled (next all book label (Commit a.0) reply) (made + 1) label reply) calls more answer other new newer a.2
         (subst (λ (h : Harvest). Asks scene held made label (Commit h) (AsksSettled scene held (made + 1) label) more other newer) same b.2) fit fits
 
     checks_last : (made : Harvest) (new : Held) → new ≡ with_harvest held made → AreChecked scene new → Checks all made
@@ -266,42 +268,42 @@ module _ (behaviour : Option Behaviour) (scene : Scene) (held : Held) (Told : Li
         (All-back (λ (h : Option Harvest). IfSome h (Checks all)) held.harvests (Some made ∷ []) (subst (λ (h : Held). AreChecked scene h) is checked)).0
 
     kept : IsOne book (Keeps scene held (Ordered decisions hopeful dual))
-    kept calls more text other new newer a b fit fits =
+    kept calls more answer other new newer a b fit fits =
         let same : a.0 ≡ b.0 = checked_are_one all decisions hopeful dual a.0 b.0 a.1.of_order b.1.of_order (checks_last a.0 new a.2.2 fit.checked) (checks_last b.0 newer b.2.2 fits.checked) in
         (a.2.0 ∙ sym b.2.0, a.2.1 ∙ sym b.2.1, a.2.2 ∙ ap (with_harvest held) same ∙ sym b.2.2)
 
     lifted : (made label : ℕ) (table : Which) (named : script.Vertex) → IsOne book (Lifts scene held made label table named (Ordered decisions hopeful dual))
-    lifted made label table named calls more text other new newer a b fit fits =
+    lifted made label table named calls more answer other new newer a b fit fits =
         let here : b.0 ≡ a.0 = cc (a.2, b.2) in
         let same : b.1 ≡ a.1 = lifted_one scene decisions hopeful dual table a.0 b.1 a.1 (subst (λ (v : ℕ). IsLifted (setting_in scene) table v decisions hopeful dual b.1) here b.3) a.3 in
-        asks book made label (Commit a.1) (TellsAdded held) (λ reply told. tells_added (next all book label (Commit a.1) reply) held reply) calls more text other new newer a.4
+        asks book made label (Commit a.1) (TellsAdded held) (λ reply told. tells_added (next all book label (Commit a.1) reply) held reply) calls more answer other new newer a.4
         (subst (λ (h : Harvest). Asks scene held made label (Commit h) (TellsAdded held) more other newer) same b.4) fit fits
 
-    answered : (inquiry : script.Inquiry) → ((text : List ℕ) → Told text → ¬ (HasDoubt text)) → IsOne book (TellsAnswer behaviour scene held inquiry (Ordered decisions hopeful dual))
-    answered inquiry sure calls more text other new newer a b fit fits =
+    answered : (inquiry : script.Inquiry) → ((answer : Answer) → Told answer → ¬ (HasDoubt answer.text)) → IsOne book (TellsAnswer behaviour scene held inquiry (Ordered decisions hopeful dual))
+    answered inquiry sure calls more answer other new newer a b fit fits =
         let same : b.0.0 ≡ a.0.0 = query_one (query_of behaviour scene inquiry) b.0.0 a.0.0 b.0.1.0 a.0.1.0 in
         let of_one : IsAnswer behaviour scene answer_limits a.0.0 decisions hopeful dual other = subst (λ (q : Query). IsAnswer behaviour scene answer_limits q decisions hopeful dual other) same b.0.1.1 in
-        (a.1 ∙ sym b.1, answers_are_one behaviour scene answer_limits answer_limits a.0.0 decisions hopeful dual text other a.0.1.1 of_one (sure text fit.told) (sure other fits.told), a.2 ∙ sym b.2)
+        (a.1 ∙ sym b.1, answers_are_one behaviour scene answer_limits answer_limits a.0.0 decisions hopeful dual answer other a.0.1.1 of_one (sure answer fit.told) (sure other fits.told), a.2 ∙ sym b.2)
 
   -- ---- a line
 
   module _ (book : Book) (made label : ℕ) where
-    sweeps : (n : ℕ) → ((text : List ℕ) → Told text → (m : ℕ) × (text ≡ settled_text true m)) → (reply : Reply) → IsReply all book Order reply → IsOne (next all book label Order reply) (Sweeps scene held (made + 1) label n reply)
+    sweeps : (n : ℕ) → ((answer : Answer) → Told answer → (m : ℕ) × (answer.text ≡ settled_text true m)) → (reply : Reply) → IsReply all book Order reply → IsOne (next all book label Order reply) (Sweeps scene held (made + 1) label n reply)
     sweeps n is (Ordered d h u) told = swept book d h u (ordered book d h u told) (made + 1) label n is
-    sweeps n is _ told = λ calls more text other new newer a. absurd a
+    sweeps n is _ told = λ calls more answer other new newer a. absurd a
 
     keeps : (reply : Reply) → IsReply all book Order reply → IsOne (next all book label Order reply) (Keeps scene held reply)
     keeps (Ordered d h u) told = kept book d h u (ordered book d h u told)
-    keeps _ told = λ calls more text other new newer a. absurd a
+    keeps _ told = λ calls more answer other new newer a. absurd a
 
     lifts : (table : Which) (named : script.Vertex) (reply : Reply) → IsReply all book Order reply → IsOne (next all book label Order reply) (Lifts scene held (made + 1) label table named reply)
     lifts table named (Ordered d h u) told = lifted book d h u (ordered book d h u told) (made + 1) label table named
-    lifts table named _ told = λ calls more text other new newer a. absurd a
+    lifts table named _ told = λ calls more answer other new newer a. absurd a
 
-    tells_answer : (inquiry : script.Inquiry) → ((text : List ℕ) → Told text → ¬ (HasDoubt text)) → (reply : Reply) → IsReply all book Order reply →
+    tells_answer : (inquiry : script.Inquiry) → ((answer : Answer) → Told answer → ¬ (HasDoubt answer.text)) → (reply : Reply) → IsReply all book Order reply →
         IsOne (next all book label Order reply) (TellsAnswer behaviour scene held inquiry reply)
     tells_answer inquiry sure (Ordered d h u) told = answered book d h u (ordered book d h u told) inquiry sure
-    tells_answer inquiry sure _ told = λ calls more text other new newer a. absurd a
+    tells_answer inquiry sure _ told = λ calls more answer other new newer a. absurd a
 
     begins : (command : script.Command) (call : Call) → ((reply : Reply) → IsReply all book call reply → IsOne (next all book label call reply) (Continues behaviour scene held (made + 1) label command reply)) →
         IsOne book (Begins behaviour scene held made label command (Ok call))
@@ -313,7 +315,7 @@ module _ (behaviour : Option Behaviour) (scene : Scene) (held : Held) (Told : Li
     begins_or command own call None one = ends book _ held
     begins_or command own call (Some x) one = begins command (call x) (one x)
 
-    begins_order : (inquiry : script.Inquiry) → ((text : List ℕ) → Told text → ¬ (HasDoubt text)) → (found : Result Query Own) → IsOne book (Begins behaviour scene held made label (script.Ask inquiry) (order_or found))
+    begins_order : (inquiry : script.Inquiry) → ((answer : Answer) → Told answer → ¬ (HasDoubt answer.text)) → (found : Result Query Own) → IsOne book (Begins behaviour scene held made label (script.Ask inquiry) (order_or found))
     begins_order inquiry sure (Err own) = ends book _ held
     begins_order inquiry sure (Ok query) = begins (script.Ask inquiry) Order (tells_answer inquiry sure)
 
@@ -323,8 +325,8 @@ module _ (behaviour : Option Behaviour) (scene : Scene) (held : Held) (Told : Li
 
     -- where a settle is told to be one that was answered `settled`, and an answer about the page to be one without a doubt
     abbrev SettleIsTold : script.Command → Type 0
-    SettleIsTold (script.Settle n) = (text : List ℕ) → Told text → (m : ℕ) × (text ≡ settled_text true m)
-    SettleIsTold (script.Ask inquiry) = (text : List ℕ) → Told text → ¬ (HasDoubt text)
+    SettleIsTold (script.Settle n) = (answer : Answer) → Told answer → (m : ℕ) × (answer.text ≡ settled_text true m)
+    SettleIsTold (script.Ask inquiry) = (answer : Answer) → Told answer → ¬ (HasDoubt answer.text)
     SettleIsTold _ = ⊤
 
     serves : (command : script.Command) → SettleIsTold command → IsOne book (Begins behaviour scene held made label command (first_call behaviour scene held command))
@@ -341,14 +343,14 @@ module _ (behaviour : Option Behaviour) (scene : Scene) (held : Held) (Told : Li
     serves (script.Settle n) is = begins (script.Settle n) Order (sweeps _ is)
     serves (script.Look lookup) is = begins_page lookup (has_vertices scene.identifiers lookup)
     serves script.Changed is = begins script.Changed Page (λ reply told. tells_verdicts _ reply)
-    serves (script.Known name) is = begins_or (script.Known name) NoFeature (λ f. Page) (index_of scene.names name) (λ f reply told. tells_page _ (TellsNamed scene name) (λ page one other. named_one scene (decisions_of page) (index_of scene.names name) one other) reply)
+    serves (script.Known name) is = begins_or (script.Known name) NoFeature (λ f. Page) (index_of scene.names name) (λ f reply told. tells_page _ (λ page. IsDone (TellsNamed scene name page)) (λ page one other a b. done_one (TellsNamed scene name page) (TellsNamed scene name page) one other (named_one scene (decisions_of page) (index_of scene.names name) one.text other.text) a b) reply)
     serves (script.Ask inquiry) is = begins_order inquiry is (query_of behaviour scene inquiry)
 
 -- ---- lines
 
 settle_is_told : (behaviour : Option Behaviour) (scene : Scene) (held : Held) (book : Book) (made label : ℕ) (command : script.Command) → SettleIsTold behaviour scene held (TellsSettle command) book made label command
-settle_is_told behaviour scene held book made label (script.Settle n) = λ text told. told
-settle_is_told behaviour scene held book made label (script.Ask inquiry) = λ text told. told
+settle_is_told behaviour scene held book made label (script.Settle n) = λ answer told. told
+settle_is_told behaviour scene held book made label (script.Ask inquiry) = λ answer told. told
 settle_is_told behaviour scene held book made label (script.Select name) = tt
 settle_is_told behaviour scene held book made label (script.Exclude name) = tt
 settle_is_told behaviour scene held book made label (script.Retract name) = tt
@@ -364,23 +366,23 @@ settle_is_told behaviour scene held book made label script.Changed = tt
 settle_is_told behaviour scene held book made label (script.Known name) = tt
 
 module _ (meaning : Request → Request) (behaviour : Option Behaviour) (scene : Scene) where
-  line_one : (old : Between) (s : Said) (text other : List ℕ) (new newer : Between) → Speaks (as_meant meaning (settling behaviour scene)) old s text new → Speaks (as_meant meaning (settling behaviour scene)) old s other newer → (text ≡ other) × (new ≡ newer)
-  line_one old (Ok None) text other new newer a b = (a.0 ∙ sym b.0, a.1 ∙ sym b.1)
-  line_one old (Ok (Some request)) text other new newer a b =
-      let one : (a.0.0 ≡ b.0.0) × (text ≡ other) × (new.held ≡ newer.held) =
-      serves behaviour scene old.held (TellsSettle (meaning request).command) old.book old.calls (meaning request).label (meaning request).command (settle_is_told behaviour scene old.held old.book old.calls (meaning request).label (meaning request).command) a.0.0 b.0.0 text other new.held newer.held a.0.1.0 b.0.1.0
+  line_one : (old : Between) (s : Said) (answer other : Answer) (new newer : Between) → Speaks (as_meant meaning (settling behaviour scene)) old s answer new → Speaks (as_meant meaning (settling behaviour scene)) old s other newer → (answer ≡ other) × (new ≡ newer)
+  line_one old (Ok None) answer other new newer a b = (a.0 ∙ sym b.0, a.1 ∙ sym b.1)
+  line_one old (Ok (Some request)) answer other new newer a b =
+      let one : (a.0.0 ≡ b.0.0) × (answer ≡ other) × (new.held ≡ newer.held) =
+      serves behaviour scene old.held (TellsSettle (meaning request).command) old.book old.calls (meaning request).label (meaning request).command (settle_is_told behaviour scene old.held old.book old.calls (meaning request).label (meaning request).command) a.0.0 b.0.0 answer other new.held newer.held a.0.1.0 b.0.1.0
       (record { legal = a.0.1.1; told = a.1; checked = a.2 }) (record { legal = b.0.1.1; told = b.1; checked = b.2 }) in
       let book : new.book ≡ newer.book = a.0.1.2 ∙ ap (λ (es : List Event). book_after (family_of (setting_in scene)) old.book es) one.0 ∙ sym b.0.1.2 in
       let calls : new.calls ≡ newer.calls = a.0.1.3 ∙ ap (λ (es : List Event). old.calls + length es) one.0 ∙ sym b.0.1.3 in
       (one.1, λ i. record { book = book i; calls = calls i; held = one.2 i })
-  line_one old (Err fault) text other new newer a b = absurd a
+  line_one old (Err fault) answer other new newer a b = absurd a
 
-  pub lines_one : (old : Between) (lines : List (List ℕ)) (text other : List ℕ) (new newer : Between) → Answered (as_meant meaning (settling behaviour scene)) old lines text new → Answered (as_meant meaning (settling behaviour scene)) old lines other newer → (text ≡ other) × (new ≡ newer)
-  lines_one old [] text other new newer a b = (a.0 ∙ sym b.0, a.1 ∙ sym b.1)
-  lines_one old (line ∷ lines) text other new newer a b =
+  pub lines_one : (old : Between) (lines : List (List ℕ)) (answers others : List Answer) (new newer : Between) → Answered (as_meant meaning (settling behaviour scene)) old lines answers new → Answered (as_meant meaning (settling behaviour scene)) old lines others newer → (answers ≡ others) × (new ≡ newer)
+  lines_one old [] answers others new newer a b = (a.0 ∙ sym b.0, a.1 ∙ sym b.1)
+  lines_one old (line ∷ lines) answers others new newer a b =
       let first : (a.1 ≡ b.1) × (a.0 ≡ b.0) = line_one old (said line) a.1 b.1 a.0 b.0 a.3 b.3 in
       let rest : (a.2 ≡ b.2) × (new ≡ newer) = lines_one a.0 lines a.2 b.2 new newer a.5 (subst (λ (m : Between). Answered (as_meant meaning (settling behaviour scene)) m lines b.2 newer) (sym first.1) b.5) in
-      (a.4 ∙ ap₂ (λ (x y : List ℕ). x ++ y) first.0 rest.0 ∙ sym b.4, rest.1)
+      (a.4 ∙ ap₂ (λ (x : Answer) (xs : List Answer). x ∷ xs) first.0 rest.0 ∙ sym b.4, rest.1)
 
 pub settled_answers_are_one : SettledAnswersAreOne
-settled_answers_are_one meaning behaviour scene lines text other new newer a b = lines_one meaning behaviour scene begun lines text other new newer a b
+settled_answers_are_one meaning behaviour scene lines answers others new newer a b = lines_one meaning behaviour scene begun lines answers others new newer a b

@@ -21,6 +21,9 @@ use Rattle.vpg_desk.specs.Book.{Page as AsksPage, PageIs}
 use Rattle.vpg_desk.specs.Headline.{Tells}
 use Rattle.vpg_desk.specs.Setting.{IsSetting}
 use Rattle.vpg_desk.specs.State.{DeskState, setting_of, IsReached, Replies}
+use Rattle.vpg_serving.specs.Answer.{Gives, IsGiven, done, refused}
+use Rattle.vpg_serving.specs.declared.tone.Tone.{Tone}
+use Rattle.vpg_serving.specs.declared.tone.Tone.TheVariants as tones
 use Rattle.vpg_report.specs.Client.{IsLogged}
 use Rattle.vpg_desk.proofs.Deciding.{choices_inside}
 use Rattle.vpg_desk.proofs.Reaching.{reached_well_formed}
@@ -29,7 +32,7 @@ use Rattle.vpg_texts.specs.Scene.{EntryIsWithin, TellsFeature, scene_of}
 use Rattle.vpg_texts.specs.Text.{known_text}
 use Rattle.vpg_texts.specs.Changed.{changed_text, verdicts_by}
 use Rattle.vpg_texts.specs.Sights.{IsSeen, has_vertices}
-use Rattle.vpg_report.specs.Answers.{NoFeature, NoVertex, call_or, first_call, page_if, refused_line, room, verdicts_on}
+use Rattle.vpg_report.specs.Answers.{NoFeature, NoVertex, call_or, first_call, page_if, room, verdicts_on}
 use Rattle.vpg_report.specs.Held.{with_seen}
 use Rattle.vpg_report.specs.Engine.{EngineState, scene_at, AnswersTo}
 use Rattle.vpg_report.proofs.Asked.{asked, page_told, unasked}
@@ -103,8 +106,8 @@ pub has_there : (lookup : script.Lookup) (game other same : NamedGame) → game 
 has_there lookup game other same is are has = ap (λ (g : NamedGame). has_vertices (vertex_ids g.vertices) lookup) (are ∙ sym is) ∙ has
 
 -- the game lacks one
-pub missing_vertex : (old : EngineState) (session : ℕ) (lookup : script.Lookup) (game : NamedGame) (before after : List ℕ) → game ≡ old.client.desk.game → has_vertices (vertex_ids game.vertices) lookup ≡ false →
-    after ≡ before ++ refused_line (codes "NoVertex") → AnswersTo old (record { label = session; command = script.Look lookup }) before after old
+pub missing_vertex : {tone : Tone} (old : EngineState) (session : ℕ) (lookup : script.Lookup) (game : NamedGame) (before after : List ℕ) → game ≡ old.client.desk.game → has_vertices (vertex_ids game.vertices) lookup ≡ false →
+    IsGiven (refused (codes "NoVertex")) tone before after → AnswersTo old (record { label = session; command = script.Look lookup }) tone before after old
 missing_vertex old session lookup game before after game_is none told = unasked old session (script.Look lookup) NoVertex before after (lacks old lookup game game_is none) told
 
 -- what is told of a page, with the game, the diagram, the decisions and the tables as the code has them
@@ -118,23 +121,23 @@ module _ (limit : ℕ) (limit_is : limit ≡ room) (old new : EngineState) (sess
     decisions_here = decisions_are ∙ ap decisions_of (sym present)
 
     pub known_answers : (games : GamesView) → ArePageGames game diagram (map literal_of decisions) games → (name : List ℕ) (f : ℕ) → index_of old.client.desk.diagram.names name ≡ Some f →
-        after ≡ before ++ known_text diagram.names games.known f → AnswersTo old (record { label = session; command = script.Known name }) before after new
+        after ≡ before ++ known_text diagram.names games.known f → AnswersTo old (record { label = session; command = script.Known name }) tones.Done before after new
     known_answers games are name f found appended =
         let text = known_text diagram.names games.known f in
-        page_told limit limit_is session old new (script.Known name) entries text before after (ap (λ (x : Option ℕ). call_or NoFeature (λ f. AsksPage) x) found) logged
-        ((f, (found, coe 0 1 (k. TellsFeature (scene_of (game_is k) (diagram_is k)) (decisions_here k) f text) (games.known, (are.known, refl)))), refl, held) appended
+        page_told limit limit_is session old new (script.Known name) entries (done text) before after (ap (λ (x : Option ℕ). call_or NoFeature (λ f. AsksPage) x) found) logged
+        ((refl, (f, (found, coe 0 1 (k. TellsFeature (scene_of (game_is k) (diagram_is k)) (decisions_here k) f text) (games.known, (are.known, refl))))), refl, held) (refl, appended)
 
     module _ (hopeful dual : List ℕ) (hopeful_is : hopeful ≡ table_of Hopeful old.client.desk.book.present (length (graph_of old.client.desk.game)))
         (dual_is : dual ≡ table_of Dual old.client.desk.book.present (length (graph_of old.client.desk.game))) where
       table_here : (which : Which) (table : List ℕ) → table ≡ table_of which old.client.desk.book.present (length (graph_of old.client.desk.game)) → table ≡ table_of which entries (length (graph_of old.client.desk.game))
       table_here which table is = is ∙ ap (λ (page : List Entry). table_of which page (length (graph_of old.client.desk.game))) (sym present)
 
-      pub look_answers : (lookup : script.Lookup) → has_vertices (vertex_ids game.vertices) lookup ≡ true →
-          (text : List ℕ) × (IsSeen (scene_of game diagram) lookup entries decisions hopeful dual text × (after ≡ before ++ text)) →
-          AnswersTo old (record { label = session; command = script.Look lookup }) before after new
-      look_answers lookup has (text, (seen, appended)) =
-          page_told limit limit_is session old new (script.Look lookup) entries text before after (looks old lookup game game_is has) logged
-          (coe 0 1 (k. IsSeen (scene_of (game_is k) (diagram_is k)) lookup entries (decisions_here k) (table_here Hopeful hopeful hopeful_is k) (table_here Dual dual dual_is k) text) seen, refl, held) appended
+      pub look_answers : {tone : Tone} (lookup : script.Lookup) → has_vertices (vertex_ids game.vertices) lookup ≡ true →
+          Gives (IsSeen (scene_of game diagram) lookup entries decisions hopeful dual) tone before after →
+          AnswersTo old (record { label = session; command = script.Look lookup }) tone before after new
+      look_answers lookup has (answer, (seen, given)) =
+          page_told limit limit_is session old new (script.Look lookup) entries answer before after (looks old lookup game game_is has) logged
+          (coe 0 1 (k. IsSeen (scene_of (game_is k) (diagram_is k)) lookup entries (decisions_here k) (table_here Hopeful hopeful hopeful_is k) (table_here Dual dual dual_is k) answer) seen, refl, held) given
 
 -- what changed, with the game and the tables as the code has them
 pub changed_answers : (limit : ℕ) → limit ≡ room → (old new : EngineState) (session : ℕ) (game shown : NamedGame) (before after : List ℕ) → game ≡ old.client.desk.game → shown ≡ old.client.desk.game →
@@ -143,7 +146,7 @@ pub changed_answers : (limit : ℕ) → limit ≡ room → (old new : EngineStat
     dual ≡ table_of Dual old.client.desk.book.present (length (graph_of old.client.desk.game)) → (now : List Verdict) → now ≡ verdicts_by (graph_of game) hopeful dual →
     new.held ≡ with_seen old.held now → (seen present : List Verdict) → seen ≡ old.held.seen → present ≡ now →
     after ≡ before ++ changed_text (vertex_ids shown.vertices) seen present →
-    AnswersTo old (record { label = session; command = script.Changed }) before after new
+    AnswersTo old (record { label = session; command = script.Changed }) tones.Done before after new
 changed_answers limit limit_is old new session game shown before after game_is shown_is entries logged hopeful dual hopeful_is dual_is now now_is held seen present seen_is present_is appended =
     let desk = old.client.desk in
     let page : entries ≡ desk.book.present = entries_are desk entries logged.step.step.0 in
@@ -152,5 +155,5 @@ changed_answers limit limit_is old new session game shown before after game_is s
     let told : verdicts_by (graph_of game) hopeful dual ≡ verdicts_on (scene_at old) entries =
     λ i. verdicts_by (graph_of (game_is i)) (here Hopeful hopeful hopeful_is i) (here Dual dual dual_is i) in
     let same : now ≡ verdicts_on (scene_at old) entries = now_is ∙ told in
-    asked limit limit_is session old new script.Changed AsksPage (PageIs entries) (changed_text (vertex_ids shown.vertices) seen present) before after refl logged
-    (refl, (λ i. changed_text (vertex_ids (shown_is i).vertices) (seen_is i) ((present_is ∙ same) i)), held ∙ ap (with_seen old.held) same) appended
+    asked limit limit_is session old new script.Changed AsksPage (PageIs entries) (done (changed_text (vertex_ids shown.vertices) seen present)) before after refl logged
+    (refl, (λ i. done (changed_text (vertex_ids (shown_is i).vertices) (seen_is i) ((present_is ∙ same) i))), held ∙ ap (with_seen old.held) same) (refl, appended)

@@ -24,6 +24,8 @@ use Rattle.vpg_desk.proofs.Lawful.{harvests_are_lawful}
 use Rattle.vpg_desk.proofs.Deciding.{setting_stands, known_is_consistent}
 use Rattle.vpg_desk.specs.State.{DeskState, setting_between, setting_of}
 use Rattle.vpg_script.specs.Script as script
+use Rattle.vpg_serving.specs.Answer.{IsGiven, done}
+use Rattle.vpg_serving.specs.declared.tone.Tone.{Tone}
 use Rattle.vpg_report.specs.Held.{with_harvest}
 use Rattle.vpg_report.specs.Engine.{EngineState, SweepsTo}
 use Rattle.vpg_report.specs.Made.{IsMadeBy}
@@ -35,7 +37,7 @@ use Rattle.vpg_report.specs.Faults.{Tells}
 use Rattle.vpg_report.specs.declared.fault.ClientFault.{ClientFault}
 use Rattle.vpg_report.specs.declared.fault.ClientFault.TheVariants.{LogFull}
 use Rattle.vpg_trail.specs.Page.{Literal, Decision, same_literal, stands}
-use Rattle.vpg_report.specs.Answers.{IsSwept, Checks, full_line, most_sweeps, room, sweeps_of, numbered, settled_text}
+use Rattle.vpg_report.specs.Answers.{IsSwept, Checks, full_log, most_sweeps, room, sweeps_of, numbered, settled_text}
 use Rattle.vpg_settle.specs.Sweeping.{IsSweptOrder, Settles}
 use Rattle.vpg_settle.proofs.Repeated.{progress_moves}
 
@@ -128,32 +130,32 @@ module _ (limit : ℕ) (limit_is : limit ≡ room) (session : ℕ) (old new : En
     by = made_seen old.client.desk lifters (sweeps_of sweeps) times order harvest ours.0 ours.1 few made none
 
     -- its harvest finds the log full
-    pub sweep_answers : (fault : ClientFault CommitFault) → fault ≡ LogFull → Tells limit commit_refusal first session (Commit (handed_in true harvest)) new.client fault → after ≡ before ++ full_line →
-        SweepsTo old lifters (record { label = session; command = script.Settle sweeps }) before after new
+    pub sweep_answers : {tone : Tone} (fault : ClientFault CommitFault) → fault ≡ LogFull → Tells limit commit_refusal first session (Commit (handed_in true harvest)) new.client fault → IsGiven full_log tone before after →
+        SweepsTo old lifters (record { label = session; command = script.Settle sweeps }) tone before after new
     sweep_answers fault is tells appended =
         let full = subst (λ (f : ClientFault CommitFault). Tells limit commit_refusal first session (Commit (handed_in true harvest)) new.client f) is tells in
         settle_full limit limit_is session old new first lifters order.decisions order.hopeful order.dual (handed_in true harvest) before after ordered sweeps seen by full.0 full.1 held appended
 
     module _ (second : ClientState) (added : ℕ) (commit : IsLogged limit first session (Commit (handed_in true harvest)) (Added added) second) where
       -- it is committed, and the log is full
-      pub commit_answers : {F : Type 0} (refusal : F → Option Refusal) (fault : ClientFault F) → fault ≡ LogFull → Tells limit refusal second session Settled new.client fault → after ≡ before ++ full_line →
-          SweepsTo old lifters (record { label = session; command = script.Settle sweeps }) before after new
+      pub commit_answers : {F : Type 0} {tone : Tone} (refusal : F → Option Refusal) (fault : ClientFault F) → fault ≡ LogFull → Tells limit refusal second session Settled new.client fault → IsGiven full_log tone before after →
+          SweepsTo old lifters (record { label = session; command = script.Settle sweeps }) tone before after new
       commit_answers {F} refusal fault is tells appended =
           let full = subst (λ (f : ClientFault F). Tells limit refusal second session Settled new.client f) is tells in
           commit_full limit limit_is session old new first lifters order.decisions order.hopeful order.dual (handed_in true harvest) before after ordered sweeps seen by second added commit full.0 full.1 held appended
 
       -- it is committed, and the page is told to be settled or not
-      pub settle_answers : (b : Bool) → IsLogged limit second session Settled (IsSettled b) new.client → after ≡ before ++ settled_text b added →
-          SweepsTo old lifters (record { label = session; command = script.Settle sweeps }) before after new
+      pub settle_answers : {tone : Tone} (b : Bool) → IsLogged limit second session Settled (IsSettled b) new.client → IsGiven (done (settled_text b added)) tone before after →
+          SweepsTo old lifters (record { label = session; command = script.Settle sweeps }) tone before after new
       settle_answers b settled appended =
           settles limit limit_is session old new first lifters order.decisions order.hopeful order.dual (handed_in true harvest) before after ordered sweeps seen by second added commit b settled held appended
 
 -- an order of the desk is swept, and its harvest is kept
-pub harvest_answers : (limit : ℕ) → limit ≡ room → (session : ℕ) (old new : EngineState) (first : ClientState) (lifters times n : ℕ) (order : OrderView) (harvest : HarvestView) (before after : List ℕ) →
+pub harvest_answers : {tone : Tone} (limit : ℕ) → limit ≡ room → (session : ℕ) (old new : EngineState) (first : ClientState) (lifters times n : ℕ) (order : OrderView) (harvest : HarvestView) (before after : List ℕ) →
     IsLogged limit old.client session Order (Ordered order.decisions order.hopeful order.dual) first → IsOrderOf old.client.desk order → IsOrder order → IsSweptOrder order most_sweeps harvest →
     times ≤ most_sweeps → Settles lifters times order harvest → (most_sweeps ≡ 0 → (which : Which) → harvest_table which harvest ≡ order_table which order) →
-    new.client ≡ first → new.held ≡ with_harvest old.held (handed_in true harvest) → n ≡ length old.held.harvests + 1 → after ≡ before ++ numbered (codes "harvest") n →
-    SweepsTo old lifters (record { label = session; command = script.Harvest }) before after new
+    new.client ≡ first → new.held ≡ with_harvest old.held (handed_in true harvest) → n ≡ length old.held.harvests + 1 → IsGiven (done (numbered (codes "harvest") n)) tone before after →
+    SweepsTo old lifters (record { label = session; command = script.Harvest }) tone before after new
 harvest_answers limit limit_is session old new first lifters times n order harvest before after ordered ours is_order swept_order few made none client held counted appended =
     keeps limit limit_is session old new first lifters order.decisions order.hopeful order.dual (handed_in true harvest) before after ordered n
     (swept_seen old.client.desk order harvest most_sweeps ours.0 ours.1 is_order swept_order) (made_seen old.client.desk lifters most_sweeps times order harvest ours.0 ours.1 few made none) client held counted appended

@@ -24,10 +24,12 @@ use Rattle.vpg_script.specs.declared.command.Claim.{Claim}
 use Rattle.vpg_checking.specs.Behaviours.{Behaviour}
 use Rattle.vpg_script.specs.Script as script
 use Rattle.vpg_script.specs.Script.{Request, Said, said}
+use Rattle.vpg_serving.specs.Answer.{Answer, done}
 use Rattle.vpg_serving.specs.Output.{Speaks, Answered}
+use Rattle.vpg_serving.proofs.Given.{is_done}
 use Rattle.vpg_texts.specs.Changed.{verdict_of, verdicts_below, unseen, seen_at, changed_text}
 use Rattle.vpg_texts.specs.Scene.{Scene, scene_of}
-use Rattle.vpg_texts.specs.Sights.{has_vertices, line_at, named_lines, verdicts_at, verdicts_text}
+use Rattle.vpg_texts.specs.Sights.{has_vertices, line_at, named_lines, verdicts_at, verdicts_answer}
 use Rattle.vpg_texts.specs.Text.{answer_line, blank_number, decisions_line, hopeless_text, sure_text, vertex_line, vertex_lines}
 use Rattle.vpg_report.specs.Answers.{vertex_of, page_if, own_text, NoVertex, refusal_text, Follows, Asks, Sees, verdicts_on}
 use Rattle.vpg_report.specs.Held.{Held}
@@ -114,15 +116,15 @@ module _ (scene : Scene) (page : List Entry) where
       ∙ (λ k. range_lines n (omega (arith, le)) k ++ (flat_map-cons said_line n [] ∙ append-nil (said_line n) ∙ line_is n le) k)
 
   -- what `show` writes
-  show_says : length scene.identifiers ≡ length scene.game → (text : List ℕ) → Sees scene script.Show page text → SaysVerdicts scene (script.Look script.Show) (verdicts_on scene page) text
-  show_says sized text sees =
-      let told = sees.1.1 in
+  show_says : length scene.identifiers ≡ length scene.game → (answer : Answer) → Sees scene script.Show page answer → SaysVerdicts scene (script.Look script.Show) (verdicts_on scene page) answer
+  show_says sized answer sees =
+      let told = sees.1.1.1 in
       let head = decisions_line scene.names (map literal_of (decisions_of page)) ++ codes "full" ++ answer_line told.full ++ codes "settled" ++ answer_line told.settled in (
         head,
         hopeful,
         dual,
-        told.text_is ∙ ap (λ (l : List ℕ). head ++ l)
-            (ap (vertex_lines (top_for Hopeful scene.game) (top_for Dual scene.game) scene.identifiers hopeful dual) sized ∙ sym (range_lines (length scene.game) (omega arith))),
+        is_done answer _ sees.0 (told.text_is ∙ ap (λ (l : List ℕ). head ++ l)
+            (ap (vertex_lines (top_for Hopeful scene.game) (top_for Dual scene.game) scene.identifiers hopeful dual) sized ∙ sym (range_lines (length scene.game) (omega arith)))),
       )
 
   abbrev lines_named : List script.Vertex → List ℕ
@@ -162,17 +164,17 @@ module _ (scene : Scene) (page : List Entry) where
         one_more vertex named (vertex_of scene vertex) refl b.0 (places_of named b.1)
 
     -- what `show V ..` writes
-    named_says : (named : List script.Vertex) (text : List ℕ) → has_vertices scene.identifiers (script.Vertices named) ≡ true → Sees scene (script.Vertices named) page text →
-        SaysVerdicts scene (script.Look (script.Vertices named)) (verdicts_on scene page) text
-    named_says named text has sees =
+    named_says : (named : List script.Vertex) (answer : Answer) → has_vertices scene.identifiers (script.Vertices named) ≡ true → Sees scene (script.Vertices named) page answer →
+        SaysVerdicts scene (script.Look (script.Vertices named)) (verdicts_on scene page) answer
+    named_says named answer has sees =
         let n = places_of named has in
-        (n.vertices, hopeful, dual, n.are, sees ∙ n.lines)
+        (n.vertices, hopeful, dual, n.are, is_done answer _ sees.0 (sees.1 ∙ n.lines))
 
     -- what `assert V ..` writes
-    assert_says : (vertex : script.Vertex) (claims : List Claim) (text : List ℕ) → (found : Option ℕ) → vertex_of scene vertex ≡ found → is_some found ≡ true → Sees scene (script.Assert (script.Verdicts vertex claims)) page text →
-        SaysVerdicts scene (script.Look (script.Assert (script.Verdicts vertex claims))) (verdicts_on scene page) text
-    assert_says vertex claims text None is some sees = absurd (cc some)
-    assert_says vertex claims text (Some v) is some sees =
+    assert_says : (vertex : script.Vertex) (claims : List Claim) (answer : Answer) → (found : Option ℕ) → vertex_of scene vertex ≡ found → is_some found ≡ true → Sees scene (script.Assert (script.Verdicts vertex claims)) page answer →
+        SaysVerdicts scene (script.Look (script.Assert (script.Verdicts vertex claims))) (verdicts_on scene page) answer
+    assert_says vertex claims answer None is some sees = absurd (cc some)
+    assert_says vertex claims answer (Some v) is some sees =
         let told = sees.1.1 in
         let within = vertex_inside vertex v is in
         let inside : v < length scene.game = omega (arith, within, sized) in (
@@ -181,7 +183,7 @@ module _ (scene : Scene) (page : List Entry) where
           is,
           told.text_is
               ∙ ap (verdicts_at (top_for Hopeful scene.game) (top_for Dual scene.game) hopeful dual told.settled claims) is
-              ∙ (λ k. verdicts_text told.settled ((sym (at_page v inside)) k).hopeless ((sym (at_page v inside)) k).sure claims),
+              ∙ (λ k. verdicts_answer told.settled ((sym (at_page v inside)) k).hopeless ((sym (at_page v inside)) k).sure claims),
         )
 
 -- ---- the page of a history
@@ -216,104 +218,104 @@ module _ (behaviour : Option Behaviour) (scene : Scene) where
   page_told book page (Some r, (refuses, told)) = absurd (cc told)
 
   module _ (book : Book) (held : Held) (made label : ℕ) (lookup : script.Lookup) where
-    replied : (reply : Reply) (calls : List Event) (text : List ℕ) (new : Held) → IsReply F book Page reply → Follows scene held (Continues behaviour scene held made label (script.Look lookup)) reply calls text new →
-        IsRefusal text ⊎ Sees scene lookup book.present text
-    replied (Refused r) calls text new told so = inl (refusal_text scene.names r, so.1)
-    replied (Changed s) calls text new told so = absurd so
-    replied (Undone s) calls text new told so = absurd so
-    replied (Redone s) calls text new told so = absurd so
-    replied Spent calls text new told so = absurd so
-    replied (Ordered d h u) calls text new told so = absurd so
-    replied (Added n) calls text new told so = absurd so
-    replied (IsSettled b) calls text new told so = absurd so
-    replied (VerdictIs a b) calls text new told so = absurd so
-    replied (PageIs page) calls text new told so = inr (subst (λ (p : List Entry). Sees scene lookup p text) (page_told book page told) so.0)
+    replied : (reply : Reply) (calls : List Event) (answer : Answer) (new : Held) → IsReply F book Page reply → Follows scene held (Continues behaviour scene held made label (script.Look lookup)) reply calls answer new →
+        IsRefusal answer ⊎ Sees scene lookup book.present answer
+    replied (Refused r) calls answer new told so = inl (refusal_text scene.names r, so.1)
+    replied (Changed s) calls answer new told so = absurd so
+    replied (Undone s) calls answer new told so = absurd so
+    replied (Redone s) calls answer new told so = absurd so
+    replied Spent calls answer new told so = absurd so
+    replied (Ordered d h u) calls answer new told so = absurd so
+    replied (Added n) calls answer new told so = absurd so
+    replied (IsSettled b) calls answer new told so = absurd so
+    replied (VerdictIs a b) calls answer new told so = absurd so
+    replied (PageIs page) calls answer new told so = inr (subst (λ (p : List Entry). Sees scene lookup p answer) (page_told book page told) so.0)
 
-    asked : (before : ℕ) (calls : List Event) (text : List ℕ) (new : Held) → IsLegalFrom F book calls → Asks scene held before label Page (Continues behaviour scene held made label (script.Look lookup)) calls text new →
-        IsRefusal text ⊎ Sees scene lookup book.present text
-    asked before calls text new legal (inr (full, so)) = inl (codes "LogFull", so.1)
-    asked before [] text new legal (inl (less, so)) = absurd so
-    asked before (e ∷ calls) text new legal (inl (less, so)) =
-        replied e.reply calls text new (subst (λ c. IsReply F book c e.reply) so.1 legal.0) so.2
+    asked : (before : ℕ) (calls : List Event) (answer : Answer) (new : Held) → IsLegalFrom F book calls → Asks scene held before label Page (Continues behaviour scene held made label (script.Look lookup)) calls answer new →
+        IsRefusal answer ⊎ Sees scene lookup book.present answer
+    asked before calls answer new legal (inr (full, so)) = inl (codes "LogFull", so.1)
+    asked before [] answer new legal (inl (less, so)) = absurd so
+    asked before (e ∷ calls) answer new legal (inl (less, so)) =
+        replied e.reply calls answer new (subst (λ c. IsReply F book c e.reply) so.1 legal.0) so.2
 
-  looked : (book : Book) (held : Held) (made label : ℕ) (lookup : script.Lookup) (has : Bool) (calls : List Event) (text : List ℕ) (new : Held) → IsLegalFrom F book calls →
-      Begins behaviour scene held made label (script.Look lookup) (page_if has) calls text new → IsRefusal text ⊎ ((has ≡ true) × Sees scene lookup book.present text)
-  looked book held made label lookup false calls text new legal so = inl (own_text NoVertex, so.1)
-  looked book held made label lookup true calls text new legal so = seen (asked book held (made + 1) label lookup made calls text new legal so)
+  looked : (book : Book) (held : Held) (made label : ℕ) (lookup : script.Lookup) (has : Bool) (calls : List Event) (answer : Answer) (new : Held) → IsLegalFrom F book calls →
+      Begins behaviour scene held made label (script.Look lookup) (page_if has) calls answer new → IsRefusal answer ⊎ ((has ≡ true) × Sees scene lookup book.present answer)
+  looked book held made label lookup false calls answer new legal so = inl (own_text NoVertex, so.1)
+  looked book held made label lookup true calls answer new legal so = seen (asked book held (made + 1) label lookup made calls answer new legal so)
     where
-      seen : IsRefusal text ⊎ Sees scene lookup book.present text → IsRefusal text ⊎ ((true ≡ true) × Sees scene lookup book.present text)
+      seen : IsRefusal answer ⊎ Sees scene lookup book.present answer → IsRefusal answer ⊎ ((true ≡ true) × Sees scene lookup book.present answer)
       seen (inl why) = inl why
       seen (inr sees) = inr (refl, sees)
 
   -- ---- lines
 
   -- an answer to `changed`
-  compared : (book : Book) (held : Held) (made label : ℕ) (reply : Reply) (calls : List Event) (text : List ℕ) (new : Held) → IsReply F book Page reply → Follows scene held (Continues behaviour scene held made label script.Changed) reply calls text new →
-      IsRefusal text ⊎ SaysVerdicts scene script.Changed (verdicts_on scene book.present) text
-  compared book held made label (Refused r) calls text new told so = inl (refusal_text scene.names r, so.1)
-  compared book held made label (Changed s) calls text new told so = absurd so
-  compared book held made label (Undone s) calls text new told so = absurd so
-  compared book held made label (Redone s) calls text new told so = absurd so
-  compared book held made label Spent calls text new told so = absurd so
-  compared book held made label (Ordered d h u) calls text new told so = absurd so
-  compared book held made label (Added n) calls text new told so = absurd so
-  compared book held made label (IsSettled b) calls text new told so = absurd so
-  compared book held made label (VerdictIs a b) calls text new told so = absurd so
-  compared book held made label (PageIs page) calls text new told so =
-      inr (held.seen, so.1 ∙ ap (λ (p : List Entry). changed_text scene.identifiers held.seen (verdicts_on scene p)) (page_told book page told))
+  compared : (book : Book) (held : Held) (made label : ℕ) (reply : Reply) (calls : List Event) (answer : Answer) (new : Held) → IsReply F book Page reply → Follows scene held (Continues behaviour scene held made label script.Changed) reply calls answer new →
+      IsRefusal answer ⊎ SaysVerdicts scene script.Changed (verdicts_on scene book.present) answer
+  compared book held made label (Refused r) calls answer new told so = inl (refusal_text scene.names r, so.1)
+  compared book held made label (Changed s) calls answer new told so = absurd so
+  compared book held made label (Undone s) calls answer new told so = absurd so
+  compared book held made label (Redone s) calls answer new told so = absurd so
+  compared book held made label Spent calls answer new told so = absurd so
+  compared book held made label (Ordered d h u) calls answer new told so = absurd so
+  compared book held made label (Added n) calls answer new told so = absurd so
+  compared book held made label (IsSettled b) calls answer new told so = absurd so
+  compared book held made label (VerdictIs a b) calls answer new told so = absurd so
+  compared book held made label (PageIs page) calls answer new told so =
+      inr (held.seen, so.1 ∙ ap (λ (p : List Entry). done (changed_text scene.identifiers held.seen (verdicts_on scene p))) (page_told book page told))
 
-  changed : (book : Book) (held : Held) (before made label : ℕ) (calls : List Event) (text : List ℕ) (new : Held) → IsLegalFrom F book calls → Asks scene held before label Page (Continues behaviour scene held made label script.Changed) calls text new →
-      IsRefusal text ⊎ SaysVerdicts scene script.Changed (verdicts_on scene book.present) text
-  changed book held before made label calls text new legal (inr (full, so)) = inl (codes "LogFull", so.1)
-  changed book held before made label [] text new legal (inl (less, so)) = absurd so
-  changed book held before made label (e ∷ calls) text new legal (inl (less, so)) =
-      compared book held made label e.reply calls text new (subst (λ c. IsReply F book c e.reply) so.1 legal.0) so.2
+  changed : (book : Book) (held : Held) (before made label : ℕ) (calls : List Event) (answer : Answer) (new : Held) → IsLegalFrom F book calls → Asks scene held before label Page (Continues behaviour scene held made label script.Changed) calls answer new →
+      IsRefusal answer ⊎ SaysVerdicts scene script.Changed (verdicts_on scene book.present) answer
+  changed book held before made label calls answer new legal (inr (full, so)) = inl (codes "LogFull", so.1)
+  changed book held before made label [] answer new legal (inl (less, so)) = absurd so
+  changed book held before made label (e ∷ calls) answer new legal (inl (less, so)) =
+      compared book held made label e.reply calls answer new (subst (λ c. IsReply F book c e.reply) so.1 legal.0) so.2
 
   module _ (sized : length scene.identifiers ≡ length scene.game) (book : Book) (are : TrueOn book.present) (held : Held) (made label : ℕ) where
-    abbrev Names : script.Command → List ℕ → Type 0
-    Names command text = NamesWinners scene book.present command text
+    abbrev Names : script.Command → Answer → Type 0
+    Names command answer = NamesWinners scene book.present command answer
 
     -- an answer that is no refusal says the verdicts of the page
-    by_page : (command : script.Command) (text : List ℕ) → IsRefusal text ⊎ SaysVerdicts scene command (verdicts_on scene book.present) text → Names command text
-    by_page command text (inl why) = inl why
-    by_page command text (inr says) = inr (verdicts_on scene book.present, are, says)
+    by_page : (command : script.Command) (answer : Answer) → IsRefusal answer ⊎ SaysVerdicts scene command (verdicts_on scene book.present) answer → Names command answer
+    by_page command answer (inl why) = inl why
+    by_page command answer (inr says) = inr (verdicts_on scene book.present, are, says)
 
     -- of what is looked at
-    seen : (lookup : script.Lookup) (text : List ℕ) → (has_vertices scene.identifiers lookup ≡ true → Sees scene lookup book.present text → SaysVerdicts scene (script.Look lookup) (verdicts_on scene book.present) text) →
-        (calls : List Event) (new : Held) → IsLegalFrom F book calls → Serves behaviour scene held made (record { label = label; command = script.Look lookup }) calls text new → Names (script.Look lookup) text
-    seen lookup text says calls new legal so = of (looked book held made label lookup (has_vertices scene.identifiers lookup) calls text new legal so)
+    seen : (lookup : script.Lookup) (answer : Answer) → (has_vertices scene.identifiers lookup ≡ true → Sees scene lookup book.present answer → SaysVerdicts scene (script.Look lookup) (verdicts_on scene book.present) answer) →
+        (calls : List Event) (new : Held) → IsLegalFrom F book calls → Serves behaviour scene held made (record { label = label; command = script.Look lookup }) calls answer new → Names (script.Look lookup) answer
+    seen lookup answer says calls new legal so = of (looked book held made label lookup (has_vertices scene.identifiers lookup) calls answer new legal so)
       where
-        of : IsRefusal text ⊎ ((has_vertices scene.identifiers lookup ≡ true) × Sees scene lookup book.present text) → Names (script.Look lookup) text
+        of : IsRefusal answer ⊎ ((has_vertices scene.identifiers lookup ≡ true) × Sees scene lookup book.present answer) → Names (script.Look lookup) answer
         of (inl why) = inl why
         of (inr sees) = inr (verdicts_on scene book.present, are, says sees.0 sees.1)
 
-    names : (command : script.Command) (calls : List Event) (text : List ℕ) (new : Held) → IsLegalFrom F book calls → Serves behaviour scene held made (record { label = label; command = command }) calls text new → Names command text
-    names (script.Look script.Show) calls text new legal so = seen script.Show text (λ has sees. show_says scene book.present sized text sees) calls new legal so
-    names (script.Look (script.Vertices named)) calls text new legal so =
-        seen (script.Vertices named) text (λ has sees. named_says scene book.present sized named text has sees) calls new legal so
-    names (script.Look (script.Assert (script.Verdicts vertex claims))) calls text new legal so =
-        seen (script.Assert (script.Verdicts vertex claims)) text (λ has sees. assert_says scene book.present sized vertex claims text (vertex_of scene vertex) refl has sees) calls new legal so
-    names script.Changed calls text new legal so = by_page script.Changed text (changed book held made (made + 1) label calls text new legal so)
-    names (script.Look (script.Assert script.Full)) calls text new legal so = by_page (script.Look (script.Assert script.Full)) text (inr tt)
-    names (script.Look (script.Assert script.Settled)) calls text new legal so = by_page (script.Look (script.Assert script.Settled)) text (inr tt)
-    names (script.Look script.Trail) calls text new legal so = by_page (script.Look script.Trail) text (inr tt)
-    names (script.Look script.Products) calls text new legal so = by_page (script.Look script.Products) text (inr tt)
-    names (script.Look script.Plan) calls text new legal so = by_page (script.Look script.Plan) text (inr tt)
-    names (script.Look script.Count) calls text new legal so = by_page (script.Look script.Count) text (inr tt)
-    names (script.Look script.Draw) calls text new legal so = by_page (script.Look script.Draw) text (inr tt)
-    names (script.Select name) calls text new legal so = by_page (script.Select name) text (inr tt)
-    names (script.Exclude name) calls text new legal so = by_page (script.Exclude name) text (inr tt)
-    names (script.Retract name) calls text new legal so = by_page (script.Retract name) text (inr tt)
-    names (script.Undo s) calls text new legal so = by_page (script.Undo s) text (inr tt)
-    names (script.Redo s) calls text new legal so = by_page (script.Redo s) text (inr tt)
-    names (script.Keep s) calls text new legal so = by_page (script.Keep s) text (inr tt)
-    names (script.Forget s) calls text new legal so = by_page (script.Forget s) text (inr tt)
-    names (script.Lift table vertex) calls text new legal so = by_page (script.Lift table vertex) text (inr tt)
-    names script.Harvest calls text new legal so = by_page script.Harvest text (inr tt)
-    names (script.Commit k) calls text new legal so = by_page (script.Commit k) text (inr tt)
-    names (script.Settle n) calls text new legal so = by_page (script.Settle n) text (inr tt)
-    names (script.Known name) calls text new legal so = by_page (script.Known name) text (inr tt)
-    names (script.Ask inquiry) calls text new legal so = by_page (script.Ask inquiry) text (inr tt)
+    names : (command : script.Command) (calls : List Event) (answer : Answer) (new : Held) → IsLegalFrom F book calls → Serves behaviour scene held made (record { label = label; command = command }) calls answer new → Names command answer
+    names (script.Look script.Show) calls answer new legal so = seen script.Show answer (λ has sees. show_says scene book.present sized answer sees) calls new legal so
+    names (script.Look (script.Vertices named)) calls answer new legal so =
+        seen (script.Vertices named) answer (λ has sees. named_says scene book.present sized named answer has sees) calls new legal so
+    names (script.Look (script.Assert (script.Verdicts vertex claims))) calls answer new legal so =
+        seen (script.Assert (script.Verdicts vertex claims)) answer (λ has sees. assert_says scene book.present sized vertex claims answer (vertex_of scene vertex) refl has sees) calls new legal so
+    names script.Changed calls answer new legal so = by_page script.Changed answer (changed book held made (made + 1) label calls answer new legal so)
+    names (script.Look (script.Assert script.Full)) calls answer new legal so = by_page (script.Look (script.Assert script.Full)) answer (inr tt)
+    names (script.Look (script.Assert script.Settled)) calls answer new legal so = by_page (script.Look (script.Assert script.Settled)) answer (inr tt)
+    names (script.Look script.Trail) calls answer new legal so = by_page (script.Look script.Trail) answer (inr tt)
+    names (script.Look script.Products) calls answer new legal so = by_page (script.Look script.Products) answer (inr tt)
+    names (script.Look script.Plan) calls answer new legal so = by_page (script.Look script.Plan) answer (inr tt)
+    names (script.Look script.Count) calls answer new legal so = by_page (script.Look script.Count) answer (inr tt)
+    names (script.Look script.Draw) calls answer new legal so = by_page (script.Look script.Draw) answer (inr tt)
+    names (script.Select name) calls answer new legal so = by_page (script.Select name) answer (inr tt)
+    names (script.Exclude name) calls answer new legal so = by_page (script.Exclude name) answer (inr tt)
+    names (script.Retract name) calls answer new legal so = by_page (script.Retract name) answer (inr tt)
+    names (script.Undo s) calls answer new legal so = by_page (script.Undo s) answer (inr tt)
+    names (script.Redo s) calls answer new legal so = by_page (script.Redo s) answer (inr tt)
+    names (script.Keep s) calls answer new legal so = by_page (script.Keep s) answer (inr tt)
+    names (script.Forget s) calls answer new legal so = by_page (script.Forget s) answer (inr tt)
+    names (script.Lift table vertex) calls answer new legal so = by_page (script.Lift table vertex) answer (inr tt)
+    names script.Harvest calls answer new legal so = by_page script.Harvest answer (inr tt)
+    names (script.Commit k) calls answer new legal so = by_page (script.Commit k) answer (inr tt)
+    names (script.Settle n) calls answer new legal so = by_page (script.Settle n) answer (inr tt)
+    names (script.Known name) calls answer new legal so = by_page (script.Known name) answer (inr tt)
+    names (script.Ask inquiry) calls answer new legal so = by_page (script.Ask inquiry) answer (inr tt)
 
   -- the history so far
   record IsSoFar (old : Between) (before : List Event) : Type 0 where
@@ -327,15 +329,15 @@ module _ (behaviour : Option Behaviour) (scene : Scene) where
     true_here : (old : Between) (before : List Event) → IsSoFar old before → TrueOn old.book.present
     true_here old before here = subst (λ (b : Book). TrueOn b.present) (sym here.leaves) (verdicts_after before is_setting here.legal here.lawful)
 
-    names_line : (old : Between) (before : List Event) (s : Said) (text : List ℕ) (new : Between) → IsSoFar old before → Speaks (as_meant meaning (answering behaviour scene lifters)) old s text new → Speaks (as_meant meaning (naming behaviour scene lifters)) old s text new
-    names_line old before (Ok None) text new here so = so
-    names_line old before (Ok (Some request)) text new here so =
-        (so, names sized old.book (true_here old before here) old.held old.calls (meaning request).label (meaning request).command so.0.0 text new.held so.0.1.1 so.0.1.0)
-    names_line old before (Err fault) text new here so = absurd so
+    names_line : (old : Between) (before : List Event) (s : Said) (answer : Answer) (new : Between) → IsSoFar old before → Speaks (as_meant meaning (answering behaviour scene lifters)) old s answer new → Speaks (as_meant meaning (naming behaviour scene lifters)) old s answer new
+    names_line old before (Ok None) answer new here so = so
+    names_line old before (Ok (Some request)) answer new here so =
+        (so, names sized old.book (true_here old before here) old.held old.calls (meaning request).label (meaning request).command so.0.0 answer new.held so.0.1.1 so.0.1.0)
+    names_line old before (Err fault) answer new here so = absurd so
 
-    names_lines : (old : Between) (before : List Event) (lines : List (List ℕ)) (text : List ℕ) (new : Between) → IsSoFar old before → Answered (as_meant meaning (answering behaviour scene lifters)) old lines text new → Answered (as_meant meaning (naming behaviour scene lifters)) old lines text new
-    names_lines old before [] text new here so = so
-    names_lines old before (line ∷ lines) text new here so =
+    names_lines : (old : Between) (before : List Event) (lines : List (List ℕ)) (answers : List Answer) (new : Between) → IsSoFar old before → Answered (as_meant meaning (answering behaviour scene lifters)) old lines answers new → Answered (as_meant meaning (naming behaviour scene lifters)) old lines answers new
+    names_lines old before [] answers new here so = so
+    names_lines old before (line ∷ lines) answers new here so =
         let first : Calls meaning behaviour scene (λ a b. Speaks (as_meant meaning (asking behaviour scene)) a (said line) so.1 b) old before so.0 = line_of meaning behaviour scene old before (said line) so.1 so.0 here.counted here.kept (speaks_calls meaning behaviour scene lifters old (said line) so.1 so.0 so.3) in (
           so.0,
           so.1,
@@ -352,6 +354,6 @@ module _ (behaviour : Option Behaviour) (scene : Scene) where
         )
 
 pub answers_name_winners : AnswersNameWinners
-answers_name_winners meaning behaviour game diagram lifters lines text new opens answered =
-    names_lines behaviour (scene_of game diagram) (length-map game.vertices _ ∙ sym (length-map game.vertices unnamed)) opens.is_setting lifters meaning begun [] lines text new
+answers_name_winners meaning behaviour game diagram lifters lines answers new opens answered =
+    names_lines behaviour (scene_of game diagram) (length-map game.vertices _ ∙ sym (length-map game.vertices unnamed)) opens.is_setting lifters meaning begun [] lines answers new
     (record { leaves = refl; legal = tt; lawful = tt; counted = refl; kept = tt }) answered

@@ -17,6 +17,7 @@ use Rattle.vpg_desk.specs.Setting.{Setting}
 use Rattle.vpg_desk.specs.Desk.{family_of}
 use Rattle.vpg_report.specs.Held.{Held, undo_meant, redo_meant, harvest_kept, after_change, after_undo, after_redo, after_keep, after_forget, with_harvest, without_harvest, with_seen}
 use Rattle.vpg_script.specs.Script as script
+use Rattle.vpg_serving.specs.Answer.{Answer, IsDone, done, refused}
 use Rattle.vpg_texts.specs.Text.{blank_number, blank_name}
 use Rattle.vpg_texts.specs.Scene.{Scene, table_in, TellsFeature}
 use Rattle.vpg_texts.specs.Changed.{changed_text, verdicts_by}
@@ -33,13 +34,9 @@ line_of text = text ++ 10 ∷ []
 abbrev pub numbered : List ℕ → ℕ → List ℕ
 numbered word n = line_of (word ++ blank_number n)
 
--- the answer to a line that is refused
-abbrev pub refused_line : List ℕ → List ℕ
-refused_line why = codes "refused " ++ line_of why
-
 -- the answer to a line with a call that a full log doesn't take
-abbrev pub full_line : List ℕ
-full_line = refused_line (codes "LogFull")
+abbrev pub full_log : Answer
+full_log = refused (codes "LogFull")
 
 abbrev pub refusal_text : List (List ℕ) → Refusal → List ℕ
 refusal_text names UnknownFeature = codes "UnknownFeature"
@@ -163,103 +160,106 @@ room = 1048576
 
 -- what may come after a reply: further calls, the line's answer, and what is held then
 abbrev pub Rest : Type 1
-Rest = List Event → List ℕ → Held → Type 0
+Rest = List Event → Answer → Held → Type 0
 
 -- no further call
-abbrev pub Ends : List ℕ → Held → Rest
-Ends answer held calls text new = (calls ≡ []) × (text ≡ answer) × (new ≡ held)
+abbrev pub Ends : Answer → Held → Rest
+Ends answer held calls given new = (calls ≡ []) × (given ≡ answer) × (new ≡ held)
 
 -- A refused call answers the line, and leaves what is held as it was; else what follows the reply.
 abbrev pub Follows : Scene → Held → (Reply → Rest) → Reply → Rest
-Follows scene held P (Refused r) calls text new = Ends (refused_line (refusal_text scene.names r)) held calls text new
-Follows scene held P reply calls text new = P reply calls text new
+Follows scene held P (Refused r) calls answer new = Ends (refused (refusal_text scene.names r)) held calls answer new
+Follows scene held P reply calls answer new = P reply calls answer new
 
 -- one call more under the label, and what follows its reply
 abbrev pub Makes : Scene → Held → ℕ → Call → (Reply → Rest) → Rest
-Makes scene held label call P [] text new = ⊥
-Makes scene held label call P (e ∷ calls) text new =
-    (e.session ≡ label) × (e.call ≡ call) × Follows scene held P e.reply calls text new
+Makes scene held label call P [] answer new = ⊥
+Makes scene held label call P (e ∷ calls) answer new =
+    (e.session ≡ label) × (e.call ≡ call) × Follows scene held P e.reply calls answer new
 
 -- `made` calls were made before. If they are fewer than the room, the call is made. Else the log is full: that is the
 -- answer, and what is held stays as it was.
 abbrev pub Asks : Scene → Held → (made : ℕ) → ℕ → Call → (Reply → Rest) → Rest
-Asks scene held made label call P calls text new =
-    ((made < room) × Makes scene held label call P calls text new) ⊎
-    ((room ≤ made) × Ends full_line held calls text new)
+Asks scene held made label call P calls answer new =
+    ((made < room) × Makes scene held label call P calls answer new) ⊎
+    ((room ≤ made) × Ends full_log held calls answer new)
 
 -- ---- after a line's replies
 
 abbrev pub TellsSettled : Held → ℕ → Reply → Rest
-TellsSettled held n (IsSettled b) calls text new = Ends (settled_text b n) held calls text new
-TellsSettled held n _ calls text new = ⊥
+TellsSettled held n (IsSettled b) calls answer new = Ends (done (settled_text b n)) held calls answer new
+TellsSettled held n _ calls answer new = ⊥
 
 -- after the commit of a settle
 abbrev pub AsksSettled : Scene → Held → (made : ℕ) → ℕ → Reply → Rest
-AsksSettled scene held made label (Added n) calls text new =
-    Asks scene held made label Settled (TellsSettled held n) calls text new
-AsksSettled scene held made label _ calls text new = ⊥
+AsksSettled scene held made label (Added n) calls answer new =
+    Asks scene held made label Settled (TellsSettled held n) calls answer new
+AsksSettled scene held made label _ calls answer new = ⊥
 
 -- after another commit
 abbrev pub TellsAdded : Held → Reply → Rest
-TellsAdded held (Added n) calls text new = Ends (numbered (codes "added") n) held calls text new
-TellsAdded held _ calls text new = ⊥
+TellsAdded held (Added n) calls answer new = Ends (done (numbered (codes "added") n)) held calls answer new
+TellsAdded held _ calls answer new = ⊥
 
 -- an order is swept, and the harvest is committed
 abbrev pub Sweeps : Scene → Held → (made : ℕ) → ℕ → ℕ → Reply → Rest
-Sweeps scene held made label sweeps (Ordered decisions hopeful dual) calls text new =
+Sweeps scene held made label sweeps (Ordered decisions hopeful dual) calls answer new =
     (harvest : Harvest) × IsSwept (family_of (setting_in scene)) sweeps decisions hopeful dual harvest
-    × Asks scene held made label (Commit harvest) (AsksSettled scene held (made + 1) label) calls text new
-Sweeps scene held made label sweeps _ calls text new = ⊥
+    × Asks scene held made label (Commit harvest) (AsksSettled scene held (made + 1) label) calls answer new
+Sweeps scene held made label sweeps _ calls answer new = ⊥
 
 -- an order is swept, and the harvest is kept
 abbrev pub Keeps : Scene → Held → Reply → Rest
-Keeps scene held (Ordered decisions hopeful dual) calls text new =
+Keeps scene held (Ordered decisions hopeful dual) calls answer new =
     (made : Harvest) × IsSwept (family_of (setting_in scene)) most_sweeps decisions hopeful dual made
-    × Ends (numbered (codes "harvest") (length held.harvests + 1)) (with_harvest held made) calls text new
-Keeps scene held _ calls text new = ⊥
+    × Ends (done (numbered (codes "harvest") (length held.harvests + 1))) (with_harvest held made) calls answer new
+Keeps scene held _ calls answer new = ⊥
 
 -- a vertex of an order is lifted, and the harvest is committed
 abbrev pub Lifts : Scene → Held → (made : ℕ) → ℕ → Which → script.Vertex → Reply → Rest
-Lifts scene held made label table vertex (Ordered decisions hopeful dual) calls text new =
+Lifts scene held made label table vertex (Ordered decisions hopeful dual) calls answer new =
     (v : ℕ) × (harvest : Harvest) × (vertex_of scene vertex ≡ Some v) ×
     IsLifted (setting_in scene) table v decisions hopeful dual harvest
-    × Asks scene held made label (Commit harvest) (TellsAdded held) calls text new
-Lifts scene held made label table vertex _ calls text new = ⊥
+    × Asks scene held made label (Commit harvest) (TellsAdded held) calls answer new
+Lifts scene held made label table vertex _ calls answer new = ⊥
 
 abbrev pub TellsChanged : Held → Reply → Rest
-TellsChanged held (Changed s) calls text new = Ends (numbered (codes "done") s) (after_change held s) calls text new
-TellsChanged held _ calls text new = ⊥
+TellsChanged held (Changed s) calls answer new =
+    Ends (done (numbered (codes "done") s)) (after_change held s) calls answer new
+TellsChanged held _ calls answer new = ⊥
 
 abbrev pub TellsUndone : Held → Reply → Rest
-TellsUndone held (Undone s) calls text new = Ends (numbered (codes "undone") s) (after_undo held s) calls text new
-TellsUndone held _ calls text new = ⊥
+TellsUndone held (Undone s) calls answer new =
+    Ends (done (numbered (codes "undone") s)) (after_undo held s) calls answer new
+TellsUndone held _ calls answer new = ⊥
 
 abbrev pub TellsRedone : Held → Reply → Rest
-TellsRedone held (Redone s) calls text new = Ends (numbered (codes "redone") s) (after_redo held s) calls text new
-TellsRedone held _ calls text new = ⊥
+TellsRedone held (Redone s) calls answer new =
+    Ends (done (numbered (codes "redone") s)) (after_redo held s) calls answer new
+TellsRedone held _ calls answer new = ⊥
 
 -- the reply says that a token is spent, and the line has this answer
-abbrev pub TellsSpent : List ℕ → Held → Reply → Rest
-TellsSpent answer held Spent calls text new = Ends answer held calls text new
-TellsSpent answer held _ calls text new = ⊥
+abbrev pub TellsSpent : Answer → Held → Reply → Rest
+TellsSpent answer held Spent calls given new = Ends answer held calls given new
+TellsSpent answer held _ calls given new = ⊥
 
 -- ---- texts of a page
 
--- the text of a lookup on a page
-abbrev pub Sees : Scene → script.Lookup → List Entry → List ℕ → Type 0
-Sees scene lookup page text =
+-- the answer to a lookup on a page
+abbrev pub Sees : Scene → script.Lookup → List Entry → Answer → Type 0
+Sees scene lookup page answer =
     IsSeen scene lookup page (decisions_of page) (table_of Hopeful page (length scene.game))
-    (table_of Dual page (length scene.game)) text
+    (table_of Dual page (length scene.game)) answer
 
--- the text of what is known of the feature of this name
+-- the text says what is known of the feature of this name
 abbrev pub TellsNamed : Scene → (name : List ℕ) → List Entry → List ℕ → Type 0
 TellsNamed scene name page text =
     (f : ℕ) × ((index_of scene.names name ≡ Some f) × TellsFeature scene (decisions_of page) f text)
 
--- the answer is such a text of the page
-abbrev pub TellsPage : (List Entry → List ℕ → Type 0) → Held → Reply → Rest
-TellsPage Tells held (PageIs page) calls text new = Tells page text × (calls ≡ []) × (new ≡ held)
-TellsPage Tells held _ calls text new = ⊥
+-- it is such an answer of the page
+abbrev pub TellsPage : (List Entry → Answer → Type 0) → Held → Reply → Rest
+TellsPage Tells held (PageIs page) calls answer new = Tells page answer × (calls ≡ []) × (new ≡ held)
+TellsPage Tells held _ calls answer new = ⊥
 
 -- the verdict of each vertex on a page
 abbrev pub verdicts_on : Scene → List Entry → List Verdict
@@ -268,38 +268,38 @@ verdicts_on scene page =
 
 -- The answer compares the page's verdicts with those held as seen, and takes their place there.
 abbrev pub TellsVerdicts : Scene → Held → Reply → Rest
-TellsVerdicts scene held (PageIs page) calls text new =
-    Ends (changed_text scene.identifiers held.seen (verdicts_on scene page)) (with_seen held (verdicts_on scene page))
-    calls text new
-TellsVerdicts scene held _ calls text new = ⊥
+TellsVerdicts scene held (PageIs page) calls answer new =
+    Ends (done (changed_text scene.identifiers held.seen (verdicts_on scene page)))
+    (with_seen held (verdicts_on scene page)) calls answer new
+TellsVerdicts scene held _ calls answer new = ⊥
 
 -- the rest after the reply to a command's first call, with `made` calls made by then
 abbrev pub Continues : Scene → Held → (made : ℕ) → ℕ → script.Command → Reply → Rest
-Continues scene held made label (script.Select name) reply calls text new = TellsChanged held reply calls text new
-Continues scene held made label (script.Exclude name) reply calls text new = TellsChanged held reply calls text new
-Continues scene held made label (script.Retract name) reply calls text new = TellsChanged held reply calls text new
-Continues scene held made label (script.Undo s) reply calls text new = TellsUndone held reply calls text new
-Continues scene held made label (script.Redo s) reply calls text new = TellsRedone held reply calls text new
-Continues scene held made label (script.Keep s) reply calls text new =
-    TellsSpent (numbered (codes "kept") s) (after_keep held s) reply calls text new
-Continues scene held made label (script.Forget s) reply calls text new =
-    TellsSpent (numbered (codes "forgotten") s) (after_forget held s) reply calls text new
-Continues scene held made label (script.Lift table vertex) reply calls text new =
-    Lifts scene held made label table vertex reply calls text new
-Continues scene held made label script.Harvest reply calls text new = Keeps scene held reply calls text new
-Continues scene held made label (script.Commit k) reply calls text new =
-    TellsAdded (without_harvest held k) reply calls text new
-Continues scene held made label (script.Settle n) reply calls text new =
-    Sweeps scene held made label (sweeps_of n) reply calls text new
-Continues scene held made label (script.Look lookup) reply calls text new =
-    TellsPage (Sees scene lookup) held reply calls text new
-Continues scene held made label script.Changed reply calls text new = TellsVerdicts scene held reply calls text new
-Continues scene held made label (script.Known name) reply calls text new =
-    TellsPage (TellsNamed scene name) held reply calls text new
-Continues scene held made label (script.Ask inquiry) reply calls text new = ⊥
+Continues scene held made label (script.Select name) reply calls answer new = TellsChanged held reply calls answer new
+Continues scene held made label (script.Exclude name) reply calls answer new = TellsChanged held reply calls answer new
+Continues scene held made label (script.Retract name) reply calls answer new = TellsChanged held reply calls answer new
+Continues scene held made label (script.Undo s) reply calls answer new = TellsUndone held reply calls answer new
+Continues scene held made label (script.Redo s) reply calls answer new = TellsRedone held reply calls answer new
+Continues scene held made label (script.Keep s) reply calls answer new =
+    TellsSpent (done (numbered (codes "kept") s)) (after_keep held s) reply calls answer new
+Continues scene held made label (script.Forget s) reply calls answer new =
+    TellsSpent (done (numbered (codes "forgotten") s)) (after_forget held s) reply calls answer new
+Continues scene held made label (script.Lift table vertex) reply calls answer new =
+    Lifts scene held made label table vertex reply calls answer new
+Continues scene held made label script.Harvest reply calls answer new = Keeps scene held reply calls answer new
+Continues scene held made label (script.Commit k) reply calls answer new =
+    TellsAdded (without_harvest held k) reply calls answer new
+Continues scene held made label (script.Settle n) reply calls answer new =
+    Sweeps scene held made label (sweeps_of n) reply calls answer new
+Continues scene held made label (script.Look lookup) reply calls answer new =
+    TellsPage (Sees scene lookup) held reply calls answer new
+Continues scene held made label script.Changed reply calls answer new = TellsVerdicts scene held reply calls answer new
+Continues scene held made label (script.Known name) reply calls answer new =
+    TellsPage (λ page. IsDone (TellsNamed scene name page)) held reply calls answer new
+Continues scene held made label (script.Ask inquiry) reply calls answer new = ⊥
 
 -- The line begins with this call and has this rest after its reply, or is refused without a call. `made` calls were
 -- made before.
 abbrev pub Begins : Scene → Held → (made : ℕ) → ℕ → (Reply → Rest) → Result Call Own → Rest
-Begins scene held made label P (Err own) calls text new = Ends (refused_line (own_text own)) held calls text new
-Begins scene held made label P (Ok call) calls text new = Asks scene held made label call P calls text new
+Begins scene held made label P (Err own) calls answer new = Ends (refused (own_text own)) held calls answer new
+Begins scene held made label P (Ok call) calls answer new = Asks scene held made label call P calls answer new

@@ -1,5 +1,5 @@
 -- How the engine serves a request.
-use Rattle.std.specs.Prelude.{◌≡◌, ℕ, ◌+◌, List, [], ◌++◌, ⊤, ◌==◌, Bool, true, false, position, Option, Some, None, Result}
+use Rattle.std.specs.Prelude.{◌≡◌, ℕ, ◌+◌, List, [], ⊤, ◌==◌, Bool, true, false, position, Option, Some, None, Result}
 use Rattle.vpg_diagram.specs.DiagramText.{NamedDiagram}
 use Rattle.vpg_game.specs.Game.{NamedGame, IsAtLimit}
 use Rattle.vpg_partial.specs.KnownLaws.{HasConflictOf}
@@ -9,7 +9,7 @@ use Rattle.vpg_report.specs.declared.fault.ClientFault.TheVariants.{LogFull, Ref
 use Rattle.vpg_desk.specs.Book.{Call, Refusal, Reply}
 use Rattle.vpg_faults.specs.declared.fault.OpenFault.{OpenFault}
 use Rattle.vpg_faults.specs.declared.fault.OpenFault.TheVariants.{AtLimit, Conflict, Memory}
-use Rattle.vpg_report.specs.Answers.{Own, NoFeature, NoVertex, NoSystem, Rest, first_call, Continues, full_line, refused_line, refusal_text}
+use Rattle.vpg_report.specs.Answers.{Own, NoFeature, NoVertex, NoSystem, Rest, first_call, Continues, full_log, refusal_text}
 use Rattle.vpg_report.specs.declared.lines.Missing.{Missing}
 use Rattle.vpg_report.specs.declared.lines.Missing.TheVariants.{Vertex, Feature, System}
 use Rattle.vpg_report.specs.Held.{Held, nothing_held}
@@ -17,6 +17,8 @@ use Rattle.vpg_report.specs.Line.{Between, beginning}
 use Rattle.vpg_report.specs.Made.{AreMadeBy}
 use Rattle.vpg_report.specs.Setting.{setting_in}
 use Rattle.vpg_texts.specs.Scene.{Scene, scene_of}
+use Rattle.vpg_serving.specs.Answer.{Answer, IsGiven, refused}
+use Rattle.vpg_serving.specs.declared.tone.Tone.{Tone}
 use Rattle.vpg_script.specs.Script as script
 use Rattle.vpg_script.specs.Script.{Request}
 
@@ -35,26 +37,27 @@ between_of state = record { book = state.client.desk.book; calls = state.client.
 abbrev pub engine_of : NamedGame → NamedDiagram → EngineState
 engine_of game diagram = record { client = client_of game diagram; held = nothing_held }
 
--- The line begins with this call and has this rest after its reply, or is refused without a call. A text is appended
--- that answers it; game and diagram stay.
-pub record AnswersBy (old : EngineState) (label : ℕ) (first : Result Call Own) (P : Reply → Rest)
+-- The line begins with this call and has this rest after its reply, or is refused without a call. An answer to it is
+-- given: its text is appended, and its tone returned. Game and diagram stay.
+pub record AnswersBy (old : EngineState) (label : ℕ) (first : Result Call Own) (P : Reply → Rest) (tone : Tone)
     (before after : List ℕ) (new : EngineState) : Type 0 where
-  pub text : List ℕ
-  pub answer : beginning (scene_at old) label first P (between_of old) text (between_of new)
-  pub appended : after ≡ before ++ text
+  pub answer : Answer
+  pub answers : beginning (scene_at old) label first P (between_of old) answer (between_of new)
+  pub given : IsGiven answer tone before after
   pub game : new.client.desk.game ≡ old.client.desk.game
   pub diagram : new.client.desk.diagram ≡ old.client.desk.diagram
 
--- A text is appended that is the engine's answer to the request; game and diagram stay.
-pub record AnswersTo (old : EngineState) (request : Request) (before after : List ℕ) (new : EngineState) : Type 0 where
+-- The engine's answer to the request is given; game and diagram stay.
+pub record AnswersTo (old : EngineState) (request : Request) (tone : Tone) (before after : List ℕ)
+    (new : EngineState) : Type 0 where
   pub by : AnswersBy old request.label (first_call (scene_at old) old.held request.command)
-      (Continues (scene_at old) old.held (old.client.calls + 1) request.label request.command) before after new
+      (Continues (scene_at old) old.held (old.client.calls + 1) request.label request.command) tone before after new
 
 -- As `AnswersTo`, and what is committed or kept was made by sweeps of this many lifters.
-pub record SweepsTo (old : EngineState) (lifters : ℕ) (request : Request) (before after : List ℕ)
+pub record SweepsTo (old : EngineState) (lifters : ℕ) (request : Request) (tone : Tone) (before after : List ℕ)
     (new : EngineState) : Type 0 where
-  pub answers : AnswersTo old request before after new
-  pub made : AreMadeBy (setting_in (scene_at old)) lifters request.command answers.by.answer.0 new.held
+  pub answers : AnswersTo old request tone before after new
+  pub made : AreMadeBy (setting_in (scene_at old)) lifters request.command answers.by.answers.0 new.held
 
 -- the command that decides the feature of a name in or out
 abbrev pub deciding : Bool → List ℕ → script.Command
@@ -72,17 +75,18 @@ abbrev pub IsPlaceOf : Option ℕ → List ℕ → Option ℕ → Type 0
 IsPlaceOf meant serials None = meant ≡ None
 IsPlaceOf meant serials (Some place) = (s : ℕ) × ((meant ≡ Some s) × (position (λ n. n == s) serials ≡ Some place))
 
--- The answer to a refused call; out of memory has none.
-abbrev pub TellsRefusal : List (List ℕ) → Option Refusal → List ℕ → List ℕ → Type 0
-TellsRefusal names None before after = ⊥
-TellsRefusal names (Some refusal) before after = after ≡ before ++ refused_line (refusal_text names refusal)
+-- The answer to a refused call is given; out of memory has none.
+abbrev pub TellsRefusal : List (List ℕ) → Option Refusal → Tone → (before after : List ℕ) → Type 0
+TellsRefusal names None told before after = ⊥
+TellsRefusal names (Some refusal) told before after = IsGiven (refused (refusal_text names refusal)) told before after
 
--- The answer to a call that the client doesn't make: that the log is full, or the desk's refusal; a stray and out of
--- memory have none.
-abbrev pub TellsFault : {F : Type 0} → List (List ℕ) → (F → Option Refusal) → ClientFault F → List ℕ → List ℕ → Type 0
-TellsFault names refusal LogFull before after = after ≡ before ++ full_line
-TellsFault names refusal (Refused fault) before after = TellsRefusal names (refusal fault) before after
-TellsFault names refusal _ before after = ⊥
+-- The answer to a call that the client doesn't make is given: that the log is full, or the desk's refusal. A stray and
+-- out of memory have none.
+abbrev pub TellsFault : {F : Type 0} → List (List ℕ) → (F → Option Refusal) → ClientFault F → Tone →
+    (before after : List ℕ) → Type 0
+TellsFault names refusal LogFull told before after = IsGiven full_log told before after
+TellsFault names refusal (Refused fault) told before after = TellsRefusal names (refusal fault) told before after
+TellsFault names refusal _ told before after = ⊥
 
 -- why an office isn't opened
 abbrev pub IsOpenFault : NamedGame → NamedDiagram → OpenFault → Type 0

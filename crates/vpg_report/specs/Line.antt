@@ -1,5 +1,6 @@
 -- How a line of a script changes the book of an office's desk and what the engine holds, and what it writes.
 use Rattle.std.specs.Prelude.{◌≡◌, ℕ, ◌+◌, List, length, Result}
+use Rattle.vpg_serving.specs.Answer.{Answer}
 use Rattle.vpg_desk.specs.Book.{Book, Call, Reply, opened}
 use Rattle.vpg_desk.specs.History.{Event, IsLegalFrom, book_after}
 use Rattle.vpg_desk.specs.Desk.{family_of}
@@ -18,11 +19,11 @@ pub record Between : Type 0 where
 abbrev pub begun : Between
 begun = record { book = opened; calls = 0; held = nothing_held }
 
--- A line of this beginning makes calls, each with the reply that the book gives at that point. It is answered with this
--- text, and leaves the book after the calls.
-abbrev pub beginning : Scene → ℕ → Result Call Own → (Reply → Rest) → Between → List ℕ → Between → Type 0
-beginning scene label first P old text new =
+-- A line of this beginning makes calls, each with the reply that the book gives at that point. It has this answer, and
+-- leaves the book after the calls.
+abbrev pub beginning : Scene → ℕ → Result Call Own → (Reply → Rest) → Between → Answer → Between → Type 0
+beginning scene label first P old answer new =
     (calls : List Event) ×
-    (Begins scene old.held old.calls label P first calls text new.held ×
+    (Begins scene old.held old.calls label P first calls answer new.held ×
     IsLegalFrom (family_of (setting_in scene)) old.book calls
     × (new.book ≡ book_after (family_of (setting_in scene)) old.book calls) × (new.calls ≡ old.calls + length calls))

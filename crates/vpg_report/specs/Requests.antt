@@ -63,27 +63,27 @@ first_call behaviour scene held command = engine.first_call scene held command
 
 -- the query is answered from an order
 abbrev pub TellsAnswer : Option Behaviour → Scene → Held → script.Inquiry → Reply → Rest
-TellsAnswer behaviour scene held inquiry (Ordered decisions hopeful dual) calls text new =
+TellsAnswer behaviour scene held inquiry (Ordered decisions hopeful dual) calls answer new =
     ((query : Query) ×
     ((query_of behaviour scene inquiry ≡ Ok query) ×
-    IsAnswer behaviour scene answer_limits query decisions hopeful dual text)) ×
+    IsAnswer behaviour scene answer_limits query decisions hopeful dual answer)) ×
     (calls ≡ []) × (new ≡ held)
-TellsAnswer behaviour scene held inquiry _ calls text new = ⊥
+TellsAnswer behaviour scene held inquiry _ calls answer new = ⊥
 
 -- the rest after the reply to a command's first call, with `made` calls made by then
 abbrev pub Continues : Option Behaviour → Scene → Held → (made : ℕ) → ℕ → script.Command → Reply → Rest
-Continues behaviour scene held made label (script.Ask inquiry) reply calls text new =
-    TellsAnswer behaviour scene held inquiry reply calls text new
-Continues behaviour scene held made label command reply calls text new =
-    engine.Continues scene held made label command reply calls text new
+Continues behaviour scene held made label (script.Ask inquiry) reply calls answer new =
+    TellsAnswer behaviour scene held inquiry reply calls answer new
+Continues behaviour scene held made label command reply calls answer new =
+    engine.Continues scene held made label command reply calls answer new
 
 abbrev pub Begins : Option Behaviour → Scene → Held → (made : ℕ) → ℕ → script.Command → Result Call Own → Rest
-Begins behaviour scene held made label command first calls text new =
-    engine.Begins scene held made label (Continues behaviour scene held (made + 1) label command) first calls text new
+Begins behaviour scene held made label command first calls answer new =
+    engine.Begins scene held made label (Continues behaviour scene held (made + 1) label command) first calls answer new
 
 -- With this held and `made` calls made before, the request makes these calls with these replies, has this answer, and
 -- leaves this held.
 abbrev pub Serves : Option Behaviour → Scene → Held → (made : ℕ) → Request → Rest
-Serves behaviour scene held made request calls text new =
+Serves behaviour scene held made request calls answer new =
     Begins behaviour scene held made request.label request.command (first_call behaviour scene held request.command)
-    calls text new
+    calls answer new

@@ -7,6 +7,7 @@ use Rattle.vpg_report.specs.Held.{Held, nothing_held}
 use Rattle.vpg_report.specs.Made.{AreMadeBy}
 pub use Rattle.vpg_report.specs.Line.{Between, begun}
 use Rattle.vpg_report.specs.Setting.{setting_in}
+use Rattle.vpg_serving.specs.Answer.{Answer}
 use Rattle.vpg_serving.specs.Output.{Machine, Answered}
 use Rattle.vpg_diagram.specs.DiagramText.{NamedDiagram}
 use Rattle.vpg_game.specs.Game.{NamedGame}
@@ -17,27 +18,27 @@ use Rattle.vpg_script.specs.Script.{Request}
 use Rattle.vpg_texts.specs.Scene.{Scene, scene_of}
 use Rattle.vpg_report.specs.Requests.{Serves}
 
--- If the game was made of this, a request makes calls, each with the reply that the book gives at that point. It is
--- answered with this text, and leaves the book after the calls.
+-- If the game was made of this, a request makes calls, each with the reply that the book gives at that point. It has
+-- this answer, and leaves the book after the calls.
 abbrev pub calling : Option Behaviour → Scene → Machine Between
-calling behaviour scene old request text new =
+calling behaviour scene old request answer new =
     (calls : List Event) ×
-    (Serves behaviour scene old.held old.calls request calls text new.held ×
+    (Serves behaviour scene old.held old.calls request calls answer new.held ×
     IsLegalFrom (family_of (setting_in scene)) old.book calls
     × (new.book ≡ book_after (family_of (setting_in scene)) old.book calls) × (new.calls ≡ old.calls + length calls))
 
 -- As `calling`, and what is committed or kept was made by at most the line's number of sweeps, each by this many
 -- lifters.
 abbrev pub answering : Option Behaviour → Scene → ℕ → Machine Between
-answering behaviour scene lifters old request text new =
-    (so : calling behaviour scene old request text new) ×
+answering behaviour scene lifters old request answer new =
+    (so : calling behaviour scene old request answer new) ×
     AreMadeBy (setting_in scene) lifters request.command so.0 new.held
 
 -- ---- lines that call vertices by their names
 
 -- Each request is answered as the one that it is taken to mean.
 abbrev pub as_meant : {S : Type 0} → (Request → Request) → Machine S → Machine S
-as_meant meaning serves old request text new = serves old (meaning request) text new
+as_meant meaning serves old request answer new = serves old (meaning request) answer new
 
 -- a scene, the names that lines may give its vertices, and the system that its game was made of
 pub record Called : Type 0 where
@@ -70,18 +71,20 @@ unasked = record { calls = []; held = nothing_held }
 
 -- Each request adds its calls to those before; a full log takes no more.
 abbrev pub asking : Option Behaviour → Scene → Machine Asked
-asking behaviour scene old request text new =
+asking behaviour scene old request answer new =
     (calls : List Event) ×
-    (Serves behaviour scene old.held (length old.calls) request calls text new.held × (new.calls ≡ old.calls ++ calls))
+    (Serves behaviour scene old.held (length old.calls) request calls answer new.held ×
+    (new.calls ≡ old.calls ++ calls))
 
--- The texts written for lines without a fault answer the calls of a legal history, with lawful harvests only. These are
--- exactly the calls of these lines in their order, under any meaning of the lines, and they leave the book.
+-- The answers to lines without a fault, their tones and texts, are those to the calls of a legal history, with lawful
+-- harvests only. These are exactly the calls of these lines in their order, under any meaning of the lines, and they
+-- leave the book.
 abbrev pub AnswersAreHistories : Type 0
 AnswersAreHistories =
     (meaning : Request → Request) (behaviour : Option Behaviour) (scene : Scene) (lifters : ℕ)
-    (lines : List (List ℕ)) (text : List ℕ) (new : Between) →
-    Answered (as_meant meaning (answering behaviour scene lifters)) begun lines text new →
+    (lines : List (List ℕ)) (answers : List Answer) (new : Between) →
+    Answered (as_meant meaning (answering behaviour scene lifters)) begun lines answers new →
     (history : List Event) ×
     (IsHistoryOf (setting_in scene) new.book history ×
-    Answered (as_meant meaning (asking behaviour scene)) unasked lines text
+    Answered (as_meant meaning (asking behaviour scene)) unasked lines answers
     (record { calls = history; held = new.held }))

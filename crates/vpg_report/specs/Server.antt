@@ -11,17 +11,19 @@ use Rattle.vpg_report.specs.declared.lines.Missing.{Missing}
 use Rattle.vpg_checking.specs.Behaviours.{Behaviour}
 use Rattle.vpg_report.specs.Requests.{Continues, first_call}
 use Rattle.vpg_script.specs.Script.{Request}
+use Rattle.vpg_serving.specs.declared.tone.Tone.{Tone}
 
 -- the query by places, or the kind of name that is missing
 abbrev pub IsQuery : Result Query Own → Result Query Missing → Type 0
 IsQuery asked (Ok query) = asked ≡ Ok query
 IsQuery asked (Err missing) = asked ≡ Err (own_of missing)
 
--- A text is appended that answers the request, also where it asks about the page; game and diagram stay.
-abbrev pub AnswersTo : Option Behaviour → EngineState → Request → List ℕ → List ℕ → EngineState → Type 0
-AnswersTo behaviour old request before after new =
+-- An answer to the request is given, also where it asks about the page; game and diagram stay.
+abbrev pub AnswersTo : Option Behaviour → EngineState → Request → Tone → (before after : List ℕ) → EngineState → Type 0
+AnswersTo behaviour old request tone before after new =
     AnswersBy old request.label (first_call behaviour (scene_at old) old.held request.command)
-    (Continues behaviour (scene_at old) old.held (old.client.calls + 1) request.label request.command) before after new
+    (Continues behaviour (scene_at old) old.held (old.client.calls + 1) request.label request.command) tone before after
+    new
 
 -- why an office isn't opened; out of memory is reported separately
 abbrev pub IsOpenRefusal : NamedGame → NamedDiagram → OpenFault → Type 0

@@ -6,6 +6,7 @@ use Rattle.vpg_answers.specs.Answers.{HasDoubt}
 use Rattle.vpg_desk.specs.Desk.{family_of}
 use Rattle.vpg_report.specs.Answers.{Checks, settled_text}
 use Rattle.vpg_report.specs.Held.{Held}
+use Rattle.vpg_serving.specs.Answer.{Answer}
 use Rattle.vpg_serving.specs.Output.{Machine, Answered}
 use Rattle.vpg_report.specs.Output.{Outcome}
 use Rattle.vpg_report.specs.Results.{IsThrough}
@@ -18,10 +19,10 @@ use Rattle.vpg_serving.specs.declared.fault.RunFault.{RunFault}
 use Rattle.vpg_report.specs.Setting.{setting_in}
 
 -- a settle is answered `settled`, and a question about the page without a doubt: no limit was met
-abbrev pub TellsSettle : script.Command → List ℕ → Type 0
-TellsSettle (script.Settle sweeps) text = (n : ℕ) × (text ≡ settled_text true n)
-TellsSettle (script.Ask inquiry) text = ¬ (HasDoubt text)
-TellsSettle _ text = ⊤
+abbrev pub TellsSettle : script.Command → Answer → Type 0
+TellsSettle (script.Settle sweeps) answer = (n : ℕ) × (answer.text ≡ settled_text true n)
+TellsSettle (script.Ask inquiry) answer = ¬ (HasDoubt answer.text)
+TellsSettle _ answer = ⊤
 
 -- each harvest that is held passes `check`
 abbrev pub AreChecked : Scene → Held → Type 0
@@ -30,18 +31,18 @@ AreChecked scene held = AllByRecursion (λ h. IfSome h (Checks (family_of (setti
 -- It answers, and so far each settle was answered `settled`, no answer about the page had a doubt, and each harvest
 -- that a line keeps passes `check`.
 abbrev pub settling : Option Behaviour → Scene → Machine Between
-settling behaviour scene old request text new =
-    calling behaviour scene old request text new × TellsSettle request.command text × AreChecked scene new.held
+settling behaviour scene old request answer new =
+    calling behaviour scene old request answer new × TellsSettle request.command answer × AreChecked scene new.held
 
--- In such runs the text, the book, the calls and what is held are one function of the scene, the lines and their
--- meaning, whichever lawful harvests the lines made.
+-- In such runs the answers (their tones and texts), the book, the calls and what is held are one function of the scene,
+-- the lines and their meaning, whichever lawful harvests the lines made.
 abbrev pub SettledAnswersAreOne : Type 0
 SettledAnswersAreOne =
     (meaning : Request → Request) (behaviour : Option Behaviour) (scene : Scene) (lines : List (List ℕ))
-    (text other : List ℕ) (new newer : Between) →
-    Answered (as_meant meaning (settling behaviour scene)) begun lines text new →
-    Answered (as_meant meaning (settling behaviour scene)) begun lines other newer →
-    (text ≡ other) × (new ≡ newer)
+    (answers others : List Answer) (new newer : Between) →
+    Answered (as_meant meaning (settling behaviour scene)) begun lines answers new →
+    Answered (as_meant meaning (settling behaviour scene)) begun lines others newer →
+    (answers ≡ others) × (new ≡ newer)
 
 -- So are the text that a run writes and its result, if it goes through a known script. (It was opened then, so no cause
 -- of a refusal matters.)

@@ -1,4 +1,4 @@
--- The winners, by the text that a run writes. This project's own.
+-- The winners, by the answers of a run. This project's own.
 use Rattle.std.specs.Prelude.{◌≡◌, ◌⊎◌, ℕ, ◌<◌, Bool, Option, List, ◌++◌, length, map, Some, flat_map, slice_index, decimal, ⊤}
 use Rattle.std.specs.List.{range_with_len}
 use Rattle.vpg_diagram.specs.DiagramText.{NamedDiagram}
@@ -10,12 +10,13 @@ use Rattle.vpg_desk.specs.State.{IsOpened}
 use Rattle.vpg_checking.specs.Behaviours.{Behaviour}
 use Rattle.vpg_script.specs.Script as script
 use Rattle.vpg_script.specs.Script.{Request}
+use Rattle.vpg_serving.specs.Answer.{Answer, done, refused}
 use Rattle.vpg_serving.specs.Output.{Machine, Answered}
 use Rattle.vpg_texts.specs.Changed.{changed_text, seen_at}
 use Rattle.vpg_texts.specs.Scene.{Scene, scene_of}
-use Rattle.vpg_texts.specs.Sights.{verdicts_text}
+use Rattle.vpg_texts.specs.Sights.{verdicts_answer}
 use Rattle.vpg_texts.specs.Text.{blank_number, hopeless_text, sure_text}
-use Rattle.vpg_report.specs.Answers.{refused_line, vertex_of}
+use Rattle.vpg_report.specs.Answers.{vertex_of}
 use Rattle.vpg_report.specs.Run.{Between, begun, answering, as_meant}
 use Rattle.vpg_report.specs.Setting.{setting_in}
 
@@ -39,46 +40,47 @@ abbrev pub verdict_lines : Scene → (hopeful dual : List ℕ) → List Verdict 
 verdict_lines scene hopeful dual verdicts vertices = flat_map (verdict_line scene hopeful dual verdicts) vertices
 
 -- The answer to a command says these verdicts of vertices.
-abbrev pub SaysVerdicts : Scene → script.Command → List Verdict → List ℕ → Type 0
+abbrev pub SaysVerdicts : Scene → script.Command → List Verdict → Answer → Type 0
 -- it ends with a line for each vertex
-SaysVerdicts scene (script.Look script.Show) verdicts text =
+SaysVerdicts scene (script.Look script.Show) verdicts answer =
     (head : List ℕ) × (hopeful : List ℕ) × (dual : List ℕ) ×
-    (text ≡ head ++ verdict_lines scene hopeful dual verdicts (range_with_len 0 (length scene.game)))
+    (answer ≡ done (head ++ verdict_lines scene hopeful dual verdicts (range_with_len 0 (length scene.game))))
 -- it has a line for each of the vertices that are named
-SaysVerdicts scene (script.Look (script.Vertices named)) verdicts text =
+SaysVerdicts scene (script.Look (script.Vertices named)) verdicts answer =
     (vertices : List ℕ) × (hopeful : List ℕ) × (dual : List ℕ) ×
     (map (vertex_of scene) named ≡ map Some vertices) ×
-    (text ≡ verdict_lines scene hopeful dual verdicts vertices)
+    (answer ≡ done (verdict_lines scene hopeful dual verdicts vertices))
 -- it compares the vertex's verdict with the asserted ones
-SaysVerdicts scene (script.Look (script.Assert (script.Verdicts named claims))) verdicts text =
+SaysVerdicts scene (script.Look (script.Assert (script.Verdicts named claims))) verdicts answer =
     (v : ℕ) × (settled : Bool) × (vertex_of scene named ≡ Some v) ×
-    (text ≡ verdicts_text settled (seen_at verdicts v).hopeless (seen_at verdicts v).sure claims)
+    (answer ≡ verdicts_answer settled (seen_at verdicts v).hopeless (seen_at verdicts v).sure claims)
 -- it lists those that differ from the ones reported before
-SaysVerdicts scene script.Changed verdicts text =
-    (seen : List Verdict) × (text ≡ changed_text scene.identifiers seen verdicts)
-SaysVerdicts scene _ verdicts text = ⊤
+SaysVerdicts scene script.Changed verdicts answer =
+    (seen : List Verdict) × (answer ≡ done (changed_text scene.identifiers seen verdicts))
+SaysVerdicts scene _ verdicts answer = ⊤
 
 -- the answer to a line that is refused
-abbrev pub IsRefusal : List ℕ → Type 0
-IsRefusal text = (why : List ℕ) × (text ≡ refused_line why)
+abbrev pub IsRefusal : Answer → Type 0
+IsRefusal answer = (why : List ℕ) × (answer ≡ refused why)
 
 -- An answer that isn't a refusal says of vertices what is true of the page.
-abbrev pub NamesWinners : Scene → List Entry → script.Command → List ℕ → Type 0
-NamesWinners scene page command text =
-    IsRefusal text ⊎
-    ((verdicts : List Verdict) × AreTrue scene page verdicts × SaysVerdicts scene command verdicts text)
+abbrev pub NamesWinners : Scene → List Entry → script.Command → Answer → Type 0
+NamesWinners scene page command answer =
+    IsRefusal answer ⊎
+    ((verdicts : List Verdict) × AreTrue scene page verdicts × SaysVerdicts scene command verdicts answer)
 
 -- Each request is answered as by a run, and by what is true of the page at that point.
 abbrev pub naming : Option Behaviour → Scene → ℕ → Machine Between
-naming behaviour scene lifters old request text new =
-    answering behaviour scene lifters old request text new × NamesWinners scene old.book.present request.command text
+naming behaviour scene lifters old request answer new =
+    answering behaviour scene lifters old request answer new ×
+    NamesWinners scene old.book.present request.command answer
 
 -- The answers of an office's run to `show`, `assert` and `changed` name the winners. The verdicts that they say are
 -- true of the page at that point, under any meaning of the lines.
 abbrev pub AnswersNameWinners : Type 0
 AnswersNameWinners =
     (meaning : Request → Request) (behaviour : Option Behaviour) (game : NamedGame) (diagram : NamedDiagram)
-    (lifters : ℕ) (lines : List (List ℕ)) (text : List ℕ) (new : Between) →
+    (lifters : ℕ) (lines : List (List ℕ)) (answers : List Answer) (new : Between) →
     IsOpened game diagram →
-    Answered (as_meant meaning (answering behaviour (scene_of game diagram) lifters)) begun lines text new →
-    Answered (as_meant meaning (naming behaviour (scene_of game diagram) lifters)) begun lines text new
+    Answered (as_meant meaning (answering behaviour (scene_of game diagram) lifters)) begun lines answers new →
+    Answered (as_meant meaning (naming behaviour (scene_of game diagram) lifters)) begun lines answers new

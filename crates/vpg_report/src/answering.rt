@@ -1,8 +1,9 @@
 //! A server of scripts: an engine, with questions about the page.
-ghost use Rattle.std.specs.Prelude.{◌≡◌, ◌≤◌, ◌++◌, ℕ, List, OnOk};
+ghost use Rattle.std.specs.Prelude.{◌≡◌, ◌≤◌, IfOk, OnOk};
 ghost use Rattle.vpg_report.specs.Server.{AnswersTo};
 ghost use Rattle.vpg_report.specs.Run.{answering};
 ghost use Rattle.vpg_report.specs.Engine.{between_of, scene_at};
+ghost use Rattle.vpg_serving.specs.Answer.{Gives};
 ghost use Rattle.vpg_script.specs.Script.{Ask};
 ghost use Rattle.vpg_script.specs.View.{inquiry_shown, request_shown};
 
@@ -17,7 +18,7 @@ use vpg_checking::Behaviour;
 use vpg_family::Context;
 use vpg_office::Terms;
 use vpg_script::{Command, Inquiry, Request, meant};
-use vpg_serving::{ServeFault, Server};
+use vpg_serving::{ServeFault, Server, Tone};
 
 /// The limits of a question about the page. The bounds of a trial's table may look at 2^27 edges and vertices; if they
 /// do not settle it, it has 1,000 rounds of lifts. A search has 10,000 trials.
@@ -36,9 +37,9 @@ fn ask<L: Terms, R: Wait>(
     behaviour: &Option<Behaviour>,
     inquiry: Inquiry<'_>,
     out: &mut Vec<u8>,
-) -> Result<(), ServeFault>
-    ensures { OnOk result (AnswersTo behaviour.now engine.old
-        (record { label = session; command = Ask (inquiry_shown inquiry.entry) })
+) -> Result<Tone, ServeFault>
+    ensures { IfOk result (λ tone. AnswersTo behaviour.now engine.old
+        (record { label = session; command = Ask (inquiry_shown inquiry.entry) }) tone
         out.old.items out.new.items engine.new) }
 {
     let query = match query_of(behaviour, engine.game(), engine.diagram(), inquiry) {
@@ -49,8 +50,8 @@ fn ask<L: Terms, R: Wait>(
         Ok(order) => order,
         Err(fault) => return put_unanswered(fault, out),
     };
-    vpg_answers::answer(alloc, order, behaviour, query, LIMITS, out)?;
-    Ok(())
+    let tone = vpg_answers::answer(alloc, order, behaviour, query, LIMITS, out)?;
+    Ok(tone)
 }
 
 /// Answers a request: the engine's, or a question about the present page.
@@ -62,12 +63,12 @@ fn answer<L: Terms, T: Threads + Wait + Sync>(
     behaviour: &Option<Behaviour>,
     request: &Request<'_>,
     out: &mut Vec<u8>,
-) -> Result<(), ServeFault>
+) -> Result<Tone, ServeFault>
     requires lifters { (1 ≤ lifters) × (lifters ≤ 64) }
-    ensures answer { OnOk result
-        ((text : List ℕ) ×
-        (answering behaviour.now (scene_at engine.old) lifters (between_of engine.old) (request_shown request.now) text
-        (between_of engine.new) × (out.new.items ≡ out.old.items ++ text))) }
+    ensures answer { IfOk result
+        (λ tone. Gives
+        (λ answer. answering behaviour.now (scene_at engine.old) lifters (between_of engine.old)
+        (request_shown request.now) answer (between_of engine.new)) tone out.old.items out.new.items) }
     ensures scene { OnOk result (scene_at engine.new ≡ scene_at engine.old) }
 {
     match &request.command {
@@ -103,7 +104,7 @@ impl<L: Terms> Server for Answering<'_, L> {
         lifters: u32,
         request: &Request<'_>,
         out: &mut Vec<u8>,
-    ) -> Result<(), ServeFault> {
+    ) -> Result<Tone, ServeFault> {
         let features = self.engine.diagram().names();
         let said = meant(alloc, &self.context.callings, features, request)?;
         let behaviour = &self.context.behaviour;

@@ -35,7 +35,7 @@ use vpg_guess::Groundwork;
 use vpg_measure::{Harvest, Order};
 use vpg_office::{Never, NotOpened, Redo, Site, Terms, Undo};
 use vpg_script::{Command, Lookup, Request, Vertex};
-use vpg_serving::ServeFault;
+use vpg_serving::{ServeFault, Tone};
 use vpg_settle::swept;
 use vpg_texts::{has_vertices, look_over, put_changed, put_known_over, verdicts_over, vertex_at};
 use vpg_verdict::{Verdict, Which};
@@ -106,9 +106,9 @@ impl<L: Terms> Engine<L> {
         name: &[u8],
         value: bool,
         out: &mut Vec<u8>,
-    ) -> Result<(), ServeFault>
-        ensures { OnOk result (AnswersTo self.old
-            (record { label = session; command = deciding value name.now }) out.old.items out.new.items self.new) }
+    ) -> Result<Tone, ServeFault>
+        ensures { IfOk result (λ tone. AnswersTo self.old
+            (record { label = session; command = deciding value name.now }) tone out.old.items out.new.items self.new) }
     {
         let Some(feature) = self.names().get(name) else {
             return lines::refused(b"UnknownFeature", out);
@@ -131,9 +131,9 @@ impl<L: Terms> Engine<L> {
         session: u32,
         name: &[u8],
         out: &mut Vec<u8>,
-    ) -> Result<(), ServeFault>
-        ensures { OnOk result (AnswersTo self.old
-            (record { label = session; command = Retract name.now }) out.old.items out.new.items self.new) }
+    ) -> Result<Tone, ServeFault>
+        ensures { IfOk result (λ tone. AnswersTo self.old
+            (record { label = session; command = Retract name.now }) tone out.old.items out.new.items self.new) }
     {
         let Some(feature) = self.names().get(name) else {
             return lines::refused(b"UnknownFeature", out);
@@ -156,9 +156,9 @@ impl<L: Terms> Engine<L> {
         session: u32,
         serial: Option<u64>,
         out: &mut Vec<u8>,
-    ) -> Result<(), ServeFault>
-        ensures { OnOk result (AnswersTo self.old
-            (record { label = session; command = Undoes serial }) out.old.items out.new.items self.new) }
+    ) -> Result<Tone, ServeFault>
+        ensures { IfOk result (λ tone. AnswersTo self.old
+            (record { label = session; command = Undoes serial }) tone out.old.items out.new.items self.new) }
     {
         let Some(place) = undo_place(&self.undos, serial) else {
             return lines::refused(b"NoToken", out);
@@ -182,9 +182,9 @@ impl<L: Terms> Engine<L> {
         session: u32,
         serial: Option<u64>,
         out: &mut Vec<u8>,
-    ) -> Result<(), ServeFault>
-        ensures { OnOk result (AnswersTo self.old
-            (record { label = session; command = Redoes serial }) out.old.items out.new.items self.new) }
+    ) -> Result<Tone, ServeFault>
+        ensures { IfOk result (λ tone. AnswersTo self.old
+            (record { label = session; command = Redoes serial }) tone out.old.items out.new.items self.new) }
     {
         let Some(place) = redo_place(&self.redos, serial) else {
             return lines::refused(b"NoToken", out);
@@ -207,9 +207,9 @@ impl<L: Terms> Engine<L> {
         session: u32,
         serial: u64,
         out: &mut Vec<u8>,
-    ) -> Result<(), ServeFault>
-        ensures { OnOk result (AnswersTo self.old
-            (record { label = session; command = Keep serial }) out.old.items out.new.items self.new) }
+    ) -> Result<Tone, ServeFault>
+        ensures { IfOk result (λ tone. AnswersTo self.old
+            (record { label = session; command = Keep serial }) tone out.old.items out.new.items self.new) }
     {
         let Some(place) = undo_place(&self.undos, Some(serial)) else {
             return lines::refused(b"NoToken", out);
@@ -231,9 +231,9 @@ impl<L: Terms> Engine<L> {
         session: u32,
         serial: u64,
         out: &mut Vec<u8>,
-    ) -> Result<(), ServeFault>
-        ensures { OnOk result (AnswersTo self.old
-            (record { label = session; command = Forget serial }) out.old.items out.new.items self.new) }
+    ) -> Result<Tone, ServeFault>
+        ensures { IfOk result (λ tone. AnswersTo self.old
+            (record { label = session; command = Forget serial }) tone out.old.items out.new.items self.new) }
     {
         let Some(place) = redo_place(&self.redos, Some(serial)) else {
             return lines::refused(b"NoToken", out);
@@ -257,9 +257,9 @@ impl<L: Terms> Engine<L> {
         table: Which,
         vertex: Vertex<'_>,
         out: &mut Vec<u8>,
-    ) -> Result<(), ServeFault>
-        ensures { OnOk result (AnswersTo self.old
-            (record { label = session; command = Lift table (vertex_shown vertex.entry) })
+    ) -> Result<Tone, ServeFault>
+        ensures { IfOk result (λ tone. AnswersTo self.old
+            (record { label = session; command = Lift table (vertex_shown vertex.entry) }) tone
             out.old.items out.new.items self.new) }
     {
         let Some(v) = vertex_at(&self.game, vertex) else {
@@ -285,10 +285,10 @@ impl<L: Terms> Engine<L> {
         session: u32,
         lifters: u32,
         out: &mut Vec<u8>,
-    ) -> Result<(), ServeFault>
+    ) -> Result<Tone, ServeFault>
         requires lifters { (1 ≤ lifters) × (lifters ≤ 64) }
-        ensures { OnOk result (SweepsTo self.old lifters
-            (record { label = session; command = Harvests }) out.old.items out.new.items self.new) }
+        ensures { IfOk result (λ tone. SweepsTo self.old lifters
+            (record { label = session; command = Harvests }) tone out.old.items out.new.items self.new) }
     {
         self.harvests.reserve(1)?;
         let order = match self.client.order(rt, alloc, session) {
@@ -309,9 +309,9 @@ impl<L: Terms> Engine<L> {
         session: u32,
         number: u64,
         out: &mut Vec<u8>,
-    ) -> Result<(), ServeFault>
-        ensures { OnOk result (AnswersTo self.old
-            (record { label = session; command = Commit number }) out.old.items out.new.items self.new) }
+    ) -> Result<Tone, ServeFault>
+        ensures { IfOk result (λ tone. AnswersTo self.old
+            (record { label = session; command = Commit number }) tone out.old.items out.new.items self.new) }
     {
         let Some(harvest) = take_harvest(&mut self.harvests, number) else {
             return lines::refused(b"NoHarvest", out);
@@ -334,10 +334,10 @@ impl<L: Terms> Engine<L> {
         sweeps: Option<u64>,
         lifters: u32,
         out: &mut Vec<u8>,
-    ) -> Result<(), ServeFault>
+    ) -> Result<Tone, ServeFault>
         requires lifters { (1 ≤ lifters) × (lifters ≤ 64) }
-        ensures { OnOk result (SweepsTo self.old lifters
-            (record { label = session; command = Settle sweeps }) out.old.items out.new.items self.new) }
+        ensures { IfOk result (λ tone. SweepsTo self.old lifters
+            (record { label = session; command = Settle sweeps }) tone out.old.items out.new.items self.new) }
     {
         let order = match self.client.order(rt, alloc, session) {
             Ok(order) => order,
@@ -372,9 +372,9 @@ impl<L: Terms> Engine<L> {
         session: u32,
         lookup: &Lookup<'_>,
         out: &mut Vec<u8>,
-    ) -> Result<(), ServeFault>
-        ensures { OnOk result (AnswersTo self.old
-            (record { label = session; command = Look (lookup_shown lookup.now) })
+    ) -> Result<Tone, ServeFault>
+        ensures { IfOk result (λ tone. AnswersTo self.old
+            (record { label = session; command = Look (lookup_shown lookup.now) }) tone
             out.old.items out.new.items self.new) }
     {
         if !has_vertices(&self.game, lookup) {
@@ -384,8 +384,8 @@ impl<L: Terms> Engine<L> {
             Ok(both) => both,
             Err(fault) => return lines::put_unanswered(fault, out),
         };
-        look_over(alloc, &games, &page, &self.game, &self.diagram, lookup, out)?;
-        Ok(())
+        let tone = look_over(alloc, &games, &page, &self.game, &self.diagram, lookup, out)?;
+        Ok(tone)
     }
 
     /// Writes the verdicts of the present page that differ from those reported last.
@@ -395,9 +395,9 @@ impl<L: Terms> Engine<L> {
         alloc: Global,
         session: u32,
         out: &mut Vec<u8>,
-    ) -> Result<(), ServeFault>
-        ensures { OnOk result (AnswersTo self.old
-            (record { label = session; command = Changed }) out.old.items out.new.items self.new) }
+    ) -> Result<Tone, ServeFault>
+        ensures { IfOk result (λ tone. AnswersTo self.old
+            (record { label = session; command = Changed }) tone out.old.items out.new.items self.new) }
     {
         let (page, games) = match self.client.page_with_games(rt, alloc, session) {
             Ok(both) => both,
@@ -406,7 +406,7 @@ impl<L: Terms> Engine<L> {
         let verdicts = verdicts_over(alloc, &games, &page, &self.game)?;
         put_changed(alloc, &self.game, &self.seen, &verdicts, out)?;
         self.seen = verdicts;
-        Ok(())
+        Ok(Tone::Done)
     }
 
     /// Writes what the present decisions make known of a feature, by its name.
@@ -417,9 +417,9 @@ impl<L: Terms> Engine<L> {
         session: u32,
         name: &[u8],
         out: &mut Vec<u8>,
-    ) -> Result<(), ServeFault>
-        ensures { OnOk result (AnswersTo self.old
-            (record { label = session; command = Known name.now }) out.old.items out.new.items self.new) }
+    ) -> Result<Tone, ServeFault>
+        ensures { IfOk result (λ tone. AnswersTo self.old
+            (record { label = session; command = Known name.now }) tone out.old.items out.new.items self.new) }
     {
         let Some(feature) = self.names().get(name) else {
             return lines::refused(b"UnknownFeature", out);
@@ -429,7 +429,7 @@ impl<L: Terms> Engine<L> {
             Err(fault) => return lines::put_unanswered(fault, out),
         };
         put_known_over(alloc, &games, &self.diagram, feature, out)?;
-        Ok(())
+        Ok(Tone::Done)
     }
 
     /// Returns an engine with a new office, with room for 1,048,576 calls; nothing is held. Refused as `Client::open`.
@@ -519,8 +519,8 @@ impl<L: Terms> Engine<L> {
         self.client.order(rt, alloc, session)
     }
 
-    /// Carries a request out, with 1 to 64 lifters for sweeps, and appends its answer. A question about the page is not
-    /// the engine's, and is never answered: the fault is `Stray`.
+    /// Carries a request out, with 1 to 64 lifters for sweeps. Appends the text of its answer, and returns the answer's
+    /// tone. A question about the page is not the engine's, and is never answered: the fault is `Stray`.
     pub fn carry_out<T: Threads + Wait + Sync>(
         &mut self,
         rt: &T,
@@ -528,10 +528,11 @@ impl<L: Terms> Engine<L> {
         lifters: u32,
         request: &Request<'_>,
         out: &mut Vec<u8>,
-    ) -> Result<(), ServeFault>
+    ) -> Result<Tone, ServeFault>
         requires lifters { (1 ≤ lifters) × (lifters ≤ 64) }
-        ensures { OnOk result (IsOwn (request_shown request.now).command × SweepsTo self.old lifters
-            (request_shown request.now) out.old.items out.new.items self.new) }
+        ensures { IfOk result
+            (λ tone. IsOwn (request_shown request.now).command ×
+            SweepsTo self.old lifters (request_shown request.now) tone out.old.items out.new.items self.new) }
     {
         let session = request.label;
         match &request.command {

@@ -1,8 +1,9 @@
 //! The tokens and harvests that the engine holds.
-ghost use Rattle.std.specs.Prelude.{◌≡◌, ◌+◌, ◌-◌, ◌<◌, ◌≤◌, ◌==◌, ◌++◌, ◌∷◌, [], ℕ, length, max, position, slice_get, slice_index_or, vec_len, vec_capacity, slice_set, Some, None, OnOk, IfSome, IfNone};
+ghost use Rattle.std.specs.Prelude.{◌≡◌, ◌+◌, ◌-◌, ◌<◌, ◌≤◌, ◌==◌, ◌++◌, ◌∷◌, [], ℕ, length, max, position, slice_get, slice_index_or, vec_len, vec_capacity, slice_set, Some, None, IfOk, OnOk, IfSome, IfNone};
 ghost use Rattle.std.specs.List.{reduce, remove, insert};
 ghost use Rattle.vpg_report.specs.Faults.{UnlessStray};
 ghost use Rattle.vpg_office.specs.Token.{TokenView};
+ghost use Rattle.vpg_serving.specs.Answer.{IsGiven, done};
 ghost use Rattle.vpg_report.specs.Answers.{numbered};
 ghost use Rattle.vpg_report.specs.Engine.{IsPlaceOf};
 ghost use Rattle.vpg_report.specs.Held.{undo_meant, redo_meant, harvest_kept};
@@ -14,7 +15,7 @@ use std::alloc::AllocError;
 use vpg_desk::CommitFault;
 use vpg_measure::Harvest;
 use vpg_office::{Redo, Terms, Undo};
-use vpg_serving::ServeFault;
+use vpg_serving::{ServeFault, Tone};
 
 /// Returns the place of the undo that a command means: that of the serial, or without one that of the greatest.
 pub(crate) fn undo_place<L: Terms>(undos: &[Undo<L>], serial: Option<u64>) -> Option<usize>
@@ -60,10 +61,11 @@ pub(crate) fn hold_undo<L: Terms>(
     undo: Undo<L>,
     word: &[u8],
     out: &mut Vec<u8>,
-) -> Result<(), ServeFault>
+) -> Result<Tone, ServeFault>
     requires { vec_len undos.old < vec_capacity undos.old }
     ensures held { serials undos.new.items ≡ serials undos.old.items ++ undo.serial ∷ [] }
-    ensures told { OnOk result (out.new.items ≡ out.old.items ++ numbered word.now undo.serial) }
+    ensures told { IfOk result
+        (λ tone. IsGiven (done (numbered word.now undo.serial)) tone out.old.items out.new.items) }
 {
     let serial = undo.serial();
     undos.push_reserved(undo);
@@ -76,10 +78,11 @@ pub(crate) fn hold_redo<L: Terms>(
     redo: Redo<L>,
     word: &[u8],
     out: &mut Vec<u8>,
-) -> Result<(), ServeFault>
+) -> Result<Tone, ServeFault>
     requires { vec_len redos.old < vec_capacity redos.old }
     ensures held { serials redos.new.items ≡ serials redos.old.items ++ redo.serial ∷ [] }
-    ensures told { OnOk result (out.new.items ≡ out.old.items ++ numbered word.now redo.serial) }
+    ensures told { IfOk result
+        (λ tone. IsGiven (done (numbered word.now redo.serial)) tone out.old.items out.new.items) }
 {
     let serial = redo.serial();
     redos.push_reserved(redo);

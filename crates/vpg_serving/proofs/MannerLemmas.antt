@@ -1,21 +1,23 @@
 -- A script in a manner, one line more; and where no manner is asked for, what it was.
-use Rattle.std.proofs.Common.{◌≡◌, ℕ, ◌+◌, Bool, true, false, List, [], ◌∷◌, ◌++◌, length, Option, Some, None, Result, Ok, Err, refl, sym, ap, ap₂, ◌∙◌, inl, inr, append-nil, subst, arith, length-append, replicate, ◌<◌}
+use Rattle.std.proofs.Common.{◌≡◌, ℕ, ◌+◌, Bool, true, false, List, [], ◌∷◌, ◌++◌, length, Option, Some, None, Result, Ok, Err, refl, sym, ap, ap₂, ◌∙◌, inl, inr, append-nil, subst, arith, length-append, replicate, ◌<◌, append_assoc}
 use Rattle.std.proofs.lemmas.List.{length-replicate}
 use Rattle.std.specs.Prelude.{◌||◌, ◌&&◌}
-use Rattle.std.specs.List.{concat, list_any}
-use Rattle.std.proofs.lemmas.List.Folds.{concat-append, list_any-append}
+use Rattle.std.specs.List.{list_any}
+use Rattle.std.proofs.lemmas.List.Folds.{list_any-append}
 use Rattle.std.specs.Io.KnownBytes.{prepend_known, Appends, Keeps}
 use Rattle.std.specs.Str.Lines.{strip_carriage_return}
 use Rattle.std.specs.Global.{Vec}
 use Rattle.vpg_script.specs.Lines.{BeginsTooLong, IsPassed, PassedKnown, HeldKnown, ComesKnown, NextLine}
 use Rattle.vpg_script.specs.Script.{Said, said}
-use Rattle.vpg_serving.specs.Output.{Machine, Speaks, Answered, ReadKnown, Wrote, NextKnown, IsEmptyKnown, FaultyKnown, ScriptOutcome}
-use Rattle.vpg_serving.specs.Manners.{is_refusal, is_failure, fault_line, Answers, AnsweredEach, WroteEach, Went, MannerOutcome}
+use Rattle.vpg_serving.specs.Answer.{Answer, done, is_failure, is_refused, is_refusal}
+use Rattle.vpg_serving.specs.Output.{Machine, Speaks, Answered, ReadKnown, Wrote, NextKnown, FaultyKnown, ScriptOutcome, text_of}
+use Rattle.vpg_serving.specs.Manners.{fault_answer, Answers, AnsweredEach, WroteEach, Went, MannerOutcome}
 use Rattle.vpg_serving.specs.Results.{ending_of, FaultOutcome, LineOutcome, TooLongOutcome, TakenKnown, NextOutcome}
 use Rattle.vpg_script.specs.declared.command.LineFault.{LineFault}
 use Rattle.vpg_script.specs.declared.command.LineFault.TheVariants as faults
 use Rattle.vpg_script.specs.declared.lines.Next.TheVariants as next
-use Rattle.vpg_serving.specs.declared.answering.Tone.{Tone}
+use Rattle.vpg_serving.specs.declared.tone.Tone.{Tone}
+use Rattle.vpg_serving.specs.declared.tone.Tone.TheVariants as tones
 use Rattle.vpg_serving.specs.declared.serving.Manner.{Manner}
 use Rattle.vpg_serving.specs.declared.serving.Ending.{Ending}
 use Rattle.vpg_serving.specs.declared.serving.Ending.TheVariants as endings
@@ -26,13 +28,17 @@ use Rattle.vpg_serving.proofs.ScriptLemmas.{appends_none, appends_twice, read_mo
 
 -- ---- one line
 
+-- a line that says nothing
+pub nothing_is_met : {S : Type 0} (goes_on : Bool) (n : ℕ) (serves : Machine S) (s : S) (says : Said) (before : Option (List ℕ)) → says ≡ Ok None → LineOutcome goes_on n serves s s says before before (Ok tones.Done)
+nothing_is_met goes_on n serves s says before is = (done [], (rw is (refl, refl), refl, appends_none before))
+
 -- a line with a fault
 pub fault_is_met : {S : Type 0} (goes_on : Bool) (n : ℕ) (serves : Machine S) (s : S) (fault : LineFault) (says : Said) (before after : Option (List ℕ)) (result : Result Tone RunFault)
     → says ≡ Err fault → FaultOutcome goes_on n fault before after result → LineOutcome goes_on n serves s s says before after result
-fault_is_met true n serves s fault says before after (Ok tone) is so = (fault_line fault, (rw is (refl, refl), so.1, so.2))
-fault_is_met false n serves s fault says before after (Ok tone) is so = absurd (cc so.0)
+fault_is_met true n serves s fault says before after (Ok given) is so = (fault_answer fault, (rw is (refl, refl), so.1, so.2))
+fault_is_met false n serves s fault says before after (Ok given) is so = absurd (cc so.0)
 fault_is_met goes_on n serves s fault says before after (Err (stops.Line m other)) is so = (so.0, is ∙ ap Err (sym so.1), so.2, refl, so.3)
-fault_is_met true n serves s fault says before after (Err stops.Write) is so = (fault_line fault, (rw is (refl, refl), so.1))
+fault_is_met true n serves s fault says before after (Err stops.Write) is so = (fault_answer fault, (rw is (refl, refl), so.1))
 fault_is_met false n serves s fault says before after (Err stops.Write) is so = absurd (cc so.0)
 fault_is_met goes_on n serves s fault says before after (Err stops.Read) is so = absurd so
 fault_is_met goes_on n serves s fault says before after (Err (stops.Open why)) is so = absurd so
@@ -65,16 +71,16 @@ held_known (Some text) (Some same) left comes (held, (unended, keeps)) =
     (held, (unended, subst (λ (t : List ℕ). Keeps (Some t) (prepend_known held left)) comes.1 keeps))
 
 answers_fault : {S : Type 0} (goes_on : Bool) (serves : Machine S) (s : S) (says : Said) (fault : LineFault) → goes_on ≡ true → says ≡ Err fault →
-    Answers goes_on serves s says (fault_line fault) s
+    Answers goes_on serves s says (fault_answer fault) s
 answers_fault true serves s says fault on is = rw is (refl, refl)
 answers_fault false serves s says fault on is = absurd (cc on)
 
 -- a line that is too long
 pub too_long_is_met : {S : Type 0} (goes_on : Bool) (n : ℕ) (serves : Machine S) (s : S) (a m b left before after : Option (List ℕ)) (tone : Tone)
     → ComesKnown next.TooLong a m → TooLongOutcome goes_on n m b left before after (Ok tone) → NextOutcome goes_on n serves s s a b left before after (Ok (Some tone))
-too_long_is_met goes_on n serves s a m b left before after tone comes so =
+too_long_is_met goes_on n serves s a m b left before after given comes so =
     let line = passed_known a m b comes so.0 in
-    (line.0, fault_line faults.TooLong, (line.1.1, answers_fault goes_on serves s (said line.0) faults.TooLong so.1 line.1.0, so.2, so.3))
+    (line.0, fault_answer faults.TooLong, (line.1.1, answers_fault goes_on serves s (said line.0) faults.TooLong so.1 line.1.0, so.2, so.3))
 
 pub too_long_stops : {S : Type 0} (goes_on : Bool) (n : ℕ) (serves : Machine S) (s : S) (a m b left before after : Option (List ℕ)) (stop : RunFault)
     → ComesKnown next.TooLong a m → TooLongOutcome goes_on n m b left before after (Err stop) → NextOutcome goes_on n serves s s a b left before after (Err stop)
@@ -83,7 +89,7 @@ too_long_stops goes_on n serves s a m b left before after (stops.Line k fault) c
 too_long_stops goes_on n serves s a m b left before after stops.Read comes so = (held_known a m left comes so.0, refl, so.1)
 too_long_stops goes_on n serves s a m b left before after stops.Write comes so =
     let line = passed_known a m b comes so.0 in
-    (line.0, fault_line faults.TooLong, (line.1.2, answers_fault goes_on serves s (said line.0) faults.TooLong so.1 line.1.0, so.2))
+    (line.0, fault_answer faults.TooLong, (line.1.2, answers_fault goes_on serves s (said line.0) faults.TooLong so.1 line.1.0, so.2))
 too_long_stops goes_on n serves s a m b left before after (stops.Open why) comes so = absurd so
 too_long_stops goes_on n serves s a m b left before after stops.Memory comes so = so
 too_long_stops goes_on n serves s a m b left before after stops.Stray comes so = absurd so
@@ -96,7 +102,7 @@ line_taken (Some text) (Some rest) line comes = comes
 -- any other line
 pub line_is_met : {S : Type 0} (goes_on : Bool) (n : ℕ) (serves : Machine S) (s new : S) (a b left before after : Option (List ℕ)) (line : Vec ℕ) (tone : Tone)
     → ComesKnown (next.Line line) a b → LineOutcome goes_on n serves s new (said line.items) before after (Ok tone) → NextOutcome goes_on n serves s new a b left before after (Ok (Some tone))
-line_is_met goes_on n serves s new a b left before after line tone comes so = (line.items, so.0, (line_taken a b line comes, so.1.0, so.1.1, so.1.2))
+line_is_met goes_on n serves s new a b left before after line given comes so = (line.items, so.0, (line_taken a b line comes, so.1.0, so.1.1, so.1.2))
 
 pub line_stops : {S : Type 0} (goes_on : Bool) (n : ℕ) (serves : Machine S) (s new : S) (a b left before after : Option (List ℕ)) (line : Vec ℕ) (stop : RunFault)
     → ComesKnown (next.Line line) a b → LineOutcome goes_on n serves s new (said line.items) before after (Err stop) → NextOutcome goes_on n serves s new a b left before after (Err stop)
@@ -113,17 +119,17 @@ pub went_nothing : {S : Type 0} (manner : Manner) (serves : Machine S) (s : S) (
 went_nothing manner serves s a w =
     record { wrote = record { read = (wrote_nothing serves s a w).read; answered = (refl, refl); written = appends_none w }; unrefused = λ strict. refl }
 
-each_more : {S : Type 0} (goes_on : Bool) (serves : Machine S) (s : S) (lines texts : List (List ℕ)) (mid : S) (line one : List ℕ) (new : S)
-    → AnsweredEach goes_on serves s lines texts mid → Answers goes_on serves mid (said line) one new → AnsweredEach goes_on serves s (lines ++ line ∷ []) (texts ++ one ∷ []) new
-each_more {S = S} goes_on serves s [] texts mid line one new before answers =
-    (new, one, [], subst (λ (m : S). Answers goes_on serves m (said line) one new) before.1 answers, ap (λ (ts : List (List ℕ)). ts ++ one ∷ []) before.0, (refl, refl))
-each_more {S = S} goes_on serves s (first ∷ lines) texts mid line one new before answers = (
+each_more : {S : Type 0} (goes_on : Bool) (serves : Machine S) (s : S) (lines : List (List ℕ)) (answers : List Answer) (mid : S) (line : List ℕ) (one : Answer) (new : S)
+    → AnsweredEach goes_on serves s lines answers mid → Answers goes_on serves mid (said line) one new → AnsweredEach goes_on serves s (lines ++ line ∷ []) (answers ++ one ∷ []) new
+each_more {S = S} goes_on serves s [] answers mid line one new before given =
+    (new, one, [], subst (λ (m : S). Answers goes_on serves m (said line) one new) before.1 given, ap (λ (ts : List Answer). ts ++ one ∷ []) before.0, (refl, refl))
+each_more {S = S} goes_on serves s (first ∷ lines) answers mid line one new before given = (
   before.0,
   before.1,
   before.2 ++ one ∷ [],
   before.3,
-  ap (λ (ts : List (List ℕ)). ts ++ one ∷ []) before.4,
-  each_more {S = S} goes_on serves before.0 lines before.2 mid line one new before.5 answers,
+  ap (λ (ts : List Answer). ts ++ one ∷ []) before.4,
+  each_more {S = S} goes_on serves before.0 lines before.2 mid line one new before.5 given,
 )
 
 taken_more : (input a b : Option (List ℕ)) (lines : List (List ℕ)) (line : List ℕ) → ReadKnown input lines a → TakenKnown a line b → ReadKnown input (lines ++ line ∷ []) b
@@ -132,28 +138,33 @@ taken_more (Some text) None b lines line read taken = absurd read
 taken_more (Some text) (Some rest) None lines line read taken = absurd taken
 taken_more (Some text) (Some rest) (Some more) lines line read taken = read_more text lines rest line more read taken
 
-concat_more : (texts : List (List ℕ)) (one : List ℕ) → concat (texts ++ one ∷ []) ≡ concat texts ++ one
-concat_more texts one = concat-append texts (one ∷ []) ∙ ap (λ (t : List ℕ). concat texts ++ t) (append-nil one)
+-- the text of one answer more
+one_more_text : (answers : List Answer) (one : Answer) → text_of (answers ++ one ∷ []) ≡ text_of answers ++ (one.text ++ [])
+one_more_text [] one = refl
+one_more_text (first ∷ answers) one = ap (λ (t : List ℕ). first.text ++ t) (one_more_text answers one) ∙ sym (append_assoc first.text (text_of answers) (one.text ++ []))
 
-wrote_each_more : {S : Type 0} (goes_on : Bool) (serves : Machine S) (old mid new : S) (input a b before w after : Option (List ℕ)) (lines texts : List (List ℕ)) (line one : List ℕ)
-    → WroteEach goes_on serves old mid input a before w lines texts → TakenKnown a line b → Answers goes_on serves mid (said line) one new → Appends w after one
-    → WroteEach goes_on serves old new input b before after (lines ++ line ∷ []) (texts ++ one ∷ [])
-wrote_each_more goes_on serves old mid new input a b before w after lines texts line one so taken answers appends =
+text_more : (answers : List Answer) (one : Answer) → text_of (answers ++ one ∷ []) ≡ text_of answers ++ one.text
+text_more answers one = one_more_text answers one ∙ ap (λ (t : List ℕ). text_of answers ++ t) (append-nil one.text)
+
+wrote_each_more : {S : Type 0} (goes_on : Bool) (serves : Machine S) (old mid new : S) (input a b before w after : Option (List ℕ)) (lines : List (List ℕ)) (answers : List Answer) (line : List ℕ) (one : Answer)
+    → WroteEach goes_on serves old mid input a before w lines answers → TakenKnown a line b → Answers goes_on serves mid (said line) one new → Appends w after one.text
+    → WroteEach goes_on serves old new input b before after (lines ++ line ∷ []) (answers ++ one ∷ [])
+wrote_each_more goes_on serves old mid new input a b before w after lines answers line one so taken given appends =
     record {
       read = taken_more input a b lines line so.read taken;
-      answered = each_more goes_on serves old lines texts mid line one new so.answered answers;
-      written = subst (λ (t : List ℕ). Appends before after t) (sym (concat_more texts one)) (appends_twice before w after (concat texts) one so.written appends);
+      answered = each_more goes_on serves old lines answers mid line one new so.answered given;
+      written = subst (λ (t : List ℕ). Appends before after t) (sym (text_more answers one)) (appends_twice before w after (text_of answers) one.text so.written appends);
     }
 
-none_more : (p : List ℕ → Bool) (texts : List (List ℕ)) (one : List ℕ) → list_any p texts ≡ false → p one ≡ false → list_any p (texts ++ one ∷ []) ≡ false
-none_more p texts one h k = list_any-append p texts (one ∷ []) ∙ ap₂ (λ (a b : Bool). a || (b || false)) h k
+none_more : (p : Answer → Bool) (answers : List Answer) (one : Answer) → list_any p answers ≡ false → p one ≡ false → list_any p (answers ++ one ∷ []) ≡ false
+none_more p answers one h k = list_any-append p answers (one ∷ []) ∙ ap₂ (λ (a b : Bool). a || (b || false)) h k
 
 or_false : (b : Bool) → (b || false) ≡ b
 or_false true = refl
 or_false false = refl
 
-pub failed_more : (texts : List (List ℕ)) (one : List ℕ) → list_any is_failure (texts ++ one ∷ []) ≡ (list_any is_failure texts || is_failure one)
-failed_more texts one = list_any-append is_failure texts (one ∷ []) ∙ ap (λ (b : Bool). list_any is_failure texts || b) (or_false (is_failure one))
+pub failed_more : (answers : List Answer) (one : Answer) → list_any is_failure (answers ++ one ∷ []) ≡ (list_any is_failure answers || is_failure one)
+failed_more answers one = list_any-append is_failure answers (one ∷ []) ∙ ap (λ (b : Bool). list_any is_failure answers || b) (or_false (is_failure one))
 
 not_both : (refused strict : Bool) → (refused && strict) ≡ false → strict ≡ true → refused ≡ false
 not_both true strict h s = absurd (cc (h, s))
@@ -163,79 +174,79 @@ both_true : (a b : Bool) → (a && b) ≡ true → (a ≡ true) × (b ≡ true)
 both_true true b h = (refl, h)
 both_true false b h = absurd cc
 
-pub went_more : {S : Type 0} (manner : Manner) (serves : Machine S) (old mid new : S) (input a b before w after : Option (List ℕ)) (lines texts : List (List ℕ)) (line one : List ℕ)
-    → Went manner serves old mid input a before w lines texts → TakenKnown a line b → Answers manner.goes_on serves mid (said line) one new → Appends w after one
-    → (is_refusal one && manner.is_strict) ≡ false → Went manner serves old new input b before after (lines ++ line ∷ []) (texts ++ one ∷ [])
-went_more manner serves old mid new input a b before w after lines texts line one so taken answers appends fine =
+pub went_more : {S : Type 0} (manner : Manner) (serves : Machine S) (old mid new : S) (input a b before w after : Option (List ℕ)) (lines : List (List ℕ)) (answers : List Answer) (line : List ℕ) (one : Answer)
+    → Went manner serves old mid input a before w lines answers → TakenKnown a line b → Answers manner.goes_on serves mid (said line) one new → Appends w after one.text
+    → (is_refusal one && manner.is_strict) ≡ false → Went manner serves old new input b before after (lines ++ line ∷ []) (answers ++ one ∷ [])
+went_more manner serves old mid new input a b before w after lines answers line one so taken given appends fine =
     record {
-      wrote = wrote_each_more manner.goes_on serves old mid new input a b before w after lines texts line one so.wrote taken answers appends;
-      unrefused = λ strict. none_more is_refusal texts one (so.unrefused strict) (not_both (is_refusal one) manner.is_strict fine strict);
+      wrote = wrote_each_more manner.goes_on serves old mid new input a b before w after lines answers line one so.wrote taken given appends;
+      unrefused = λ strict. none_more is_refusal answers one (so.unrefused strict) (not_both (is_refusal one) manner.is_strict fine strict);
     }
 
 -- the answer to the next line ends a strict script
-pub refused_there : {S : Type 0} (manner : Manner) (serves : Machine S) (old mid new : S) (input a b left before w after : Option (List ℕ)) (lines texts : List (List ℕ)) (number : ℕ) (tone : Tone)
-    → Went manner serves old mid input a before w lines texts → number ≡ length lines + 1 → NextOutcome manner.goes_on number serves mid new a b left w after (Ok (Some tone))
-    → (tone.refused && manner.is_strict) ≡ true → MannerOutcome manner serves old input left before after (Ok (endings.Refused number))
-refused_there manner serves old mid new input a b left before w after lines texts number tone so counted (line, one, (taken, answers, is, appends)) both =
-    let so_both = both_true tone.refused manner.is_strict both in (
+pub refused_there : {S : Type 0} (manner : Manner) (serves : Machine S) (old mid new : S) (input a b left before w after : Option (List ℕ)) (lines : List (List ℕ)) (answers : List Answer) (number : ℕ) (tone : Tone)
+    → Went manner serves old mid input a before w lines answers → number ≡ length lines + 1 → NextOutcome manner.goes_on number serves mid new a b left w after (Ok (Some tone))
+    → (is_refused tone && manner.is_strict) ≡ true → MannerOutcome manner serves old input left before after (Ok (endings.Refused number))
+refused_there manner serves old mid new input a b left before w after lines answers number tone so counted (line, one, (taken, given, is, appends)) both =
+    let so_both = both_true (is_refused tone) manner.is_strict both in (
       lines ++ line ∷ [],
-      texts,
+      answers,
       one,
       new,
       b,
       (
-        wrote_each_more manner.goes_on serves old mid new input a b before w after lines texts line one so.wrote taken answers appends,
+        wrote_each_more manner.goes_on serves old mid new input a b before w after lines answers line one so.wrote taken given appends,
         so_both.1,
         so.unrefused so_both.1,
-        sym (ap (λ (t : Tone). t.refused) is) ∙ so_both.0,
+        sym (ap is_refused is) ∙ so_both.0,
         omega (arith, counted, length-append lines (line ∷ [])),
       ),
     )
 
-module _ {S : Type 0} (manner : Manner) (serves : Machine S) (old mid : S) (input a before w : Option (List ℕ)) (lines texts : List (List ℕ)) (went : Went manner serves old mid input a before w lines texts) where
-  after_that : (after : Option (List ℕ)) → after ≡ w → Went manner serves old mid input a before after lines texts
-  after_that after same = subst (λ (x : Option (List ℕ)). Went manner serves old mid input a before x lines texts) (sym same) went
+module _ {S : Type 0} (manner : Manner) (serves : Machine S) (old mid : S) (input a before w : Option (List ℕ)) (lines : List (List ℕ)) (answers : List Answer) (went : Went manner serves old mid input a before w lines answers) where
+  after_that : (after : Option (List ℕ)) → after ≡ w → Went manner serves old mid input a before after lines answers
+  after_that after same = subst (λ (x : Option (List ℕ)). Went manner serves old mid input a before x lines answers) (sym same) went
 
-  went_kept : (b after : Option (List ℕ)) → Keeps a b → after ≡ w → Went manner serves old mid input b before after lines texts
+  went_kept : (b after : Option (List ℕ)) → Keeps a b → after ≡ w → Went manner serves old mid input b before after lines answers
   went_kept b after kept same =
       let so = after_that after same in
       record { wrote = record { read = read_kept input a b lines so.wrote.read kept; answered = so.wrote.answered; written = so.wrote.written }; unrefused = so.unrefused }
 
   -- the script is at its end
-  pub at_end : (new : S) (b left after : Option (List ℕ)) (number : ℕ) (failed : Bool) → failed ≡ list_any is_failure texts →
+  pub at_end : (new : S) (b left after : Option (List ℕ)) (number : ℕ) (failed : Bool) → failed ≡ list_any is_failure answers →
       NextOutcome manner.goes_on number serves mid new a b left w after (Ok None) → MannerOutcome manner serves old input left before after (Ok (ending_of failed))
-  at_end new b left after number true failed so = (lines, texts, mid, a, (after_that after so.2, so.0, sym failed))
-  at_end new b left after number false failed so = (lines, texts, mid, a, (after_that after so.2, so.0, sym failed))
+  at_end new b left after number true failed so = (lines, answers, mid, a, (after_that after so.2, so.0, sym failed))
+  at_end new b left after number false failed so = (lines, answers, mid, a, (after_that after so.2, so.0, sym failed))
 
   -- the script stops
   pub stopped : (new : S) (b left after : Option (List ℕ)) (number : ℕ) (stop : RunFault) → number ≡ length lines + 1 →
       NextOutcome manner.goes_on number serves mid new a b left w after (Err stop) → MannerOutcome manner serves old input left before after (Err stop)
-  stopped new b left after number (stops.Line m fault) counted so = (lines, texts, mid, a, (after_that after so.4, so.1, so.2, so.0 ∙ counted))
-  stopped new b left after number stops.Read counted so = (lines, texts, mid, so.0.0, (went_kept (prepend_known so.0.0 left) after so.0.1.1 so.2, so.0.1.0))
-  stopped new b left after number stops.Write counted so = (lines, texts, mid, a, w, so.1, (went, new, so.0, (so.2.0, so.2.1, so.2.2)))
+  stopped new b left after number (stops.Line m fault) counted so = (lines, answers, mid, a, (after_that after so.4, so.1, so.2, so.0 ∙ counted))
+  stopped new b left after number stops.Read counted so = (lines, answers, mid, so.0.0, (went_kept (prepend_known so.0.0 left) after so.0.1.1 so.2, so.0.1.0))
+  stopped new b left after number stops.Write counted so = (lines, answers, mid, a, w, so.1, (went, new, so.0, (so.2.0, so.2.1, so.2.2)))
   stopped new b left after number (stops.Open why) counted so = absurd so
-  stopped new b left after number stops.Memory counted so = (lines, texts, mid, a, after_that after so)
-  stopped new b left after number stops.Stray counted so = (lines, texts, mid, a, after_that after so)
+  stopped new b left after number stops.Memory counted so = (lines, answers, mid, a, after_that after so)
+  stopped new b left after number stops.Stray counted so = (lines, answers, mid, a, after_that after so)
 
 -- ---- where no manner is asked for
 
-speaks_plainly : {S : Type 0} (serves : Machine S) (s : S) (says : Said) (text : List ℕ) (new : S) → Answers false serves s says text new → Speaks serves s says text new
-speaks_plainly serves s (Ok None) text new answers = answers
-speaks_plainly serves s (Ok (Some request)) text new answers = answers
-speaks_plainly serves s (Err fault) text new answers = absurd answers
+speaks_plainly : {S : Type 0} (serves : Machine S) (s : S) (says : Said) (answer : Answer) (new : S) → Answers false serves s says answer new → Speaks serves s says answer new
+speaks_plainly serves s (Ok None) answer new given = given
+speaks_plainly serves s (Ok (Some request)) answer new given = given
+speaks_plainly serves s (Err fault) answer new given = absurd given
 
-answered_plainly : {S : Type 0} (serves : Machine S) (s : S) (lines texts : List (List ℕ)) (new : S) → AnsweredEach false serves s lines texts new → Answered serves s lines (concat texts) new
-answered_plainly serves s [] texts new so = (ap concat so.0, so.1)
-answered_plainly serves s (line ∷ lines) texts new so =
-    (so.0, so.1, concat so.2, speaks_plainly serves s (said line) so.1 so.0 so.3, ap concat so.4, answered_plainly serves so.0 lines so.2 new so.5)
+answered_plainly : {S : Type 0} (serves : Machine S) (s : S) (lines : List (List ℕ)) (answers : List Answer) (new : S) → AnsweredEach false serves s lines answers new → Answered serves s lines answers new
+answered_plainly serves s [] answers new so = so
+answered_plainly serves s (line ∷ lines) answers new so =
+    (so.0, so.1, so.2, speaks_plainly serves s (said line) so.1 so.0 so.3, so.4, answered_plainly serves so.0 lines so.2 new so.5)
 
-plainly : {S : Type 0} (manner : Manner) (serves : Machine S) (old new : S) (input rest before after : Option (List ℕ)) (lines texts : List (List ℕ)) → manner.goes_on ≡ false
-    → Went manner serves old new input rest before after lines texts → Wrote serves old new input rest before after lines
-plainly manner serves old new input rest before after lines texts off so =
+plainly : {S : Type 0} (manner : Manner) (serves : Machine S) (old new : S) (input rest before after : Option (List ℕ)) (lines : List (List ℕ)) (answers : List Answer) → manner.goes_on ≡ false
+    → Went manner serves old new input rest before after lines answers → Wrote serves old new input rest before after lines
+plainly manner serves old new input rest before after lines answers off so =
     record {
-      text = concat texts;
+      answers = answers;
       read = so.wrote.read;
-      answered = answered_plainly serves old lines texts new (subst (λ (b : Bool). AnsweredEach b serves old lines texts new) off so.wrote.answered);
+      answered = answered_plainly serves old lines answers new (subst (λ (b : Bool). AnsweredEach b serves old lines answers new) off so.wrote.answered);
       written = so.wrote.written;
     }
 
@@ -246,28 +257,28 @@ as_before (Err fault) = Err fault
 
 pub plain_outcome : {S : Type 0} (manner : Manner) (serves : Machine S) (old : S) (input left before after : Option (List ℕ)) (result : Result Ending RunFault) → manner.is_strict ≡ false → manner.goes_on ≡ false
     → MannerOutcome manner serves old input left before after result → ScriptOutcome serves old input left before after (as_before result)
-plain_outcome manner serves old input left before after (Ok endings.Whole) lax off (lines, texts, new, rest, (went, empty, fine)) =
-    (lines, new, rest, (plainly manner serves old new input rest before after lines texts off went, empty))
-plain_outcome manner serves old input left before after (Ok endings.Failed) lax off (lines, texts, new, rest, (went, empty, fails)) =
-    (lines, new, rest, (plainly manner serves old new input rest before after lines texts off went, empty))
-plain_outcome manner serves old input left before after (Ok (endings.Refused n)) lax off (lines, texts, last, new, rest, (wrote, strict, none, refused, counted)) = absurd (cc (lax, strict))
-plain_outcome manner serves old input left before after (Err (stops.Line n fault)) lax off (lines, texts, new, rest, (went, faulty, ends_there, counted)) =
-    (lines, new, rest, (plainly manner serves old new input rest before after lines texts off went, faulty, counted))
-plain_outcome manner serves old input left before after (Err stops.Read) lax off (lines, texts, new, held, (went, unended)) =
-    (lines, new, held, (plainly manner serves old new input (prepend_known held left) before after lines texts off went, unended))
-plain_outcome manner serves old input left before after (Err stops.Memory) lax off (lines, texts, new, rest, went) = (lines, new, rest, plainly manner serves old new input rest before after lines texts off went)
-plain_outcome manner serves old input left before after (Err stops.Stray) lax off (lines, texts, new, rest, went) = (lines, new, rest, plainly manner serves old new input rest before after lines texts off went)
+plain_outcome manner serves old input left before after (Ok endings.Whole) lax off (lines, answers, new, rest, (went, empty, fine)) =
+    (lines, new, rest, (plainly manner serves old new input rest before after lines answers off went, empty))
+plain_outcome manner serves old input left before after (Ok endings.Failed) lax off (lines, answers, new, rest, (went, empty, fails)) =
+    (lines, new, rest, (plainly manner serves old new input rest before after lines answers off went, empty))
+plain_outcome manner serves old input left before after (Ok (endings.Refused n)) lax off (lines, answers, last, new, rest, (wrote, strict, none, refused, counted)) = absurd (cc (lax, strict))
+plain_outcome manner serves old input left before after (Err (stops.Line n fault)) lax off (lines, answers, new, rest, (went, faulty, ends_there, counted)) =
+    (lines, new, rest, (plainly manner serves old new input rest before after lines answers off went, faulty, counted))
+plain_outcome manner serves old input left before after (Err stops.Read) lax off (lines, answers, new, held, (went, unended)) =
+    (lines, new, held, (plainly manner serves old new input (prepend_known held left) before after lines answers off went, unended))
+plain_outcome manner serves old input left before after (Err stops.Memory) lax off (lines, answers, new, rest, went) = (lines, new, rest, plainly manner serves old new input rest before after lines answers off went)
+plain_outcome manner serves old input left before after (Err stops.Stray) lax off (lines, answers, new, rest, went) = (lines, new, rest, plainly manner serves old new input rest before after lines answers off went)
 plain_outcome manner serves old input left before after (Err (stops.Open why)) lax off so = absurd so
-plain_outcome {S} manner serves old input left before after (Err stops.Write) lax off (lines, texts, new, rest, mid, text, (went, last, line, (next, answers, some))) = (
+plain_outcome {S} manner serves old input left before after (Err stops.Write) lax off (lines, answers, new, rest, mid, said_last, (went, last, line, (next, given, some))) = (
   lines,
   new,
   rest,
   mid,
-  text,
+  said_last,
   (
-    plainly manner serves old new input rest before mid lines texts off went,
+    plainly manner serves old new input rest before mid lines answers off went,
     last,
     line,
-    (next, speaks_plainly serves new (said line) text last (subst (λ (b : Bool). Answers b serves new (said line) text last) off answers), some),
+    (next, speaks_plainly serves new (said line) said_last last (subst (λ (b : Bool). Answers b serves new (said line) said_last last) off given), some),
   ),
 )

@@ -7,7 +7,7 @@ use Rattle.vpg_script.specs.declared.lines.Next.TheVariants as next
 use Rattle.vpg_script.specs.declared.command.LineFault.{LineFault}
 use Rattle.vpg_script.specs.declared.command.LineFault.TheVariants as faults
 use Rattle.vpg_script.specs.Lines.{ComesKnown, NextLine, ReadLines}
-use Rattle.vpg_serving.specs.Output.{Machine, Speaks, Answered, ReadKnown, Wrote, NextKnown, IsEmptyKnown, FaultyKnown}
+use Rattle.vpg_serving.specs.Output.{Machine, ReadKnown, Wrote, NextKnown, FaultyKnown}
 
 pub appends_none : (a : Option (List ℕ)) → Appends a a []
 appends_none None = tt
@@ -24,7 +24,7 @@ read_more text [] rest line more read comes = (more, rw read comes, refl)
 read_more text (first ∷ lines) rest line more read comes = (read.0, read.1, read_more read.0 lines rest line more read.2 comes)
 
 pub wrote_nothing : {S : Type 0} (serves : Machine S) (s : S) (a w : Option (List ℕ)) → Wrote serves s s a (prepend_known [] a) w w []
-wrote_nothing serves s a w = record { text = []; read = start a; answered = (refl, refl); written = appends_none w }
+wrote_nothing serves s a w = record { answers = []; read = start a; answered = (refl, refl); written = appends_none w }
   where
     start : (b : Option (List ℕ)) → ReadKnown b [] (prepend_known [] b)
     start None = tt

@@ -1,3 +1,4 @@
+pub mod Answer
 pub mod Manners
 pub mod Output
 pub mod Results

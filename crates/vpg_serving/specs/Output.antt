@@ -1,30 +1,36 @@
 -- The output for the lines that are read.
-use Rattle.std.specs.Prelude.{◌≡◌, ℕ, ◌+◌, ◌⊎◌, List, [], ◌∷◌, ◌++◌, length, Option, Some, None, Result, Ok, Err, ⊤}
+use Rattle.std.specs.Prelude.{◌≡◌, ℕ, ◌+◌, ◌⊎◌, List, [], ◌∷◌, length, map, Option, Some, None, Result, Ok, Err, ⊤}
+use Rattle.std.specs.List.{concat}
 use Rattle.std.specs.Io.KnownBytes.{Appends, prepend_known}
 use Rattle.vpg_script.specs.Devices.{AppendsSome}
 use Rattle.vpg_script.specs.Script.{Request, Said, said}
 use Rattle.vpg_script.specs.Lines.{IsUnended, BeginsTooLong, NextLine, ReadLines}
 use Rattle.vpg_script.specs.declared.command.LineFault.{LineFault}
+use Rattle.vpg_serving.specs.Answer.{Answer, done}
 use Rattle.vpg_serving.specs.declared.fault.RunFault.{RunFault}
 use Rattle.vpg_serving.specs.declared.fault.RunFault.TheVariants as stops
 use Rattle.vpg_script.specs.declared.command.LineFault.TheVariants as faults
 
 -- a machine's answers to requests: from a state, with this answer, to a state
 abbrev pub Machine : Type 0 → Type 1
-Machine S = S → Request → List ℕ → S → Type 0
+Machine S = S → Request → Answer → S → Type 0
 
 -- a machine's answer to the meaning of a line
-abbrev pub Speaks : {S : Type 0} → Machine S → S → Said → List ℕ → S → Type 0
-Speaks serves s (Ok None) text new = (text ≡ []) × (new ≡ s)
-Speaks serves s (Ok (Some request)) text new = serves s request text new
-Speaks serves s (Err fault) text new = ⊥
+abbrev pub Speaks : {S : Type 0} → Machine S → S → Said → Answer → S → Type 0
+Speaks serves s (Ok None) answer new = (answer ≡ done []) × (new ≡ s)
+Speaks serves s (Ok (Some request)) answer new = serves s request answer new
+Speaks serves s (Err fault) answer new = ⊥
 
--- the answers to one line after another, none of them with a fault
-abbrev pub Answered : {S : Type 0} → Machine S → S → List (List ℕ) → List ℕ → S → Type 0
-Answered serves s [] text new = (text ≡ []) × (new ≡ s)
-Answered {S} serves s (line ∷ lines) text new =
-    (mid : S) × (one : List ℕ) × (more : List ℕ) × (Speaks serves s (said line) one mid) × (text ≡ one ++ more) ×
-    (Answered serves mid lines more new)
+-- one line after another, none of them with a fault, with the answer to each
+abbrev pub Answered : {S : Type 0} → Machine S → S → List (List ℕ) → List Answer → S → Type 0
+Answered serves s [] answers new = (answers ≡ []) × (new ≡ s)
+Answered {S} serves s (line ∷ lines) answers new =
+    (mid : S) × (one : Answer) × (more : List Answer) × (Speaks serves s (said line) one mid) ×
+    (answers ≡ one ∷ more) × (Answered serves mid lines more new)
+
+-- the text of answers
+abbrev pub text_of : List Answer → List ℕ
+text_of answers = concat (map (λ answer. answer.text) answers)
 
 -- the text is these lines, and then the rest, if the bytes are known
 abbrev pub ReadKnown : Option (List ℕ) → List (List ℕ) → Option (List ℕ) → Type 0
@@ -35,10 +41,10 @@ ReadKnown (Some text) lines (Some rest) = ReadLines text lines rest
 -- lines were read, and their answers were written
 pub record Wrote {S : Type 0} (serves : Machine S) (old new : S) (input rest : Option (List ℕ))
     (before after : Option (List ℕ)) (lines : List (List ℕ)) : Type 0 where
-  pub text : List ℕ
+  pub answers : List Answer
   pub read : ReadKnown input lines rest
-  pub answered : Answered serves old lines text new
-  pub written : Appends before after text
+  pub answered : Answered serves old lines answers new
+  pub written : Appends before after (text_of answers)
 
 -- this line comes next
 abbrev pub NextKnown : Option (List ℕ) → List ℕ → Type 0
@@ -82,6 +88,6 @@ ScriptOutcome {S} serves old input left before after (Err (stops.Open fault)) = 
 ScriptOutcome {S} serves old input left before after (Err stops.Stray) =
     (lines : List (List ℕ)) × (new : S) × (rest : Option (List ℕ)) × Wrote serves old new input rest before after lines
 ScriptOutcome {S} serves old input left before after (Err stops.Write) =
-    (lines : List (List ℕ)) × (new : S) × (rest : Option (List ℕ)) × (mid : Option (List ℕ)) × (text : List ℕ)
+    (lines : List (List ℕ)) × (new : S) × (rest : Option (List ℕ)) × (mid : Option (List ℕ)) × (answer : Answer)
     × (Wrote serves old new input rest before mid lines × (last : S) × (line : List ℕ) ×
-    (NextKnown rest line × Speaks serves new (said line) text last × AppendsSome mid after text))
+    (NextKnown rest line × Speaks serves new (said line) answer last × AppendsSome mid after answer.text))

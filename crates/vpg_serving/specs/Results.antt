@@ -5,10 +5,11 @@ use Rattle.vpg_script.specs.Devices.{AppendsSome}
 use Rattle.vpg_script.specs.Lines.{PassedKnown, HeldKnown, NextLine}
 use Rattle.vpg_script.specs.Script.{Said, said}
 use Rattle.vpg_serving.specs.Output.{Machine, NextKnown, IsEmptyKnown, FaultyKnown}
-use Rattle.vpg_serving.specs.Manners.{Answers, fault_line, tone_of}
+use Rattle.vpg_serving.specs.Answer.{Answer}
+use Rattle.vpg_serving.specs.Manners.{Answers, fault_answer}
 use Rattle.vpg_script.specs.declared.command.LineFault.{LineFault}
 use Rattle.vpg_script.specs.declared.command.LineFault.TheVariants as faults
-use Rattle.vpg_serving.specs.declared.answering.Tone.{Tone}
+use Rattle.vpg_serving.specs.declared.tone.Tone.{Tone}
 use Rattle.vpg_script.specs.declared.lines.NextFault.{NextFault}
 use Rattle.vpg_script.specs.declared.lines.NextFault.TheVariants as reads
 use Rattle.vpg_serving.specs.declared.serving.Ending.{Ending}
@@ -45,24 +46,24 @@ ending_of failed = if failed then endings.Failed else endings.Whole
 -- the result of line n, which has a fault: the script goes on, or stops there
 abbrev pub FaultOutcome : Bool → ℕ → LineFault → (before after : Option (List ℕ)) → Result Tone RunFault → Type 0
 FaultOutcome goes_on n fault before after (Ok tone) =
-    (goes_on ≡ true) × (tone ≡ tone_of (fault_line fault)) × Appends before after (fault_line fault)
+    (goes_on ≡ true) × (tone ≡ (fault_answer fault).tone) × Appends before after (fault_answer fault).text
 FaultOutcome goes_on n fault before after (Err (stops.Line m other)) =
     (m ≡ n) × (other ≡ fault) × (goes_on ≡ false) × (after ≡ before)
 FaultOutcome goes_on n fault before after (Err stops.Write) =
-    (goes_on ≡ true) × AppendsSome before after (fault_line fault)
+    (goes_on ≡ true) × AppendsSome before after (fault_answer fault).text
 FaultOutcome goes_on n fault before after (Err stop) = ⊥
 
 -- the result of line n, which is too long, by the text around it
 abbrev pub TooLongOutcome : Bool → ℕ → (text rest left : Option (List ℕ)) → (before after : Option (List ℕ)) →
     Result Tone RunFault → Type 0
 TooLongOutcome goes_on n text rest left before after (Ok tone) =
-    PassedKnown text rest × (goes_on ≡ true) × (tone ≡ tone_of (fault_line faults.TooLong)) ×
-    Appends before after (fault_line faults.TooLong)
+    PassedKnown text rest × (goes_on ≡ true) × (tone ≡ (fault_answer faults.TooLong).tone) ×
+    Appends before after (fault_answer faults.TooLong).text
 TooLongOutcome goes_on n text rest left before after (Err (stops.Line m fault)) =
     (m ≡ n) × (fault ≡ faults.TooLong) × (goes_on ≡ false) × (after ≡ before)
 TooLongOutcome goes_on n text rest left before after (Err stops.Read) = HeldKnown text left × (after ≡ before)
 TooLongOutcome goes_on n text rest left before after (Err stops.Write) =
-    PassedKnown text rest × (goes_on ≡ true) × AppendsSome before after (fault_line faults.TooLong)
+    PassedKnown text rest × (goes_on ≡ true) × AppendsSome before after (fault_answer faults.TooLong).text
 TooLongOutcome goes_on n text rest left before after (Err (stops.Open fault)) = ⊥
 TooLongOutcome goes_on n text rest left before after (Err stops.Memory) = after ≡ before
 TooLongOutcome goes_on n text rest left before after (Err stops.Stray) = ⊥
@@ -71,12 +72,13 @@ TooLongOutcome goes_on n text rest left before after (Err stops.Stray) = ⊥
 abbrev pub LineOutcome : {S : Type 0} → Bool → ℕ → Machine S → S → S → Said → (before after : Option (List ℕ)) →
     Result Tone RunFault → Type 0
 LineOutcome goes_on n serves s new says before after (Ok tone) =
-    (text : List ℕ) × (Answers goes_on serves s says text new × (tone ≡ tone_of text) × Appends before after text)
+    (answer : Answer) × (Answers goes_on serves s says answer new × (tone ≡ answer.tone) ×
+    Appends before after answer.text)
 LineOutcome goes_on n serves s new says before after (Err (stops.Line m fault)) =
     (m ≡ n) × (says ≡ Err fault) × (goes_on ≡ false) × (new ≡ s) × (after ≡ before)
 LineOutcome goes_on n serves s new says before after (Err stops.Read) = ⊥
 LineOutcome goes_on n serves s new says before after (Err stops.Write) =
-    (text : List ℕ) × (Answers goes_on serves s says text new × AppendsSome before after text)
+    (answer : Answer) × (Answers goes_on serves s says answer new × AppendsSome before after answer.text)
 LineOutcome goes_on n serves s new says before after (Err (stops.Open fault)) = ⊥
 LineOutcome goes_on n serves s new says before after (Err stops.Memory) = after ≡ before
 LineOutcome goes_on n serves s new says before after (Err stops.Stray) = after ≡ before
@@ -92,8 +94,8 @@ TakenKnown (Some text) line (Some rest) = NextLine text line rest
 abbrev pub NextOutcome : {S : Type 0} → Bool → ℕ → Machine S → S → S → (text rest left : Option (List ℕ)) →
     (before after : Option (List ℕ)) → Result (Option Tone) RunFault → Type 0
 NextOutcome goes_on n serves s new text rest left before after (Ok (Some tone)) =
-    (line answer : List ℕ) × (TakenKnown text line rest × Answers goes_on serves s (said line) answer new ×
-    (tone ≡ tone_of answer) × Appends before after answer)
+    (line : List ℕ) × (answer : Answer) × (TakenKnown text line rest × Answers goes_on serves s (said line) answer new ×
+    (tone ≡ answer.tone) × Appends before after answer.text)
 NextOutcome goes_on n serves s new text rest left before after (Ok None) =
     IsEmptyKnown text × (new ≡ s) × (after ≡ before)
 NextOutcome goes_on n serves s new text rest left before after (Err (stops.Line m fault)) =
@@ -101,8 +103,8 @@ NextOutcome goes_on n serves s new text rest left before after (Err (stops.Line 
 NextOutcome goes_on n serves s new text rest left before after (Err stops.Read) =
     HeldKnown text left × (new ≡ s) × (after ≡ before)
 NextOutcome goes_on n serves s new text rest left before after (Err stops.Write) =
-    (line answer : List ℕ) × (NextKnown text line × Answers goes_on serves s (said line) answer new ×
-    AppendsSome before after answer)
+    (line : List ℕ) × (answer : Answer) × (NextKnown text line × Answers goes_on serves s (said line) answer new ×
+    AppendsSome before after answer.text)
 NextOutcome goes_on n serves s new text rest left before after (Err (stops.Open fault)) = ⊥
 NextOutcome goes_on n serves s new text rest left before after (Err stops.Memory) = after ≡ before
 NextOutcome goes_on n serves s new text rest left before after (Err stops.Stray) = after ≡ before

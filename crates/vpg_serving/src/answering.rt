@@ -1,42 +1,24 @@
 //! Reads the next line of a script, carries it out and answers it.
-ghost use Rattle.std.specs.Prelude.{◌≡◌, ℕ, ◌≤◌, ◌<◌, ◌⊎◌, List, OnOk, OnErr, OnSome, IfOk, IfErr, IsErrOf, Ok, Err, true, false, vec_len};
+ghost use Rattle.std.specs.Prelude.{◌≡◌, ◌++◌, ◌∷◌, [], codes, ℕ, ◌≤◌, ◌<◌, ◌⊎◌, List, OnOk, OnErr, OnSome, IfOk, IfErr, IsErrOf, Ok, Err, true, false, vec_len};
 ghost use Rattle.std.specs.Io.KnownBytes.{Appends, prepend_known};
 ghost use Rattle.vpg_script.specs.Devices.{AppendsSome};
 ghost use Rattle.vpg_script.specs.Script.{said};
 ghost use Rattle.vpg_script.specs.Lines.{PassedKnown, HeldKnown, lines_left};
-ghost use Rattle.vpg_serving.specs.Manners.{fault_line, tone_of};
+ghost use Rattle.vpg_serving.specs.Manners.{fault_answer};
 ghost use Rattle.vpg_serving.specs.Results.{UnlessReaderFails, UnlessWriterFails, FaultOutcome, LineOutcome, TooLongOutcome, NextOutcome};
 ghost use Rattle.vpg_script.specs.declared.command.LineFault.{LineFault as Fault};
 
 use crate::fault::RunFault;
 use crate::serving::Server;
+use crate::tone::Tone;
 use std::alloc::Global;
 use std::sync::Wait;
 use std::thread::Threads;
 use vpg_script::{LineFault, Next, ReadFault, Sink, Source, next_line, pass_line, read_line};
 
-/// The beginning of an answer.
-#[derive(Clone, Copy)]
-pub struct Tone {
-    /// `refused `.
-    pub refused: bool,
-    /// `fails`.
-    pub fails: bool,
-}
-
-/// Returns the tone of an answer.
-fn tone_of(text: &[u8]) -> Tone
-    ensures { result ≡ tone_of text.now }
-{
-    Tone {
-        refused: text.starts_with(b"refused "),
-        fails: text.starts_with(b"fails"),
-    }
-}
-
-/// Returns the answer to a line with a fault, if the script goes on.
-fn fault_line(fault: LineFault) -> &'static [u8]
-    ensures { result.now ≡ fault_line fault }
+/// Returns the text of the answer to a line with a fault, if the script goes on.
+fn fault_text(fault: LineFault) -> &'static [u8]
+    ensures { result.now ≡ (fault_answer fault).text }
 {
     match fault {
         LineFault::Word => b"refused Word\n",
@@ -45,17 +27,16 @@ fn fault_line(fault: LineFault) -> &'static [u8]
     }
 }
 
-/// Writes an answer.
-fn put_answer<W: Sink>(text: &[u8], writer: &mut W) -> Result<Tone, RunFault>
+/// Writes the text of an answer.
+fn put_text<W: Sink>(text: &[u8], writer: &mut W) -> Result<(), RunFault>
     ensures ok { OnOk result (Appends (W.contents writer.old) (W.contents writer.new) text.now) }
     ensures same { OnOk result (W.has_failed writer.new ≡ W.has_failed writer.old) }
-    ensures tone { IfOk result (λ tone. tone ≡ tone_of text.now) }
     ensures err { IfErr result (λ stop. stop ≡ RunFault.Write) }
     ensures some { OnErr result (AppendsSome (W.contents writer.old) (W.contents writer.new) text.now) }
     ensures failed { OnErr result (W.has_failed writer.new ≡ true) }
 {
     match writer.put(text) {
-        Ok(()) => Ok(tone_of(text)),
+        Ok(()) => Ok(()),
         Err(_) => Err(RunFault::Write),
     }
 }
@@ -77,7 +58,8 @@ fn answer_fault<W: Sink>(
             fault,
         });
     }
-    put_answer(fault_line(fault), writer)
+    put_text(fault_text(fault), writer)?;
+    Ok(Tone::Refused)
 }
 
 /// Carries a line out, and writes its answer.
@@ -99,19 +81,15 @@ fn answer_line<T: Threads + Wait + Sync, V: Server, W: Sink>(
     ensures writable { UnlessWriterFails result (W.has_failed writer.new ≡ W.has_failed writer.old) }
 {
     let request = match read_line(alloc, line) {
-        Ok(None) => {
-            return Ok(Tone {
-                refused: false,
-                fails: false,
-            });
-        }
+        Ok(None) => return Ok(Tone::Done),
         Ok(Some(request)) => request,
         Err(ReadFault::Line(fault)) => return answer_fault(goes_on, number, fault, writer),
         Err(ReadFault::Memory) => return Err(RunFault::Memory),
     };
     let mut text = Vec::new(alloc);
-    server.serve(rt, alloc, lifters, &request, &mut text)?;
-    put_answer(&text, writer)
+    let tone = server.serve(rt, alloc, lifters, &request, &mut text)?;
+    put_text(&text, writer)?;
+    Ok(tone)
 }
 
 /// Answers a line that is too long, if the script goes on, and reads it to its end before.
@@ -144,7 +122,8 @@ fn answer_too_long<R: Source, W: Sink>(
         });
     }
     pass_line(held, reads, reader)?;
-    put_answer(fault_line(LineFault::TooLong), writer)
+    put_text(fault_text(LineFault::TooLong), writer)?;
+    Ok(Tone::Refused)
 }
 
 /// Reads the next line, of this number, carries it out and writes its answer. Returns the answer's tone, or `None` at

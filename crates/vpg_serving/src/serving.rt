@@ -1,13 +1,15 @@
 //! A script is read and answered line by line.
-ghost use Rattle.std.specs.Prelude.{◌≡◌, ℕ, ◌≤◌, List, ◌++◌, OnOk, IsErrOf, ◌⊎◌, ◌&&◌, ◌||◌, true};
+ghost use Rattle.std.specs.Prelude.{◌≡◌, ℕ, ◌≤◌, OnOk, IfOk, IsErrOf, ◌⊎◌, ◌&&◌, ◌||◌, true};
 ghost use Rattle.std.specs.Thread.{IsSync};
 ghost use Rattle.vpg_script.specs.View.{request_shown};
+ghost use Rattle.vpg_serving.specs.Answer.{Gives, is_failed, is_refused};
 ghost use Rattle.vpg_serving.specs.Results.{UnlessReaderFails, UnlessWriterFails, ending_of};
 ghost use Rattle.vpg_serving.specs.Output.{Machine, ScriptOutcome};
 ghost use Rattle.vpg_serving.specs.Manners.{MannerOutcome};
 
-use crate::answering::{Tone, answer_next};
+use crate::answering::answer_next;
 use crate::fault::RunFault;
+use crate::tone::Tone;
 use std::alloc::{AllocError, Global};
 use std::sync::Wait;
 use std::thread::Threads;
@@ -49,7 +51,8 @@ pub trait Server {
 
     ghost state: { Self → State };
 
-    /// Carries a request out, with this many lifters for sweeps, and appends its answer.
+    /// Carries a request out, with this many lifters for sweeps. Appends the text of its answer, and returns the
+    /// answer's tone.
     fn serve<T: Threads + Wait + Sync>(
         &mut self,
         rt: &T,
@@ -57,13 +60,13 @@ pub trait Server {
         lifters: u32,
         request: &Request<'_>,
         out: &mut Vec<u8>,
-    ) -> Result<(), ServeFault>
+    ) -> Result<Tone, ServeFault>
         requires sync { IsSync T.row }
         requires lifters { (1 ≤ lifters) × (lifters ≤ 64) }
-        ensures answer { OnOk result
-            ((text : List ℕ) ×
-            (answering (scene self.old) lifters (state self.old) (request_shown request.now) text (state self.new) ×
-            (out.new.items ≡ out.old.items ++ text))) }
+        ensures answer { IfOk result
+            (λ tone. Gives
+            (λ answer. answering (scene self.old) lifters (state self.old) (request_shown request.now) answer
+            (state self.new)) tone out.old.items out.new.items) }
         ensures scene { OnOk result (scene self.new ≡ scene self.old) };
 }
 
@@ -90,16 +93,16 @@ pub enum Ending {
 
 /// Whether an answer ends the script.
 fn is_last(tone: Tone, manner: Manner) -> bool
-    ensures { result ≡ (tone.refused && manner.is_strict) }
+    ensures { result ≡ (is_refused tone && manner.is_strict) }
 {
-    tone.refused && manner.is_strict
+    tone == Tone::Refused && manner.is_strict
 }
 
 /// Whether an answer fails, or one before it did.
 fn has_failed(failed: bool, tone: Tone) -> bool
-    ensures { result ≡ (failed || tone.fails) }
+    ensures { result ≡ (failed || is_failed tone) }
 {
-    failed || tone.fails
+    failed || tone == Tone::Failed
 }
 
 /// Returns the ending of a script with all its lines answered, by whether an assertion failed.
@@ -115,10 +118,10 @@ fn ending_of(failed: bool) -> Ending
 
 /// Reads a script, and answers its lines in order, each before the next is read.
 ///
-/// A strict script ends at the first answer that begins with `refused `. Else it ends after its last line, and `Failed`
-/// says that an answer began with `fails`, as that of an assertion that fails does. `Line` comes only if a script ends
-/// at a line with a fault, and `Read` and `Write` as the script meets them; `Memory` only if a growth was refused, and
-/// `Stray` if the server answers so.
+/// A strict script ends at the first refusal: the first answer with the tone `Refused`. Else it ends after its last
+/// line, and `Failed` says that some answer had the tone `Failed`, as that of an assertion that fails has. `Line` comes
+/// only if a script ends at a line with a fault, and `Read` and `Write` as the script meets them; `Memory` only if a
+/// growth was refused, and `Stray` if the server answers so.
 pub fn answer_script_as<T: Threads + Wait + Sync, V: Server, R: Source, W: Sink>(
     rt: &T,
     alloc: Global,

@@ -10,8 +10,9 @@ use Rattle.vpg_measure.specs.Games.{GamesView, ArePageGames}
 use Rattle.vpg_measure.specs.TwoGames.{top_for}
 use Rattle.vpg_script.specs.Script as script
 use Rattle.vpg_trail.specs.Page.{Hopeful, Dual, Decision, literal_of}
+use Rattle.vpg_serving.specs.Answer.{Answer}
 use Rattle.vpg_texts.specs.Scene.{AreSettledTables, IsCounted, scene_of}
-use Rattle.vpg_texts.specs.Sights.{IsAsserted, assertion_text}
+use Rattle.vpg_texts.specs.Sights.{IsAsserted, assertion_answer}
 use Rattle.vpg_texts.specs.Text.{count_text}
 use Rattle.vpg_texts.proofs.Settled.{settled_tells}
 use Rattle.vpg_texts.proofs.Shown.{tells}
@@ -36,15 +37,15 @@ counts game diagram decisions games are hopeful dual text hopeful_len dual_len h
 )
 
 pub asserts : (game : NamedGame) (diagram : NamedDiagram) (decisions : List Decision) (games : GamesView) → ArePageGames game diagram (map literal_of decisions) games →
-    (hopeful dual text : List ℕ) → length hopeful ≡ length game.vertices → length dual ≡ length game.vertices →
+    (hopeful dual : List ℕ) (answer : Answer) → length hopeful ≡ length game.vertices → length dual ≡ length game.vertices →
     All (λ n. n ≤ top_for Hopeful (graph_of game)) hopeful → All (λ n. n ≤ top_for Dual (graph_of game)) dual → (assertion : script.Assertion) →
     (full settled : Bool) → Decides full (AreAllKnown (length games.known) games.known) → Decides settled (AreSettledTables games hopeful dual) →
-    text ≡ assertion_text (top_of games.hopeful_levels) (top_of games.dual_levels) (vertex_ids game.vertices) hopeful dual assertion full settled → IsAsserted (scene_of game diagram) assertion decisions hopeful dual text
-asserts game diagram decisions games are hopeful dual text hopeful_len dual_len hopeful_within dual_within assertion full settled full_is settled_is text_is = (
+    answer ≡ assertion_answer (top_of games.hopeful_levels) (top_of games.dual_levels) (vertex_ids game.vertices) hopeful dual assertion full settled → IsAsserted (scene_of game diagram) assertion decisions hopeful dual answer
+asserts game diagram decisions games are hopeful dual answer hopeful_len dual_len hopeful_within dual_within assertion full settled full_is settled_is answer_is = (
   games.known,
   (
     are.known,
-    tells game diagram (map literal_of decisions) games are (λ first second is_full is_settled. assertion_text first second (vertex_ids game.vertices) hopeful dual assertion is_full is_settled) full settled hopeful dual text full_is
-        (settled_tells game diagram (map literal_of decisions) games are hopeful dual hopeful_len dual_len hopeful_within dual_within settled settled_is) text_is,
+    tells game diagram (map literal_of decisions) games are (λ first second is_full is_settled. assertion_answer first second (vertex_ids game.vertices) hopeful dual assertion is_full is_settled) full settled hopeful dual answer full_is
+        (settled_tells game diagram (map literal_of decisions) games are hopeful dual hopeful_len dual_len hopeful_within dual_within settled settled_is) answer_is,
   ),
 )

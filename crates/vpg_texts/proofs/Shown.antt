@@ -43,8 +43,8 @@ pub written : (text after before body : List ℕ) → text ≡ after → after �
 written text after before body same more empty = same ∙ more ∙ ap (λ (bytes : List ℕ). bytes ++ body) empty
 
 -- what is written over the games of a page, into an empty buffer
-pub tells : (game : NamedGame) (diagram : NamedDiagram) (choices : List Literal) (games : GamesView) → ArePageGames game diagram choices games →
-    (text_of : ℕ → ℕ → Bool → Bool → List ℕ) (full settled : Bool) (hopeful dual text : List ℕ) →
+pub tells : {A : Type 0} (game : NamedGame) (diagram : NamedDiagram) (choices : List Literal) (games : GamesView) → ArePageGames game diagram choices games →
+    (text_of : ℕ → ℕ → Bool → Bool → A) (full settled : Bool) (hopeful dual : List ℕ) (text : A) →
     Decides full (AreAllKnown (length games.known) games.known) → Decides settled (AreProgressTables games.known (graph_of game) hopeful dual) →
     text ≡ text_of (top_of games.hopeful_levels) (top_of games.dual_levels) full settled →
     TellsUnder (scene_of game diagram) games.known hopeful dual (text_of (top_for Hopeful (graph_of game)) (top_for Dual (graph_of game))) text

@@ -53,10 +53,10 @@ abbrev pub AreProgressTables : List Tri → GuardedGame Formula → (hopeful dua
 AreProgressTables known game hopeful dual =
     (table : Which) → IsProgressOf (kleene known) table game (table_in hopeful dual table)
 
--- Under what is known, the text is made of whether each feature is known, and of whether both tables are progress
--- tables.
-pub record TellsUnder (scene : Scene) (known : List Tri) (hopeful dual : List ℕ)
-    (text_of : (full settled : Bool) → List ℕ) (text : List ℕ) : Type 0 where
+-- Under what is known, the text, or the answer, is made of whether each feature is known, and of whether both tables
+-- are progress tables.
+pub record TellsUnder {A : Type 0} (scene : Scene) (known : List Tri) (hopeful dual : List ℕ)
+    (text_of : (full settled : Bool) → A) (text : A) : Type 0 where
   pub full : Bool
   pub settled : Bool
   pub full_is : Decides full (AreAllKnown (length known) known)

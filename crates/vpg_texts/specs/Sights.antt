@@ -5,6 +5,7 @@ use Rattle.vpg_script.specs.declared.command.Claim.{Claim}
 use Rattle.vpg_script.specs.declared.command.Claim.TheVariants as claims
 use Rattle.vpg_script.specs.Script as script
 use Rattle.vpg_measure.specs.TwoGames.{top_for}
+use Rattle.vpg_serving.specs.Answer.{Answer, IsDone, done, failed, refused}
 use Rattle.vpg_trail.specs.Page.{Hopeful, Dual, Decision, Entry}
 use Rattle.vpg_texts.specs.declared.showing.plans.PlanFault.TheVariants.{NotFull, NotSettled}
 use Rattle.vpg_texts.specs.Picture.{IsDrawn}
@@ -81,62 +82,73 @@ failing_text settled hopeless sure claim = if holds settled hopeless sure claim 
 abbrev pub open_text : Bool → List ℕ
 open_text none = if none then codes "\n" else codes " unsettled\n"
 
+-- what is asserted holds
+abbrev pub holding : Answer
+holding = done (codes "holds\n")
+
 -- that all hold, or those that fail
-abbrev pub verdicts_text : (settled hopeless sure : Bool) → List Claim → List ℕ
-verdicts_text settled hopeless sure asserted =
-    if list_all (holds settled hopeless sure) asserted then codes "holds\n"
-    else codes "fails" ++ flat_map (failing_text settled hopeless sure) asserted
-    ++ open_text (list_all (λ claim. not (is_open settled hopeless sure claim)) asserted)
+abbrev pub verdicts_answer : (settled hopeless sure : Bool) → List Claim → Answer
+verdicts_answer settled hopeless sure asserted =
+    if list_all (holds settled hopeless sure) asserted then holding
+    else failed (codes "fails" ++ flat_map (failing_text settled hopeless sure) asserted
+    ++ open_text (list_all (λ claim. not (is_open settled hopeless sure claim)) asserted))
 
--- the claims about the vertex at a place
-abbrev pub verdicts_at : ℕ → ℕ → (hopeful dual : List ℕ) → Bool → List Claim → Option ℕ → List ℕ
-verdicts_at hopeful_top dual_top hopeful dual settled asserted None = []
+-- the claims about the vertex at a place; a vertex that the game lacks is asserted nothing of
+abbrev pub verdicts_at : ℕ → ℕ → (hopeful dual : List ℕ) → Bool → List Claim → Option ℕ → Answer
+verdicts_at hopeful_top dual_top hopeful dual settled asserted None = done []
 verdicts_at hopeful_top dual_top hopeful dual settled asserted (Some v) =
-    verdicts_text settled (slice_index hopeful v == hopeful_top) (slice_index dual v == dual_top) asserted
+    verdicts_answer settled (slice_index hopeful v == hopeful_top) (slice_index dual v == dual_top) asserted
 
-abbrev pub full_text : Bool → List ℕ
-full_text full = if full then codes "holds\n" else codes "fails full\n"
+abbrev pub full_answer : Bool → Answer
+full_answer full = if full then holding else failed (codes "fails full\n")
 
-abbrev pub settled_text : Bool → List ℕ
-settled_text settled = if settled then codes "holds\n" else codes "fails settled\n"
+abbrev pub settled_answer : Bool → Answer
+settled_answer settled = if settled then holding else failed (codes "fails settled\n")
 
-abbrev pub assertion_text : ℕ → ℕ → List ℕ → (hopeful dual : List ℕ) → script.Assertion → (full settled : Bool) →
-    List ℕ
-assertion_text hopeful_top dual_top identifiers hopeful dual (script.Verdicts vertex asserted) full settled =
+abbrev pub assertion_answer : ℕ → ℕ → List ℕ → (hopeful dual : List ℕ) → script.Assertion → (full settled : Bool) →
+    Answer
+assertion_answer hopeful_top dual_top identifiers hopeful dual (script.Verdicts vertex asserted) full settled =
     verdicts_at hopeful_top dual_top hopeful dual settled asserted (vertex_of identifiers vertex)
-assertion_text hopeful_top dual_top identifiers hopeful dual script.Full full settled = full_text full
-assertion_text hopeful_top dual_top identifiers hopeful dual script.Settled full settled = settled_text settled
+assertion_answer hopeful_top dual_top identifiers hopeful dual script.Full full settled = full_answer full
+assertion_answer hopeful_top dual_top identifiers hopeful dual script.Settled full settled = settled_answer settled
 
 -- the answer to an assertion by these tables
-abbrev pub asserted_lines : Scene → (hopeful dual : List ℕ) → script.Assertion → (full settled : Bool) → List ℕ
-asserted_lines scene hopeful dual assertion full settled =
-    assertion_text (top_for Hopeful scene.game) (top_for Dual scene.game) scene.identifiers hopeful dual assertion full
-    settled
+abbrev pub asserted_answer : Scene → (hopeful dual : List ℕ) → script.Assertion → (full settled : Bool) → Answer
+asserted_answer scene hopeful dual assertion full settled =
+    assertion_answer (top_for Hopeful scene.game) (top_for Dual scene.game) scene.identifiers hopeful dual assertion
+    full settled
 
--- The text answers an assertion, by these tables, under what the decisions make known.
-abbrev pub IsAsserted : Scene → script.Assertion → List Decision → (hopeful dual text : List ℕ) → Type 0
-IsAsserted scene assertion decisions hopeful dual text =
+-- It answers an assertion, by these tables, under what the decisions make known.
+abbrev pub IsAsserted : Scene → script.Assertion → List Decision → (hopeful dual : List ℕ) → Answer → Type 0
+IsAsserted scene assertion decisions hopeful dual answer =
     UnderKnown scene decisions
-    (λ known. TellsUnder scene known hopeful dual (asserted_lines scene hopeful dual assertion) text)
+    (λ known. TellsUnder scene known hopeful dual (asserted_answer scene hopeful dual assertion) answer)
 
 -- ---- all that is looked at
 
 -- a plan, or why there is none
-abbrev pub IsPlanAnswer : Scene → List Decision → (hopeful dual text : List ℕ) → Type 0
-IsPlanAnswer scene decisions hopeful dual text =
-    IsPlanned scene decisions hopeful dual text
-    ⊎ (IsPlanFault scene decisions hopeful dual NotFull × (text ≡ codes "refused NotFull\n"))
-    ⊎ (IsPlanFault scene decisions hopeful dual NotSettled × (text ≡ codes "refused NotSettled\n"))
+abbrev pub IsPlanAnswer : Scene → List Decision → (hopeful dual : List ℕ) → Answer → Type 0
+IsPlanAnswer scene decisions hopeful dual answer =
+    IsDone (IsPlanned scene decisions hopeful dual) answer
+    ⊎ (IsPlanFault scene decisions hopeful dual NotFull × (answer ≡ refused (codes "NotFull")))
+    ⊎ (IsPlanFault scene decisions hopeful dual NotSettled × (answer ≡ refused (codes "NotSettled")))
 
--- The text is the answer to a lookup on a page with these entries, decisions and tables.
-abbrev pub IsSeen : Scene → script.Lookup → List Entry → List Decision → (hopeful dual text : List ℕ) → Type 0
-IsSeen scene script.Show entries decisions hopeful dual text = IsShown scene decisions hopeful dual text
-IsSeen scene (script.Vertices vertices) entries decisions hopeful dual text =
+-- The text is that of a lookup on a page with these entries, decisions and tables. (An assertion and a plan have
+-- answers of other tones too.)
+abbrev pub Shows : Scene → script.Lookup → List Entry → List Decision → (hopeful dual text : List ℕ) → Type 0
+Shows scene script.Show entries decisions hopeful dual text = IsShown scene decisions hopeful dual text
+Shows scene (script.Vertices vertices) entries decisions hopeful dual text =
     text ≡ named_lines (top_for Hopeful scene.game) (top_for Dual scene.game) scene.identifiers hopeful dual vertices
-IsSeen scene script.Trail entries decisions hopeful dual text = text ≡ trail_text scene.names scene.identifiers entries
-IsSeen scene script.Products entries decisions hopeful dual text = TellsKnown scene decisions text
-IsSeen scene script.Plan entries decisions hopeful dual text = IsPlanAnswer scene decisions hopeful dual text
-IsSeen scene script.Count entries decisions hopeful dual text = IsCounted scene decisions hopeful dual text
-IsSeen scene script.Draw entries decisions hopeful dual text = IsDrawn scene decisions hopeful dual text
-IsSeen scene (script.Assert assertion) entries decisions hopeful dual text =
-    IsAsserted scene assertion decisions hopeful dual text
+Shows scene script.Trail entries decisions hopeful dual text = text ≡ trail_text scene.names scene.identifiers entries
+Shows scene script.Products entries decisions hopeful dual text = TellsKnown scene decisions text
+Shows scene script.Count entries decisions hopeful dual text = IsCounted scene decisions hopeful dual text
+Shows scene script.Draw entries decisions hopeful dual text = IsDrawn scene decisions hopeful dual text
+Shows scene _ entries decisions hopeful dual text = ⊥
+
+-- It is the answer to a lookup on a page with these entries, decisions and tables.
+abbrev pub IsSeen : Scene → script.Lookup → List Entry → List Decision → (hopeful dual : List ℕ) → Answer → Type 0
+IsSeen scene script.Plan entries decisions hopeful dual answer = IsPlanAnswer scene decisions hopeful dual answer
+IsSeen scene (script.Assert assertion) entries decisions hopeful dual answer =
+    IsAsserted scene assertion decisions hopeful dual answer
+IsSeen scene lookup entries decisions hopeful dual answer =
+    IsDone (Shows scene lookup entries decisions hopeful dual) answer

@@ -1,16 +1,18 @@
 //! The texts of some vertices of a page, and of assertions about it.
-ghost use Rattle.std.specs.Prelude.{◌≡◌, ◌==◌, ◌++◌, ◌<◌, IfSome, Some, flat_map, length, map, not, position, true, OnOk};
+ghost use Rattle.std.specs.Prelude.{◌≡◌, ◌==◌, ◌++◌, ◌<◌, IfSome, Some, flat_map, length, map, not, position, true, IfOk, OnOk};
 ghost use Rattle.std.specs.List.{list_all};
 ghost use Rattle.vpg_game.specs.Game.{vertex_ids};
 ghost use Rattle.vpg_game.specs.Levels.{top_of};
 ghost use Rattle.vpg_script.specs.View.{assertion_shown, lookup_shown, vertex_shown};
-ghost use Rattle.vpg_texts.specs.Sights.{assertion_text, claim_text, failing_text, full_text, has_asserted, has_vertices, holds, is_open, is_vertex, named_lines, open_text, settled_text, verdicts_text, vertex_of};
+ghost use Rattle.vpg_serving.specs.Answer.{IsGiven, failed};
+ghost use Rattle.vpg_texts.specs.Sights.{assertion_answer, claim_text, failing_text, full_answer, has_asserted, has_vertices, holding, holds, is_open, is_vertex, named_lines, open_text, settled_answer, verdicts_answer, vertex_of};
 
 use crate::text;
 use std::alloc::AllocError;
 use vpg_game::GuardedGame;
 use vpg_measure::{PageGames, Table};
 use vpg_script::{Assertion, Claim, Lookup, Vertex};
+use vpg_serving::Tone;
 use vpg_verdict::Which;
 
 /// Returns the place of the vertex of an identifier.
@@ -179,6 +181,22 @@ fn none_is_open(claims: &[Claim], settled: bool, hopeless: bool, sure: bool) -> 
     claims.iter().all(|c| !is_open(*c, settled, hopeless, sure))
 }
 
+/// Appends that what is asserted holds.
+fn holding(out: &mut Vec<u8>) -> Result<Tone, AllocError>
+    ensures { IfOk result (λ tone. IsGiven holding tone out.old.items out.new.items) }
+{
+    out.extend_from_slice(b"holds\n")?;
+    Ok(Tone::Done)
+}
+
+/// Appends that what is asserted doesn't hold.
+fn fails(text: &[u8], out: &mut Vec<u8>) -> Result<Tone, AllocError>
+    ensures { IfOk result (λ tone. IsGiven (failed text.now) tone out.old.items out.new.items) }
+{
+    out.extend_from_slice(text)?;
+    Ok(Tone::Failed)
+}
+
 /// Appends whether all claims are right, or those that are not.
 fn verdicts(
     settled: bool,
@@ -186,38 +204,40 @@ fn verdicts(
     sure: bool,
     claims: &[Claim],
     out: &mut Vec<u8>,
-) -> Result<(), AllocError>
-    ensures { OnOk result (out.new.items ≡ out.old.items ++ verdicts_text settled hopeless sure claims.now) }
+) -> Result<Tone, AllocError>
+    ensures { IfOk result (λ tone. IsGiven (verdicts_answer settled hopeless sure claims.now) tone
+        out.old.items out.new.items) }
 {
     if all_hold(claims, settled, hopeless, sure) {
-        return out.extend_from_slice(b"holds\n");
+        return holding(out);
     }
     out.extend_from_slice(b"fails")?;
     failing(settled, hopeless, sure, claims, out)?;
-    open_end(none_is_open(claims, settled, hopeless, sure), out)
+    open_end(none_is_open(claims, settled, hopeless, sure), out)?;
+    Ok(Tone::Failed)
 }
 
-fn full_line(full: bool, out: &mut Vec<u8>) -> Result<(), AllocError>
-    ensures { OnOk result (out.new.items ≡ out.old.items ++ full_text full) }
+fn full_line(full: bool, out: &mut Vec<u8>) -> Result<Tone, AllocError>
+    ensures { IfOk result (λ tone. IsGiven (full_answer full) tone out.old.items out.new.items) }
 {
     if full {
-        out.extend_from_slice(b"holds\n")
+        holding(out)
     } else {
-        out.extend_from_slice(b"fails full\n")
+        fails(b"fails full\n", out)
     }
 }
 
-fn settled_line(settled: bool, out: &mut Vec<u8>) -> Result<(), AllocError>
-    ensures { OnOk result (out.new.items ≡ out.old.items ++ settled_text settled) }
+fn settled_line(settled: bool, out: &mut Vec<u8>) -> Result<Tone, AllocError>
+    ensures { IfOk result (λ tone. IsGiven (settled_answer settled) tone out.old.items out.new.items) }
 {
     if settled {
-        out.extend_from_slice(b"holds\n")
+        holding(out)
     } else {
-        out.extend_from_slice(b"fails settled\n")
+        fails(b"fails settled\n", out)
     }
 }
 
-/// Appends the answer to an assertion.
+/// Appends the answer to an assertion, and returns its tone.
 pub(crate) fn assertion(
     games: &PageGames,
     game: &GuardedGame,
@@ -227,13 +247,14 @@ pub(crate) fn assertion(
     full: bool,
     settled: bool,
     out: &mut Vec<u8>,
-) -> Result<(), AllocError>
+) -> Result<Tone, AllocError>
     requires vertices { has_asserted (vertex_ids game.now.vertices) (assertion_shown asserted.now) ≡ true }
     requires hopeful { length hopeful.now ≡ length game.now.vertices }
     requires dual { length dual.now ≡ length game.now.vertices }
-    ensures { OnOk result (out.new.items ≡ out.old.items
-        ++ assertion_text (top_of games.now.hopeful_levels) (top_of games.now.dual_levels)
-        (vertex_ids game.now.vertices) hopeful.now dual.now (assertion_shown asserted.now) full settled) }
+    ensures { IfOk result (λ tone. IsGiven
+        (assertion_answer (top_of games.now.hopeful_levels) (top_of games.now.dual_levels)
+        (vertex_ids game.now.vertices) hopeful.now dual.now (assertion_shown asserted.now) full settled) tone
+        out.old.items out.new.items) }
 {
     match asserted {
         Assertion::Verdicts(vertex, claims) => {

@@ -41,7 +41,7 @@ const BOTH: Manner = Manner {
     goes_on: true,
 };
 
-static ROWS: [Row; 22] = [
+static ROWS: [Row; 25] = [
     Row {
         manner: PLAIN,
         script: "",
@@ -112,6 +112,25 @@ static ROWS: [Row; 22] = [
         script: "assert full / assert 9 sure / show",
         answers: "fails full / refused NoVertex",
         ended: Ok(Ending::Refused { line: 2 }),
+    },
+    // Refusals that come with the text of a page, and with the answer to a question.
+    Row {
+        manner: STRICT,
+        script: "plan / exclude f",
+        answers: "refused NotFull",
+        ended: Ok(Ending::Refused { line: 1 }),
+    },
+    Row {
+        manner: STRICT,
+        script: "why f / exclude f",
+        answers: "refused NotKnown",
+        ended: Ok(Ending::Refused { line: 1 }),
+    },
+    Row {
+        manner: STRICT,
+        script: "why +f / exclude f",
+        answers: "refused NoConflict",
+        ended: Ok(Ending::Refused { line: 1 }),
     },
     Row {
         manner: STRICT,

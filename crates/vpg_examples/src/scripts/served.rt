@@ -5,7 +5,7 @@ use std::alloc::Global;
 use std::sync::Wait;
 use std::thread::Threads;
 use vpg_script::{Command, Device, LineFault, Request};
-use vpg_serving::{RunFault, ServeFault, Server, answer_script};
+use vpg_serving::{RunFault, ServeFault, Server, Tone, answer_script};
 
 // Refuses commands that need a token or a harvest; it has no desk for the rest.
 #[derive(Drop)]
@@ -33,7 +33,7 @@ impl Server for Refuser {
         _lifters: u32,
         request: &Request<'_>,
         out: &mut Vec<u8>,
-    ) -> Result<(), ServeFault> {
+    ) -> Result<Tone, ServeFault> {
         match &request.command {
             Command::Undo(_) | Command::Redo(_) | Command::Keep(_) | Command::Forget(_) => {
                 out.extend_from_slice(b"refused NoToken\n")?
@@ -42,7 +42,7 @@ impl Server for Refuser {
             Command::Look(_) => return Err(ServeFault::Stray),
             _ => return Err(ServeFault::Memory),
         }
-        Ok(())
+        Ok(Tone::Refused)
     }
 }
 

@@ -1,5 +1,5 @@
 //! The answers to lookups.
-ghost use Rattle.std.specs.Prelude.{◌≡◌, ◌≤◌, ◌++◌, ℕ, List, length, map, All, OnOk, OnErr, true};
+ghost use Rattle.std.specs.Prelude.{◌≡◌, ◌≤◌, ◌++◌, length, map, All, IfOk, OnOk, OnErr, true};
 ghost use Rattle.std.specs.List.{list_all};
 ghost use Rattle.vpg_diagram.specs.FeatureDiagram.{feature_count};
 ghost use Rattle.vpg_game.specs.Game.{graph_of, vertex_ids};
@@ -9,6 +9,7 @@ ghost use Rattle.vpg_measure.specs.TwoGames.{top_for};
 ghost use Rattle.vpg_partial.specs.Known.{literal_of};
 ghost use Rattle.vpg_partial.specs.TableLaws.{AreChoicesOf};
 ghost use Rattle.vpg_script.specs.View.{assertion_shown, lookup_shown, vertex_shown};
+ghost use Rattle.vpg_serving.specs.Answer.{Gives};
 ghost use Rattle.vpg_texts.specs.Scene.{EntryIsWithin, scene_of};
 ghost use Rattle.vpg_texts.specs.Sights.{IsAsserted, IsPlanAnswer, IsSeen, has_asserted, has_vertices, is_vertex, named_lines};
 
@@ -24,6 +25,7 @@ use vpg_diagram::Diagram;
 use vpg_game::GuardedGame;
 use vpg_measure::PageGames;
 use vpg_script::{Assertion, Lookup, Vertex};
+use vpg_serving::{Tone, done};
 use vpg_trail::Page;
 use vpg_verdict::Which;
 
@@ -49,6 +51,16 @@ fn vertices_over(
     out.extend_from_slice(&text)
 }
 
+/// Appends a refusal.
+fn refused(text: &[u8], out: &mut Vec<u8>) -> Result<Tone, AllocError>
+    ensures given { IfOk result
+        (λ tone. (tone ≡ Tone.Refused) × (out.new.items ≡ out.old.items ++ text.now)) }
+    ensures unchanged { OnErr result (out.new.items ≡ out.old.items) }
+{
+    out.extend_from_slice(text)?;
+    Ok(Tone::Refused)
+}
+
 /// Appends a plan, or why there is none.
 fn plan_answer(
     alloc: Global,
@@ -57,7 +69,7 @@ fn plan_answer(
     game: &GuardedGame,
     diagram: &Diagram,
     out: &mut Vec<u8>,
-) -> Result<(), AllocError>
+) -> Result<Tone, AllocError>
     requires features { game.now.features ≡ feature_count diagram.now.lines }
     requires games { ArePageGames game.now diagram.now (map literal_of page.now.decisions) games.now }
     requires named { AreChoicesOf diagram.now.lines (map literal_of page.now.decisions) }
@@ -65,21 +77,21 @@ fn plan_answer(
     requires dual { length page.now.dual ≡ length game.now.vertices }
     requires hopeful_within { All (λ n. n ≤ top_for Which.Hopeful (graph_of game.now)) page.now.hopeful }
     requires dual_within { All (λ n. n ≤ top_for Which.Dual (graph_of game.now)) page.now.dual }
-    ensures planned { OnOk result
-        ((text : List ℕ) ×
-        (IsPlanAnswer (scene_of game.now diagram.now) page.now.decisions page.now.hopeful page.now.dual text ×
-        (out.new.items ≡ out.old.items ++ text))) }
+    ensures planned { IfOk result
+        (λ tone. Gives
+        (IsPlanAnswer (scene_of game.now diagram.now) page.now.decisions page.now.hopeful page.now.dual) tone
+        out.old.items out.new.items) }
     ensures unchanged { OnErr result (out.new.items ≡ out.old.items) }
 {
     match plan_over(alloc, games, page, game, diagram, out) {
-        Ok(()) => Ok(()),
-        Err(PlanFault::NotFull) => out.extend_from_slice(b"refused NotFull\n"),
-        Err(PlanFault::NotSettled) => out.extend_from_slice(b"refused NotSettled\n"),
+        Ok(()) => Ok(Tone::Done),
+        Err(PlanFault::NotFull) => refused(b"refused NotFull\n", out),
+        Err(PlanFault::NotSettled) => refused(b"refused NotSettled\n", out),
         Err(PlanFault::Memory) => Err(AllocError),
     }
 }
 
-/// Appends the answer to an assertion.
+/// Appends the answer to an assertion, and returns its tone.
 fn assertion_over(
     alloc: Global,
     games: &PageGames,
@@ -88,23 +100,23 @@ fn assertion_over(
     diagram: &Diagram,
     assertion: &Assertion<'_>,
     out: &mut Vec<u8>,
-) -> Result<(), AllocError>
+) -> Result<Tone, AllocError>
     requires vertices { has_asserted (vertex_ids game.now.vertices) (assertion_shown assertion.now) ≡ true }
     requires games { ArePageGames game.now diagram.now (map literal_of page.now.decisions) games.now }
     requires hopeful { length page.now.hopeful ≡ length game.now.vertices }
     requires dual { length page.now.dual ≡ length game.now.vertices }
     requires hopeful_within { All (λ n. n ≤ top_for Which.Hopeful (graph_of game.now)) page.now.hopeful }
     requires dual_within { All (λ n. n ≤ top_for Which.Dual (graph_of game.now)) page.now.dual }
-    ensures asserted { OnOk result
-        ((text : List ℕ) ×
+    ensures asserted { IfOk result
+        (λ tone. Gives
         (IsAsserted (scene_of game.now diagram.now) (assertion_shown assertion.now) page.now.decisions
-        page.now.hopeful page.now.dual text × (out.new.items ≡ out.old.items ++ text))) }
+        page.now.hopeful page.now.dual) tone out.old.items out.new.items) }
     ensures unchanged { OnErr result (out.new.items ≡ out.old.items) }
 {
     let full = games.known().is_full();
     let settled = is_settled(games, &page.hopeful, &page.dual);
     let mut text = Vec::new(alloc);
-    sights::assertion(
+    let tone = sights::assertion(
         games,
         game,
         &page.hopeful,
@@ -114,11 +126,12 @@ fn assertion_over(
         settled,
         &mut text,
     )?;
-    out.extend_from_slice(&text)
+    out.extend_from_slice(&text)?;
+    Ok(tone)
 }
 
-/// Appends the answer to a lookup, over the games that the page's decisions leave: no guard is looked at. The game has
-/// the vertices that the lookup names.
+/// Appends the answer to a lookup, and returns its tone. It is over the games that the page's decisions leave: no guard
+/// is looked at. The game has the vertices that the lookup names.
 pub fn look_over(
     alloc: Global,
     games: &PageGames,
@@ -127,7 +140,7 @@ pub fn look_over(
     diagram: &Diagram,
     lookup: &Lookup<'_>,
     out: &mut Vec<u8>,
-) -> Result<(), AllocError>
+) -> Result<Tone, AllocError>
     requires vertices { has_vertices (vertex_ids game.now.vertices) (lookup_shown lookup.now) ≡ true }
     requires features { game.now.features ≡ feature_count diagram.now.lines }
     requires games { ArePageGames game.now diagram.now (map literal_of page.now.decisions) games.now }
@@ -138,20 +151,20 @@ pub fn look_over(
     requires dual { length page.now.dual ≡ length game.now.vertices }
     requires hopeful_within { All (λ n. n ≤ top_for Which.Hopeful (graph_of game.now)) page.now.hopeful }
     requires dual_within { All (λ n. n ≤ top_for Which.Dual (graph_of game.now)) page.now.dual }
-    ensures seen { OnOk result
-        ((text : List ℕ) ×
+    ensures seen { IfOk result
+        (λ tone. Gives
         (IsSeen (scene_of game.now diagram.now) (lookup_shown lookup.now) page.now.entries page.now.decisions
-        page.now.hopeful page.now.dual text × (out.new.items ≡ out.old.items ++ text))) }
+        page.now.hopeful page.now.dual) tone out.old.items out.new.items) }
     ensures unchanged { OnErr result (out.new.items ≡ out.old.items) }
 {
     match lookup {
-        Lookup::Show => show_over(alloc, games, page, game, diagram, out),
-        Lookup::Vertices(vertices) => vertices_over(alloc, games, page, game, vertices, out),
-        Lookup::Trail => trail(alloc, page, game, diagram, out),
-        Lookup::Products => products_over(alloc, games, diagram, out),
+        Lookup::Show => done(show_over(alloc, games, page, game, diagram, out)),
+        Lookup::Vertices(vertices) => done(vertices_over(alloc, games, page, game, vertices, out)),
+        Lookup::Trail => done(trail(alloc, page, game, diagram, out)),
+        Lookup::Products => done(products_over(alloc, games, diagram, out)),
         Lookup::Plan => plan_answer(alloc, games, page, game, diagram, out),
-        Lookup::Count => count_over(alloc, games, page, game, diagram, out),
-        Lookup::Draw => draw_over(alloc, games, page, game, diagram, out),
+        Lookup::Count => done(count_over(alloc, games, page, game, diagram, out)),
+        Lookup::Draw => done(draw_over(alloc, games, page, game, diagram, out)),
         Lookup::Assert(assertion) => {
             assertion_over(alloc, games, page, game, diagram, assertion, out)
         }

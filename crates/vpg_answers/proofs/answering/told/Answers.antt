@@ -1,8 +1,9 @@
 use Rattle.std.proofs.lemmas.Grind.{common_steps}
 use Rattle.std.proofs.Common.{sym, subst, arith}
-use Rattle.vpg_texts.proofs.Shown.{on_ok}
+use Rattle.vpg_serving.specs.Answer.{Answer, Gives}
+use Rattle.vpg_serving.proofs.Given.{done_gives, if_ok}
 use Rattle.vpg_texts.specs.Scene.{scene_of}
-use Rattle.vpg_answers.specs.Answers.{Appends, IsAnswer}
+use Rattle.vpg_answers.specs.Answers.{IsAnswer, Tells, TellsOfPage, TellsOfVertex}
 use Rattle.vpg_answers.specs.declared.query.Query.{Query}
 use Rattle.vpg_answers.specs.declared.query.Query.TheVariants as queries
 use Rattle.vpg_answers.proofs.Telling.{answers}
@@ -11,38 +12,42 @@ use Rattle.vpg_answers.proofs.answering.told.Goals as goal
 pub returns-in-OfVertex : goal.returns-in-OfVertex
 returns-in-OfVertex c =
     let order = c.args.order.now in
-    let before = c.args.out.now.items in
-    let after = c.of_vertex.new.out.items in
-    on_ok c.of_vertex.result _ _
-    (λ told. subst (λ (q : Query). Appends (IsAnswer c.args.behaviour.now (scene_of order.game order.diagram) c.args.limits q order.decisions order.hopeful order.dual) before after) (sym c.in-OfVertex.is)
-    (answers order c.game-order.ensures.order c.args.behaviour.now c.args.limits (queries.OfVertex c.in-OfVertex.question c.in-OfVertex.vertex) before after told)) c.of_vertex.ensures
+    let scene = scene_of order.game order.diagram in
+    let is : (answer : Answer) → Tells c.args.behaviour.now scene c.args.limits (queries.OfVertex c.in-OfVertex.question c.in-OfVertex.vertex) order.decisions order.hopeful order.dual answer → IsAnswer c.args.behaviour.now scene c.args.limits c.args.query order.decisions order.hopeful order.dual answer =
+    λ answer tells. subst (λ (q : Query). IsAnswer c.args.behaviour.now (scene_of order.game order.diagram) c.args.limits q order.decisions order.hopeful order.dual answer) (sym c.in-OfVertex.is)
+    (answers order c.game-order.ensures.order c.args.behaviour.now c.args.limits (queries.OfVertex c.in-OfVertex.question c.in-OfVertex.vertex) answer tells) in
+    done_gives (TellsOfVertex c.args.behaviour.now scene c.args.limits c.in-OfVertex.question c.in-OfVertex.vertex order.decisions order.hopeful order.dual)
+    (IsAnswer c.args.behaviour.now scene c.args.limits c.args.query order.decisions order.hopeful order.dual) is c.of_vertex.result c.done.result c.done.ensures c.args.out.now.items c.of_vertex.new.out.items c.of_vertex.ensures
 
 pub returns-in-OfFeature : goal.returns-in-OfFeature
 returns-in-OfFeature c =
     let order = c.args.order.now in
-    let before = c.args.out.now.items in
-    let after = c.feature.new.out.items in
-    on_ok c.feature.result _ _
-    (λ told. subst (λ (q : Query). Appends (IsAnswer c.args.behaviour.now (scene_of order.game order.diagram) c.args.limits q order.decisions order.hopeful order.dual) before after) (sym c.in-OfFeature.is)
-    (answers order c.game-order.ensures.order c.args.behaviour.now c.args.limits (queries.OfFeature c.in-OfFeature.feature) before after told)) c.feature.ensures
+    let scene = scene_of order.game order.diagram in
+    let is : (answer : Answer) → Tells c.args.behaviour.now scene c.args.limits (queries.OfFeature c.in-OfFeature.feature) order.decisions order.hopeful order.dual answer → IsAnswer c.args.behaviour.now scene c.args.limits c.args.query order.decisions order.hopeful order.dual answer =
+    λ answer tells. subst (λ (q : Query). IsAnswer c.args.behaviour.now (scene_of order.game order.diagram) c.args.limits q order.decisions order.hopeful order.dual answer) (sym c.in-OfFeature.is)
+    (answers order c.game-order.ensures.order c.args.behaviour.now c.args.limits (queries.OfFeature c.in-OfFeature.feature) answer tells) in
+    if_ok c.feature.result (λ tone. Gives (Tells c.args.behaviour.now scene c.args.limits (queries.OfFeature c.in-OfFeature.feature) order.decisions order.hopeful order.dual) tone c.args.out.now.items c.feature.new.out.items) _
+    (λ tone gives. (gives.0, (is gives.0 gives.1.0, gives.1.1))) c.feature.ensures
 
 pub returns-in-OfPage : goal.returns-in-OfPage
 returns-in-OfPage c =
     let order = c.args.order.now in
-    let before = c.args.out.now.items in
-    let after = c.of_page.new.out.items in
-    on_ok c.of_page.result _ _
-    (λ told. subst (λ (q : Query). Appends (IsAnswer c.args.behaviour.now (scene_of order.game order.diagram) c.args.limits q order.decisions order.hopeful order.dual) before after) (sym c.in-OfPage.is)
-    (answers order c.game-order.ensures.order c.args.behaviour.now c.args.limits (queries.OfPage c.in-OfPage.question) before after told)) c.of_page.ensures
+    let scene = scene_of order.game order.diagram in
+    let is : (answer : Answer) → Tells c.args.behaviour.now scene c.args.limits (queries.OfPage c.in-OfPage.question) order.decisions order.hopeful order.dual answer → IsAnswer c.args.behaviour.now scene c.args.limits c.args.query order.decisions order.hopeful order.dual answer =
+    λ answer tells. subst (λ (q : Query). IsAnswer c.args.behaviour.now (scene_of order.game order.diagram) c.args.limits q order.decisions order.hopeful order.dual answer) (sym c.in-OfPage.is)
+    (answers order c.game-order.ensures.order c.args.behaviour.now c.args.limits (queries.OfPage c.in-OfPage.question) answer tells) in
+    done_gives (TellsOfPage scene c.args.limits c.in-OfPage.question order.decisions)
+    (IsAnswer c.args.behaviour.now scene c.args.limits c.args.query order.decisions order.hopeful order.dual) is c.of_page.result c.done-in-OfPage.result c.done-in-OfPage.ensures c.args.out.now.items c.of_page.new.out.items c.of_page.ensures
 
 pub returns-in-OfChoice : goal.returns-in-OfChoice
 returns-in-OfChoice c =
     let order = c.args.order.now in
-    let before = c.args.out.now.items in
-    let after = c.choice.new.out.items in
-    on_ok c.choice.result _ _
-    (λ told. subst (λ (q : Query). Appends (IsAnswer c.args.behaviour.now (scene_of order.game order.diagram) c.args.limits q order.decisions order.hopeful order.dual) before after) (sym c.in-OfChoice.is)
-    (answers order c.game-order.ensures.order c.args.behaviour.now c.args.limits (queries.OfChoice c.in-OfChoice.feature c.in-OfChoice.value) before after told)) c.choice.ensures
+    let scene = scene_of order.game order.diagram in
+    let is : (answer : Answer) → Tells c.args.behaviour.now scene c.args.limits (queries.OfChoice c.in-OfChoice.feature c.in-OfChoice.value) order.decisions order.hopeful order.dual answer → IsAnswer c.args.behaviour.now scene c.args.limits c.args.query order.decisions order.hopeful order.dual answer =
+    λ answer tells. subst (λ (q : Query). IsAnswer c.args.behaviour.now (scene_of order.game order.diagram) c.args.limits q order.decisions order.hopeful order.dual answer) (sym c.in-OfChoice.is)
+    (answers order c.game-order.ensures.order c.args.behaviour.now c.args.limits (queries.OfChoice c.in-OfChoice.feature c.in-OfChoice.value) answer tells) in
+    if_ok c.choice.result (λ tone. Gives (Tells c.args.behaviour.now scene c.args.limits (queries.OfChoice c.in-OfChoice.feature c.in-OfChoice.value) order.decisions order.hopeful order.dual) tone c.args.out.now.items c.choice.new.out.items) _
+    (λ tone gives. (gives.0, (is gives.0 gives.1.0, gives.1.1))) c.choice.ensures
 
 pub of_vertex-requires : goal.of_vertex-requires
 of_vertex-requires c = grind (arith, common_steps)

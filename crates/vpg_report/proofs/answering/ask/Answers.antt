@@ -1,9 +1,10 @@
 use Rattle.std.proofs.Common.{◌∙◌, sym}
 use Rattle.vpg_office.specs.Faults.{never_refused}
 use Rattle.vpg_script.specs.View.{inquiry_shown}
+use Rattle.vpg_serving.proofs.Given.{if_ok}
 use Rattle.vpg_report.specs.Engine.{own_of}
 use Rattle.vpg_report.proofs.Asked.{both_on}
-use Rattle.vpg_report.proofs.Inquired.{ask_answers, full_answers, missing_answers, on_ok, within_order}
+use Rattle.vpg_report.proofs.Inquired.{ask_answers, full_answers, missing_answers, within_order}
 use Rattle.vpg_report.proofs.answering.ask.Goals as goal
 
 pub answer-requires : goal.answer-requires
@@ -13,18 +14,18 @@ answer-requires g c =
 
 pub returns-in-Err : goal.returns-in-Err
 returns-in-Err g c =
-    on_ok c.put_missing.result _ _
-    (missing_answers c.args.behaviour.now c.args.engine.now c.args.session c.game.result.now c.diagram.result.now c.game.ensures c.diagram.ensures (inquiry_shown c.args.inquiry)
+    if_ok c.put_missing.result _ _
+    (λ tone. missing_answers c.args.behaviour.now c.args.engine.now c.args.session c.game.result.now c.diagram.result.now c.game.ensures c.diagram.ensures (inquiry_shown c.args.inquiry)
     (own_of c.in-Err.what) c.args.out.now.items _ c.in-Err.ensures.query) c.put_missing.ensures
 
 pub returns-in-Err-order : goal.returns-in-Err-order
 returns-in-Err-order g c =
-    on_ok c.put_unanswered.result _ _
-    (full_answers c.args.behaviour.now c.args.engine.now c.args.session c.game.result.now c.diagram.result.now c.game.ensures c.diagram.ensures (inquiry_shown c.args.inquiry)
+    if_ok c.put_unanswered.result _ _
+    (λ tone. full_answers c.args.behaviour.now c.args.engine.now c.args.session c.game.result.now c.diagram.result.now c.game.ensures c.diagram.ensures (inquiry_shown c.args.inquiry)
     g.L.Terms.limit c.order.ensures.room c.order.new.self c.in-Ok.query c.args.out.now.items _ c.in-Ok.ensures.query never_refused c.in-Err-order.fault c.in-Err-order.ensures.fault c.order.ensures.held)
     (both_on c.put_unanswered.result _ _ c.put_unanswered.ensures.full c.put_unanswered.ensures.told)
 
 pub returns : goal.returns
 returns g c =
     ask_answers c.args.behaviour.now c.args.engine.now c.args.session c.game.result.now c.diagram.result.now c.game.ensures c.diagram.ensures (inquiry_shown c.args.inquiry)
-    g.L.Terms.limit c.order.ensures.room c.order.new.self c.in-Ok.query c.args.out.now.items _ c.in-Ok.ensures.query c.in-Ok-order.order c.in-Ok-order.ensures.accepted c.in-Ok-order.ensures.ours c.order.ensures.held c.in_ok-answer.ensures
+    g.L.Terms.limit c.order.ensures.room c.order.new.self c.in-Ok.query c.args.out.now.items _ c.in-Ok.ensures.query c.in-Ok-order.order c.in-Ok-order.ensures.accepted c.in-Ok-order.ensures.ours c.order.ensures.held c.in_ok-tone.ensures

@@ -1,14 +1,13 @@
-use Rattle.std.proofs.Common.{ℕ, Bool, List, [], ◌∷◌, ◌++◌, Option, None, Some, Result, Ok, Err, length-append, arith, ap, ap₂, sym, refl, ◌∙◌, subst}
+use Rattle.std.proofs.Common.{ℕ, Bool, List, [], ◌∷◌, ◌++◌, Option, Ok, Err, length-append, arith, ap, ap₂, sym, refl, ◌∙◌, subst}
 use Rattle.std.proofs.lemmas.Grind.{common_steps}
 use Rattle.std.specs.Prelude.{◌<◌, ◌||◌, ◌&&◌, OnSome, vec_len}
 use Rattle.vpg_script.specs.Lines.{lines_left}
 use Rattle.std.specs.Io.KnownBytes.{prepend_known}
-use Rattle.vpg_serving.specs.Manners.{MannerOutcome, Went}
+use Rattle.vpg_serving.specs.Manners.{Went}
+use Rattle.vpg_serving.specs.Answer.{is_failed, is_refused}
 use Rattle.vpg_serving.specs.Results.{NextOutcome}
-use Rattle.vpg_serving.specs.declared.answering.Tone.{Tone}
-use Rattle.vpg_serving.specs.declared.serving.Ending.{Ending}
-use Rattle.vpg_serving.specs.declared.fault.RunFault.{RunFault}
-use Rattle.vpg_serving.proofs.MannerLemmas.{went_nothing, went_more, failed_more, refused_there, at_end, stopped}
+use Rattle.vpg_serving.specs.declared.tone.Tone.{Tone}
+use Rattle.vpg_serving.proofs.MannerLemmas.{went_nothing, went_more, failed_more, refused_there, stopped}
 use Rattle.vpg_serving.proofs.serving.answer_script_as.Goals as goal
 
 pub lines-init : goal.lines-init
@@ -97,9 +96,9 @@ lines-preserved g c =
         (
           went_more c.args.manner serves (g.V.Server.state first) mid new (g.R.Source.remaining c.args.reader.now) a b (g.W.Sink.contents c.args.writer.now) w after so.0 so.1 o.0 o.1
               so.2.0 o.2.0 o.2.1 o.2.3
-              (ap (λ (t : Tone). t.refused && c.args.manner.is_strict) (sym o.2.2) ∙ (sym c.is_last-last.ensures ∙ c.if-last.false)),
+              (ap (λ (t : Tone). is_refused t && c.args.manner.is_strict) (sym o.2.2) ∙ (sym c.is_last-last.ensures ∙ c.if-last.false)),
           omega (arith, so.2.1, length-append so.0 (o.0 ∷ [])),
-          c.has_failed-fails.ensures ∙ (ap₂ (λ (x y : Bool). x || y) so.2.2 (ap (λ (t : Tone). t.fails) o.2.2) ∙ sym (failed_more so.1 o.1)),
+          c.has_failed-fails.ensures ∙ (ap₂ (λ (x y : Bool). x || y) so.2.2 (ap is_failed o.2.2) ∙ sym (failed_more so.1 o.1)),
         ),
       );
     }

@@ -2,7 +2,8 @@ use Rattle.std.proofs.Common.{◌≡◌, ◌≤◌, ◌+◌, ◌*◌, length, ve
 use Rattle.std.specs.Io.KnownBytes.{prepend_known}
 use Rattle.std.specs.List.{list_any}
 use Rattle.vpg_script.specs.Lines.{lines_left}
-use Rattle.vpg_serving.specs.Manners.{Went, is_failure}
+use Rattle.vpg_serving.specs.Answer.{Answer, is_failure}
+use Rattle.vpg_serving.specs.Manners.{Went}
 use Rattle.vpg_serving.proofs.serving.answer_script_as.Given as goal
 
 abbrev pub invariant-lines : goal.invariant-lines
@@ -13,8 +14,8 @@ invariant-lines g l = record {
   writable : g.W.Sink.has_failed l.writer ≡ g.W.Sink.has_failed l.fn.writer;
   calls : g.R.Source.calls l.reader ≡ l.reads;
   bound : l.number + lines_left l.reads (vec_len l.held) ≤ 16777216 * 8193 + 1;
-  went : (lines texts : List (List ℕ)) × (Went l.manner (g.V.Server.answering (g.V.Server.scene l.fn.server) l.fn.lifters) (g.V.Server.state l.fn.server) (g.V.Server.state l.server) (g.R.Source.remaining l.fn.reader) (prepend_known l.held.items (g.R.Source.remaining l.reader))
-      (g.W.Sink.contents l.fn.writer) (g.W.Sink.contents l.writer) lines texts × (l.number ≡ length lines + 1) × (l.failed ≡ list_any is_failure texts));
+  went : (lines : List (List ℕ)) × (answers : List Answer) × (Went l.manner (g.V.Server.answering (g.V.Server.scene l.fn.server) l.fn.lifters) (g.V.Server.state l.fn.server) (g.V.Server.state l.server) (g.R.Source.remaining l.fn.reader) (prepend_known l.held.items (g.R.Source.remaining l.reader))
+      (g.W.Sink.contents l.fn.writer) (g.W.Sink.contents l.writer) lines answers × (l.number ≡ length lines + 1) × (l.failed ≡ list_any is_failure answers));
 }
 
 abbrev pub decreases-lines : goal.decreases-lines

@@ -19,7 +19,7 @@ returns-in_default g c =
     let old = engine_in e.client e.undos.items e.redos.items e.harvests.items e.seen.items in
     let with : List (Option HarvestView) → EngineState = λ hs. engine_in e.client e.undos.items e.redos.items hs e.seen.items in
     on_view c.refused.result _ old _ _ _ _ _ c.self.view_is
-    (λ told. subst (λ (hs : List (Option HarvestView)). AnswersTo old (record { label = c.args.session; command = script.Commit c.args.number }) c.args.out.now.items c.refused.new.out.items (with hs))
+    (λ tone told. subst (λ (hs : List (Option HarvestView)). AnswersTo old (record { label = c.args.session; command = script.Commit c.args.number }) tone c.args.out.now.items c.refused.new.out.items (with hs))
     (sym c.in_default.ensures.none) (commit_unknown old c.args.session c.args.number e.harvests.items refl c.args.out.now.items _ c.in_default.ensures.kept told)) c.refused.ensures
 
 pub invariant_of-self-in-Ok : goal.invariant_of-self-in-Ok
@@ -53,7 +53,7 @@ returns-in-Ok g c =
     let hs = e.harvests.items in
     let holds : List (Option Harvest) → Held = λ kept. record { undos = old.held.undos; redos = old.held.redos; harvests = kept; seen = old.held.seen } in
     on_view c.numbered.result _ old _ _ _ _ _ c.self.view_is
-    (λ told. committed old c.args.session c.args.number hs refl c.args.out.now.items _ g.L.Terms.limit c.self.invariant.room_is _ c.in-Some.harvest c.in-Some.ensures.kept c.in-Ok.added c.in-Ok.ensures.accepted
+    (λ tone told. committed old c.args.session c.args.number hs refl c.args.out.now.items _ g.L.Terms.limit c.self.invariant.room_is _ c.in-Some.harvest c.in-Some.ensures.kept c.in-Ok.added c.in-Ok.ensures.accepted
     (ap holds (ap harvests_of c.in-Some.ensures.gone ∙ gone_seen (handed_in true) hs (c.args.number - 1))) told) c.numbered.ensures
 
 pub returns-in-Err : goal.returns-in-Err
@@ -67,7 +67,7 @@ returns-in-Err g c =
     let again = returned_again hs c.args.number harvest c.in-Err.field-0.fault c.in-Err.field-0.value c.take_harvest.new.harvests.items c.return_harvest.new.harvests.items
     c.in-Some.ensures.kept c.in-Some.ensures.gone c.in-Err.ensures.back c.return_harvest.ensures.back in
     on_view c.commit_refused.result _ old _ _ _ _ _ c.self.view_is
-    (λ told. commit_refused old c.args.session c.args.number hs refl c.args.out.now.items _ g.L.Terms.limit c.self.invariant.room_is _ harvest c.in-Some.ensures.kept c.in-Err.field-0.fault c.names.result.now (own.game, own.diagram) c.in-Err.ensures.fault
+    (λ tone told. commit_refused old c.args.session c.args.number hs refl c.args.out.now.items _ g.L.Terms.limit c.self.invariant.room_is _ harvest c.in-Some.ensures.kept c.in-Err.field-0.fault c.names.result.now (own.game, own.diagram) c.in-Err.ensures.fault
     (unless_stray c.in-Err.field-0.fault _ _ again (λ same. ap holds same)) c.names.ensures told) c.commit_refused.ensures
 
 pub invariant_of-self : goal.invariant_of-self

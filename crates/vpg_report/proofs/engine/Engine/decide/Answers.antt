@@ -34,7 +34,7 @@ returns-in-Ok g c =
     ap (λ (s : EngineState). index_of s.client.desk.diagram.names c.args.name.now) c.self.view_is ∙ ap (λ (ns : List (List ℕ)). index_of ns c.args.name.now) (sym c.names.ensures) ∙ sym c.get.ensures.index ∙ c.in-Some.is in
     let holds : List ℕ → Held = λ undos. record { undos = undos; redos = old.held.redos; harvests = old.held.harvests; seen = old.held.seen } in
     on_view c.hold_undo.result _ old _ _ _ _ _ c.self.view_is
-    (λ told. decided old c.args.session c.args.name.now g.L.Terms.limit c.self.invariant.room_is _ c.in-Some.feature c.args.out.now.items _ found c.args.value c.in-Ok.undo.serial c.in-Ok.ensures.accepted
+    (λ tone told. decided old c.args.session c.args.name.now g.L.Terms.limit c.self.invariant.room_is _ c.in-Some.feature c.args.out.now.items _ found c.args.value c.in-Ok.undo.serial c.in-Ok.ensures.accepted
     (ap holds (c.hold_undo.ensures.held ∙ ap (λ (tokens : List Token). serials tokens ++ c.in-Ok.undo.serial ∷ []) c.reserve.ensures.items)) told) c.hold_undo.ensures.told
 
 pub returns-in-Err : goal.returns-in-Err
@@ -48,7 +48,7 @@ returns-in-Err g c =
     let stays_held = unless_stray c.in-Err.field-0.fault _ _ c.in-Err.ensures.back
     (λ none. ap holds (ap serials (subst (λ (v : Option Token). IfNone v (c.hold_strayed.new.undos.items ≡ c.reserve.new.self.items)) none c.hold_strayed.ensures ∙ c.reserve.ensures.items))) in
     on_view c.decide_refused.result _ old _ _ _ _ _ c.self.view_is
-    (λ told. decide_refused old c.args.session c.args.name.now g.L.Terms.limit c.self.invariant.room_is _ c.in-Some.feature c.args.out.now.items _ found c.args.value c.in-Err.field-0.fault c.names-in-Err.result.now c.in-Err.ensures.fault
+    (λ tone told. decide_refused old c.args.session c.args.name.now g.L.Terms.limit c.self.invariant.room_is _ c.in-Some.feature c.args.out.now.items _ found c.args.value c.in-Err.field-0.fault c.names-in-Err.result.now c.in-Err.ensures.fault
     stays_held c.names-in-Err.ensures told) c.decide_refused.ensures
 
 pub returns-in_default : goal.returns-in_default
@@ -58,7 +58,7 @@ returns-in_default g c =
     let none : index_of old.client.desk.diagram.names c.args.name.now ≡ None =
     ap (λ (s : EngineState). index_of s.client.desk.diagram.names c.args.name.now) c.self.view_is ∙ ap (λ (ns : List (List ℕ)). index_of ns c.args.name.now) (sym c.names.ensures) ∙ sym c.in_default.ensures.index in
     on_same_view c.refused.result _ old _ _ _ _ c.self.view_is
-    (λ told. decide_unknown old c.args.session c.args.name.now c.args.value c.args.out.now.items _ none told) c.refused.ensures
+    (λ tone told. decide_unknown old c.args.session c.args.name.now c.args.value c.args.out.now.items _ none told) c.refused.ensures
 
 pub decide_refused-requires : goal.decide_refused-requires
 decide_refused-requires g c = λ f is.

@@ -47,7 +47,7 @@ returns-in-Ok g c =
     let token = c.remove-token.result in
     let holds : List ℕ → Held = λ ns. record { undos = old.held.undos; redos = ns; harvests = old.held.harvests; seen = old.held.seen } in
     on_view c.numbered.result _ old _ _ _ _ _ c.self.view_is
-    (λ told. forgotten g.L.Terms.limit c.self.invariant.room_is old _ c.args.session at.0 c.in-Some.place token.serial c.args.out.now.items _ c.args.serial at.1.0 here
+    (λ tone told. forgotten g.L.Terms.limit c.self.invariant.room_is old _ c.args.session at.0 c.in-Some.place token.serial c.args.out.now.items _ c.args.serial at.1.0 here
     (serial_at tokens c.in-Some.place token token c.remove-token.ensures.value token.serial refl) c.in-Ok.ensures.accepted
     (ap holds (ap serials c.remove-token.ensures.items ∙ serials_removed tokens c.in-Some.place)) told) c.numbered.ensures
 
@@ -66,7 +66,7 @@ returns-in-Err g c =
     let again = subst (λ (v : Option Token). IfSome v (λ t. c.put_back_unspent.new.tokens.items ≡ insert c.remove-token.new.self.items c.in-Some.place t)) back c.put_back_unspent.ensures in
     ap holds (put_again tokens c.in-Some.place token at.0 _ _ here c.remove-token.ensures.value c.remove-token.ensures.items again)) in
     on_view c.put_unanswered.result _ old _ _ _ _ _ c.self.view_is
-    (λ told. log_full g.L.Terms.limit c.self.invariant.room_is c.args.session never_refused old _ (script.Forget c.args.serial) (Forget token.serial) c.in-Err.field-0.fault c.args.out.now.items _ meant c.in-Err.ensures.fault
+    (λ tone told. log_full g.L.Terms.limit c.self.invariant.room_is c.args.session never_refused old _ (script.Forget c.args.serial) (Forget token.serial) c.in-Err.field-0.fault c.args.out.now.items _ meant c.in-Err.ensures.fault
     stays_held told.0 told.1) (both_on c.put_unanswered.result _ _ c.put_unanswered.ensures.full c.put_unanswered.ensures.told)
 
 pub put_back_unspent-requires-clause-place : goal.put_back_unspent-requires-clause-place
@@ -83,4 +83,4 @@ returns-in_default g c =
     let old = engine_in e.client e.undos.items e.redos.items e.harvests.items e.seen.items in
     let none = subst (λ (ts : List Token). IsPlaceOf (redo_meant (serials ts) (Some c.args.serial)) (serials ts) None) c.deref.ensures.value c.in_default.ensures in
     on_same_view c.refused.result _ old _ _ _ _ c.self.view_is
-    (λ told. unasked old c.args.session (script.Forget c.args.serial) NoToken c.args.out.now.items _ (ap (λ (x : Option ℕ). call_or NoToken Forget x) none) told) c.refused.ensures
+    (λ tone told. unasked old c.args.session (script.Forget c.args.serial) NoToken c.args.out.now.items _ (ap (λ (x : Option ℕ). call_or NoToken Forget x) none) told) c.refused.ensures

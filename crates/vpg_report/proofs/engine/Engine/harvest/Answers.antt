@@ -36,7 +36,7 @@ returns-in-Err g c =
     let old = engine_in e.client e.undos.items e.redos.items e.harvests.items e.seen.items in
     let holds : List (Option Harvest) → Held = λ hs. record { undos = old.held.undos; redos = old.held.redos; harvests = hs; seen = old.held.seen } in
     on_view_by c.put_unanswered.result _ old _ _ _ _ _ _ c.self.view_is
-    (λ told. harvest_none g.L.Terms.limit c.self.invariant.room_is c.args.session never_refused old _ c.args.lifters c.in-Err.fault c.args.out.now.items _ c.in-Err.ensures.fault (ap holds (ap harvests_of c.reserve.ensures.items)) told.0 told.1)
+    (λ tone told. harvest_none g.L.Terms.limit c.self.invariant.room_is c.args.session never_refused old _ c.args.lifters c.in-Err.fault c.args.out.now.items _ c.in-Err.ensures.fault (ap holds (ap harvests_of c.reserve.ensures.items)) told.0 told.1)
     (both_on c.put_unanswered.result _ _ c.put_unanswered.ensures.full c.put_unanswered.ensures.told)
 
 pub returns : goal.returns
@@ -49,6 +49,6 @@ returns g c =
     let counted : c.len.result ≡ length old.held.harvests + 1 =
     omega (arith, c.len.ensures, c.push_reserved.ensures.len, c.reserve.ensures.len, e.harvests.ok.0, length-map e.harvests.items (λ (h : Option HarvestView). option_map (handed_in true) h)) in
     on_view_by c.numbered.result _ old _ _ _ _ _ _ c.self.view_is
-    (λ told. harvest_answers g.L.Terms.limit c.self.invariant.room_is c.args.session old _ c.order.new.self c.args.lifters c.swept-harvest.result.sweeps c.len.result c.in-Ok.order harvest c.args.out.now.items _
+    (λ tone told. harvest_answers g.L.Terms.limit c.self.invariant.room_is c.args.session old _ c.order.new.self c.args.lifters c.swept-harvest.result.sweeps c.len.result c.in-Ok.order harvest c.args.out.now.items _
     c.in-Ok.ensures.accepted c.in-Ok.ensures.ours c.in-Ok.ensures.order c.swept-harvest.ensures.swept c.swept-harvest.ensures.few c.swept-harvest.ensures.made c.swept-harvest.ensures.none refl
     (ap holds (ap harvests_of kept ∙ seen_more e.harvests.items harvest)) counted told) c.numbered.ensures

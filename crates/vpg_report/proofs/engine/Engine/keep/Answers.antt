@@ -1,4 +1,4 @@
-use Rattle.std.proofs.Common.{◌≡◌, ℕ, List, Option, Some, refl, sym, ap, ◌∙◌, subst, arith}
+use Rattle.std.proofs.Common.{◌≡◌, ℕ, List, Option, Some, None, refl, sym, ap, ◌∙◌, subst, arith}
 use Rattle.std.specs.Prelude.{IfSome}
 use Rattle.std.specs.List.{insert}
 use Rattle.vpg_office.specs.Token.{TokenView as Token}
@@ -10,7 +10,7 @@ use Rattle.vpg_report.specs.Serials.{serials}
 use Rattle.vpg_report.specs.Answers.{NoToken, call_or}
 use Rattle.vpg_report.specs.Engine.{IsPlaceOf}
 use Rattle.vpg_report.specs.EngineFields.{engine_in}
-use Rattle.vpg_report.proofs.Asked.{on_view, both_on, log_full}
+use Rattle.vpg_report.proofs.Asked.{on_view, both_on, log_full, on_same_view, unasked}
 use Rattle.vpg_report.proofs.Enduring.{endures, stays, unless_stray}
 use Rattle.vpg_report.proofs.Places.{Stands, stands}
 use Rattle.vpg_report.proofs.Serials.{serials_removed, serials_length, serial_at}
@@ -47,7 +47,7 @@ returns-in-Ok g c =
     let token = c.remove-token.result in
     let holds : List ℕ → Held = λ ns. record { undos = ns; redos = old.held.redos; harvests = old.held.harvests; seen = old.held.seen } in
     on_view c.numbered.result _ old _ _ _ _ _ c.self.view_is
-    (λ told. kept g.L.Terms.limit c.self.invariant.room_is old _ c.args.session at.0 c.in-Some.place token.serial c.args.out.now.items _ c.args.serial at.1.0 here
+    (λ tone told. kept g.L.Terms.limit c.self.invariant.room_is old _ c.args.session at.0 c.in-Some.place token.serial c.args.out.now.items _ c.args.serial at.1.0 here
     (serial_at tokens c.in-Some.place token token c.remove-token.ensures.value token.serial refl) c.in-Ok.ensures.accepted
     (ap holds (ap serials c.remove-token.ensures.items ∙ serials_removed tokens c.in-Some.place)) told) c.numbered.ensures
 
@@ -66,7 +66,7 @@ returns-in-Err g c =
     let again = subst (λ (v : Option Token). IfSome v (λ t. c.put_back_unspent.new.tokens.items ≡ insert c.remove-token.new.self.items c.in-Some.place t)) back c.put_back_unspent.ensures in
     ap holds (put_again tokens c.in-Some.place token at.0 _ _ here c.remove-token.ensures.value c.remove-token.ensures.items again)) in
     on_view c.put_unanswered.result _ old _ _ _ _ _ c.self.view_is
-    (λ told. log_full g.L.Terms.limit c.self.invariant.room_is c.args.session never_refused old _ (script.Keep c.args.serial) (Keep token.serial) c.in-Err.field-0.fault c.args.out.now.items _ meant c.in-Err.ensures.fault
+    (λ tone told. log_full g.L.Terms.limit c.self.invariant.room_is c.args.session never_refused old _ (script.Keep c.args.serial) (Keep token.serial) c.in-Err.field-0.fault c.args.out.now.items _ meant c.in-Err.ensures.fault
     stays_held told.0 told.1) (both_on c.put_unanswered.result _ _ c.put_unanswered.ensures.full c.put_unanswered.ensures.told)
 
 pub put_back_unspent-requires-clause-place : goal.put_back_unspent-requires-clause-place
@@ -76,3 +76,11 @@ put_back_unspent-requires-clause-place g c =
     let at = subst (λ (ts : List Token). IsPlaceOf (undo_meant (serials ts) (Some c.args.serial)) (serials ts) (Some c.in-Some.place)) c.deref.ensures.value c.in-Some.ensures in
     let here : Stands at.0 c.in-Some.place (serials tokens) = stands at.0 c.in-Some.place (serials tokens) at.1.1 in
     omega (arith, here.within, serials_length tokens, c.remove-token.ensures.len, e.undos.ok.0)
+
+pub returns-in_default : goal.returns-in_default
+returns-in_default g c =
+    let e = c.self.inside in
+    let old = engine_in e.client e.undos.items e.redos.items e.harvests.items e.seen.items in
+    let none = subst (λ (ts : List Token). IsPlaceOf (undo_meant (serials ts) (Some c.args.serial)) (serials ts) None) c.deref.ensures.value c.in_default.ensures in
+    on_same_view c.refused.result _ old _ _ _ _ c.self.view_is
+    (λ tone told. unasked old c.args.session (script.Keep c.args.serial) NoToken c.args.out.now.items _ (ap (λ (x : Option ℕ). call_or NoToken Keep x) none) told) c.refused.ensures

@@ -2,14 +2,13 @@ use Rattle.std.proofs.Common.{◌≡◌, ◌<◌, ℕ, List, length, Option, Som
 use Rattle.std.proofs.lemmas.Option.{slice_get_within}
 use Rattle.vpg_features.specs.Names.{index_of}
 use Rattle.vpg_diagram.specs.DiagramText.{NamedDiagram}
-use Rattle.vpg_serving.specs.declared.serving.ServeFault.{ServeFault}
 use Rattle.vpg_office.specs.Faults.{never_refused}
 use Rattle.vpg_desk.specs.Book.{Call, Page}
 use Rattle.vpg_script.specs.Script as script
 use Rattle.vpg_report.specs.Answers.{Own, NoFeature, call_or}
 use Rattle.vpg_report.specs.Engine.{EngineState}
 use Rattle.vpg_report.specs.EngineFields.{engine_in}
-use Rattle.vpg_report.proofs.Asked.{on_view, on_same_view, both_on, log_full, unasked}
+use Rattle.vpg_report.proofs.Asked.{on_view, on_view_told, on_same_view, both_on, log_full, unasked}
 use Rattle.vpg_report.proofs.Enduring.{endures, stays, unless_stray_any}
 use Rattle.vpg_report.proofs.Paged.{games_are, known_answers}
 use Rattle.vpg_report.proofs.engine.Engine.known.Goals as goal
@@ -42,7 +41,7 @@ returns-in_default g c =
     let none : index_of old.client.desk.diagram.names c.args.name.now ≡ None =
     ap (λ (s : EngineState). index_of s.client.desk.diagram.names c.args.name.now) c.self.view_is ∙ ap (λ (ns : List (List ℕ)). index_of ns c.args.name.now) (sym c.names.ensures) ∙ sym c.in_default.ensures.index in
     on_same_view c.refused.result _ old _ _ _ _ c.self.view_is
-    (λ told. unasked old c.args.session (script.Known c.args.name.now) NoFeature c.args.out.now.items _ (ap page_or none) told) c.refused.ensures
+    (λ tone told. unasked old c.args.session (script.Known c.args.name.now) NoFeature c.args.out.now.items _ (ap page_or none) told) c.refused.ensures
 
 pub put_known_over-requires-clause-known : goal.put_known_over-requires-clause-known
 put_known_over-requires-clause-known g c =
@@ -65,7 +64,8 @@ returns g c =
     let are = games_are desk _ c.deref.result.now c.in-Ok.ensures.games c.deref.ensures desk.game c.deref-2.result.now c.in-Ok.both.0.decisions refl diagram_is c.in-Ok.ensures.decisions in
     let found : index_of desk.diagram.names c.args.name.now ≡ Some c.in-Some.feature =
     ap (λ (s : EngineState). index_of s.client.desk.diagram.names c.args.name.now) c.self.view_is ∙ ap (λ (ns : List (List ℕ)). index_of ns c.args.name.now) (sym c.names.ensures) ∙ sym c.get.ensures.index ∙ c.in-Some.is in
-    on_view {E = ServeFault} (Ok tt) _ old _ _ _ _ _ c.self.view_is (λ told. known_answers g.L.Terms.limit c.self.invariant.room_is old _ c.args.session desk.game c.deref-2.result.now c.args.out.now.items _ refl diagram_is c.in-Ok.both.0.entries c.in-Ok.ensures.accepted refl c.in-Ok.both.0.decisions c.in-Ok.ensures.decisions c.deref.result.now are c.args.name.now c.in-Some.feature found told) c.in_ok-put_known_over.ensures.known
+    on_view_told old _ _ _ _ _ c.self.view_is
+    (known_answers g.L.Terms.limit c.self.invariant.room_is old _ c.args.session desk.game c.deref-2.result.now c.args.out.now.items _ refl diagram_is c.in-Ok.both.0.entries c.in-Ok.ensures.accepted refl c.in-Ok.both.0.decisions c.in-Ok.ensures.decisions c.deref.result.now are c.args.name.now c.in-Some.feature found c.in_ok-put_known_over.ensures.known)
 
 pub returns-in-Err : goal.returns-in-Err
 returns-in-Err g c =
@@ -74,5 +74,5 @@ returns-in-Err g c =
     let found : index_of old.client.desk.diagram.names c.args.name.now ≡ Some c.in-Some.feature =
     ap (λ (s : EngineState). index_of s.client.desk.diagram.names c.args.name.now) c.self.view_is ∙ ap (λ (ns : List (List ℕ)). index_of ns c.args.name.now) (sym c.names.ensures) ∙ sym c.get.ensures.index ∙ c.in-Some.is in
     on_view c.put_unanswered.result _ old _ _ _ _ _ c.self.view_is
-    (λ told. log_full g.L.Terms.limit c.self.invariant.room_is c.args.session never_refused old _ (script.Known c.args.name.now) Page c.in-Err.fault c.args.out.now.items _ (ap page_or found) c.in-Err.ensures.fault (unless_stray_any c.in-Err.fault _ refl) told.0 told.1)
+    (λ tone told. log_full g.L.Terms.limit c.self.invariant.room_is c.args.session never_refused old _ (script.Known c.args.name.now) Page c.in-Err.fault c.args.out.now.items _ (ap page_or found) c.in-Err.ensures.fault (unless_stray_any c.in-Err.fault _ refl) told.0 told.1)
     (both_on c.put_unanswered.result _ _ c.put_unanswered.ensures.full c.put_unanswered.ensures.told)

@@ -24,7 +24,7 @@ returns-in_default g c =
     let named = vertex_shown c.args.vertex in
     let none = subst (λ (g : NamedGame). place_in named g ≡ None) (c.deref.ensures ∙ c.self.invariant.game) (sym c.in_default.ensures.vertex) in
     on_same_view c.refused.result _ old _ _ _ _ c.self.view_is
-    (λ told. unasked old c.args.session (script.Lift c.args.table (vertex_shown c.args.vertex)) NoVertex c.args.out.now.items _ (ap (λ (x : Option ℕ). call_or NoVertex (λ v. Order) x) none) told) c.refused.ensures
+    (λ tone told. unasked old c.args.session (script.Lift c.args.table (vertex_shown c.args.vertex)) NoVertex c.args.out.now.items _ (ap (λ (x : Option ℕ). call_or NoVertex (λ v. Order) x) none) told) c.refused.ensures
 
 -- a vertex that is found is one of the order's game
 within_order : (v : ℕ) (found game : NamedGame) → found ≡ game → v < length found.vertices → v < length game.vertices
@@ -67,7 +67,7 @@ returns-in-Err g c =
     let named = vertex_shown c.args.vertex in
     let here = subst (λ (g : NamedGame). place_in named g ≡ Some c.in-Some.v) (c.deref.ensures ∙ c.self.invariant.game) (sym c.in-Some.ensures.vertex) in
     on_view c.put_unanswered.result _ old _ _ _ _ _ c.self.view_is
-    (λ told. log_full g.L.Terms.limit c.self.invariant.room_is c.args.session never_refused old _ (script.Lift c.args.table (vertex_shown c.args.vertex)) Order c.in-Err.fault c.args.out.now.items _ (ap (λ (x : Option ℕ). call_or NoVertex (λ v. Order) x) here)
+    (λ tone told. log_full g.L.Terms.limit c.self.invariant.room_is c.args.session never_refused old _ (script.Lift c.args.table (vertex_shown c.args.vertex)) Order c.in-Err.fault c.args.out.now.items _ (ap (λ (x : Option ℕ). call_or NoVertex (λ v. Order) x) here)
     c.in-Err.ensures.fault (unless_stray_any c.in-Err.fault _ refl) told.0 told.1) (both_on c.put_unanswered.result _ _ c.put_unanswered.ensures.full c.put_unanswered.ensures.told)
 
 pub returns-in-Err-commit_own : goal.returns-in-Err-commit_own
@@ -79,7 +79,7 @@ returns-in-Err-commit_own g c =
     let here = subst (λ (g : NamedGame). place_in named g ≡ Some c.in-Some.v) (c.deref.ensures ∙ c.self.invariant.game) (sym c.in-Some.ensures.vertex) in
     let less = within_order c.in-Some.v c.deref.result.now order.game (c.deref.ensures ∙ c.self.invariant.game ∙ sym c.in-Ok.ensures.ours.0) c.in-Some.ensures.within in
     on_view c.put_unanswered-in-Err-commit_own.result _ old _ _ _ _ _ c.self.view_is
-    (λ told. lifted_full order c.one-harvest.result c.in-Ok.ensures.order c.one-harvest.ensures.order c.args.table c.in-Some.v less c.one-harvest.ensures.raised c.one-harvest.ensures.other
+    (λ tone told. lifted_full order c.one-harvest.result c.in-Ok.ensures.order c.one-harvest.ensures.order c.args.table c.in-Some.v less c.one-harvest.ensures.raised c.one-harvest.ensures.other
     g.L.Terms.limit c.self.invariant.room_is c.args.session old _ c.order.new.self named c.args.out.now.items _ here c.in-Ok.ensures.accepted c.in-Ok.ensures.ours refl
     c.in-Err-commit_own.field-0.fault told.0 c.in-Err-commit_own.ensures.fault told.1)
     (both_on c.put_unanswered-in-Err-commit_own.result _ _ c.put_unanswered-in-Err-commit_own.ensures.full c.put_unanswered-in-Err-commit_own.ensures.told)
@@ -93,6 +93,6 @@ returns g c =
     let here = subst (λ (g : NamedGame). place_in named g ≡ Some c.in-Some.v) (c.deref.ensures ∙ c.self.invariant.game) (sym c.in-Some.ensures.vertex) in
     let less = within_order c.in-Some.v c.deref.result.now order.game (c.deref.ensures ∙ c.self.invariant.game ∙ sym c.in-Ok.ensures.ours.0) c.in-Some.ensures.within in
     on_view c.numbered.result _ old _ _ _ _ _ c.self.view_is
-    (λ told. lift_answers order c.one-harvest.result c.in-Ok.ensures.order c.one-harvest.ensures.order c.args.table c.in-Some.v less c.one-harvest.ensures.raised c.one-harvest.ensures.other
+    (λ tone told. lift_answers order c.one-harvest.result c.in-Ok.ensures.order c.one-harvest.ensures.order c.args.table c.in-Some.v less c.one-harvest.ensures.raised c.one-harvest.ensures.other
     g.L.Terms.limit c.self.invariant.room_is c.args.session old _ c.order.new.self named c.args.out.now.items _ here c.in-Ok.ensures.accepted c.in-Ok.ensures.ours refl
     c.in-Ok-commit_own.added c.in-Ok-commit_own.ensures.accepted told) c.numbered.ensures

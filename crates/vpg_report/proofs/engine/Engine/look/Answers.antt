@@ -1,12 +1,11 @@
 use Rattle.std.proofs.Common.{Ok, refl, sym, ◌∙◌, ap}
 use Rattle.vpg_script.specs.View.{lookup_shown}
-use Rattle.vpg_serving.specs.declared.serving.ServeFault.{ServeFault}
 use Rattle.vpg_trail.specs.Page.{Hopeful, Dual}
 use Rattle.vpg_office.specs.Faults.{never_refused}
 use Rattle.vpg_desk.specs.Book.{Page}
 use Rattle.vpg_script.specs.Script as script
 use Rattle.vpg_report.specs.EngineFields.{engine_in}
-use Rattle.vpg_report.proofs.Asked.{on_view, on_same_view, both_on, log_full}
+use Rattle.vpg_report.proofs.Asked.{on_view, on_view_told, on_same_view, both_on, log_full}
 use Rattle.vpg_report.proofs.Enduring.{endures, stays, unless_stray_any}
 use Rattle.vpg_report.proofs.Paged.{games_are, has_there, named, table_length, table_within, entries_are_within, looks, look_answers, missing_vertex}
 use Rattle.vpg_diagram.specs.DiagramText.{NamedDiagram}
@@ -26,8 +25,8 @@ invariant_of-self-2 g c =
     let step = c.in-Ok.ensures.accepted.step in
     endures g.L.Terms.limit _ _ e.client.desk e.harvests.items c.self.invariant _ e.harvests.items step.game step.diagram c.self.invariant.harvests
 
-pub invariant_of-self-in_err-look_over : goal.invariant_of-self-in_err-look_over
-invariant_of-self-in_err-look_over g c =
+pub invariant_of-self-in_err-tone : goal.invariant_of-self-in_err-tone
+invariant_of-self-in_err-tone g c =
     let e = c.self.inside in
     let step = c.in-Ok.ensures.accepted.step in
     endures g.L.Terms.limit _ _ e.client.desk e.harvests.items c.self.invariant _ e.harvests.items step.game step.diagram c.self.invariant.harvests
@@ -68,17 +67,17 @@ returns-then-not-has_vertices g c =
     let e = c.self.inside in
     let old = engine_in e.client e.undos.items e.redos.items e.harvests.items e.seen.items in
     on_same_view c.put_missing.result _ old _ _ _ _ c.self.view_is
-    (λ told. missing_vertex old c.args.session (lookup_shown c.args.lookup.now) c.deref.result.now c.args.out.now.items _ (c.deref.ensures ∙ c.self.invariant.game)
+    (λ tone told. missing_vertex old c.args.session (lookup_shown c.args.lookup.now) c.deref.result.now c.args.out.now.items _ (c.deref.ensures ∙ c.self.invariant.game)
     (sym c.has_vertices.ensures ∙ c.if-not-has_vertices.true) told) c.put_missing.ensures
 
 pub returns : goal.returns
 returns g c =
     let e = c.self.inside in
     let old = engine_in e.client e.undos.items e.redos.items e.harvests.items e.seen.items in
-    on_view {E = ServeFault} (Ok tt) _ old _ _ _ _ _ c.self.view_is
-    (λ told. look_answers g.L.Terms.limit c.self.invariant.room_is old _ c.args.session c.deref-3.result.now c.deref-4.result.now c.args.out.now.items _ (c.deref-3.ensures ∙ c.self.invariant.game) (c.deref-4.ensures ∙ c.self.invariant.diagram)
+    on_view_told old _ _ _ _ _ c.self.view_is
+    (look_answers g.L.Terms.limit c.self.invariant.room_is old _ c.args.session c.deref-3.result.now c.deref-4.result.now c.args.out.now.items _ (c.deref-3.ensures ∙ c.self.invariant.game) (c.deref-4.ensures ∙ c.self.invariant.diagram)
     c.in-Ok.both.0.entries c.in-Ok.ensures.accepted refl c.in-Ok.both.0.decisions c.in-Ok.ensures.decisions c.in-Ok.both.0.hopeful c.in-Ok.both.0.dual c.in-Ok.ensures.hopeful c.in-Ok.ensures.dual (lookup_shown c.args.lookup.now)
-    (has_there (lookup_shown c.args.lookup.now) _ c.deref-3.result.now _ c.deref.ensures c.deref-3.ensures (sym c.has_vertices.ensures ∙ c.if-not-has_vertices.false)) told) c.in_ok-look_over.ensures.seen
+    (has_there (lookup_shown c.args.lookup.now) _ c.deref-3.result.now _ c.deref.ensures c.deref-3.ensures (sym c.has_vertices.ensures ∙ c.if-not-has_vertices.false)) c.in_ok-tone.ensures.seen)
 
 pub returns-in-Err : goal.returns-in-Err
 returns-in-Err g c =
@@ -86,7 +85,7 @@ returns-in-Err g c =
     let old = engine_in e.client e.undos.items e.redos.items e.harvests.items e.seen.items in
     let first = looks old (lookup_shown c.args.lookup.now) c.deref.result.now (c.deref.ensures ∙ c.self.invariant.game) (sym c.has_vertices.ensures ∙ c.if-not-has_vertices.false) in
     on_view c.put_unanswered.result _ old _ _ _ _ _ c.self.view_is
-    (λ told. log_full g.L.Terms.limit c.self.invariant.room_is c.args.session never_refused old _ (script.Look (lookup_shown c.args.lookup.now)) Page c.in-Err.fault c.args.out.now.items _ first c.in-Err.ensures.fault (unless_stray_any c.in-Err.fault _ refl) told.0 told.1)
+    (λ tone told. log_full g.L.Terms.limit c.self.invariant.room_is c.args.session never_refused old _ (script.Look (lookup_shown c.args.lookup.now)) Page c.in-Err.fault c.args.out.now.items _ first c.in-Err.ensures.fault (unless_stray_any c.in-Err.fault _ refl) told.0 told.1)
     (both_on c.put_unanswered.result _ _ c.put_unanswered.ensures.full c.put_unanswered.ensures.told)
 
 pub look_over-requires-clause-features : goal.look_over-requires-clause-features

@@ -45,7 +45,7 @@ returns-in-Err g c =
     let e = c.self.inside in
     let old = engine_in e.client e.undos.items e.redos.items e.harvests.items e.seen.items in
     on_view_by c.put_unanswered.result _ old _ _ _ _ _ _ c.self.view_is
-    (λ told. first_full g.L.Terms.limit c.self.invariant.room_is c.args.session never_refused old _ c.args.lifters c.args.sweeps c.in-Err.fault c.args.out.now.items _ c.in-Err.ensures.fault refl told.0 told.1)
+    (λ tone told. first_full g.L.Terms.limit c.self.invariant.room_is c.args.session never_refused old _ c.args.lifters c.args.sweeps c.in-Err.fault c.args.out.now.items _ c.in-Err.ensures.fault refl told.0 told.1)
     (both_on c.put_unanswered.result _ _ c.put_unanswered.ensures.full c.put_unanswered.ensures.told)
 
 pub returns-in-Err-commit_own : goal.returns-in-Err-commit_own
@@ -59,7 +59,7 @@ returns-in-Err-commit_own g c =
     let few = subst (λ (n : ℕ). c.swept-harvest.result.sweeps ≤ n) given c.swept-harvest.ensures.few in
     let none = subst (λ (n : ℕ). n ≡ 0 → (which : Which) → harvest_table which harvest ≡ order_table which order) given c.swept-harvest.ensures.none in
     on_view_by c.put_unanswered-in-Err-commit_own.result _ old _ _ _ _ _ _ c.self.view_is
-    (λ told. sweep_answers g.L.Terms.limit c.self.invariant.room_is c.args.session old _ c.order.new.self c.args.lifters c.swept-harvest.result.sweeps order harvest c.args.out.now.items _ c.in-Ok.ensures.accepted refl
+    (λ tone told. sweep_answers g.L.Terms.limit c.self.invariant.room_is c.args.session old _ c.order.new.self c.args.lifters c.swept-harvest.result.sweeps order harvest c.args.out.now.items _ c.in-Ok.ensures.accepted refl
     c.args.sweeps c.in-Ok.ensures.ours c.in-Ok.ensures.order swept_order few c.swept-harvest.ensures.made none
     c.in-Err-commit_own.field-0.fault told.0 c.in-Err-commit_own.ensures.fault told.1)
     (both_on c.put_unanswered-in-Err-commit_own.result _ _ c.put_unanswered-in-Err-commit_own.ensures.full c.put_unanswered-in-Err-commit_own.ensures.told)
@@ -75,7 +75,7 @@ returns-in-Err-settled g c =
     let few = subst (λ (n : ℕ). c.swept-harvest.result.sweeps ≤ n) given c.swept-harvest.ensures.few in
     let none = subst (λ (n : ℕ). n ≡ 0 → (which : Which) → harvest_table which harvest ≡ order_table which order) given c.swept-harvest.ensures.none in
     on_view_by c.put_unanswered-in-Err-settled.result _ old _ _ _ _ _ _ c.self.view_is
-    (λ told. commit_answers g.L.Terms.limit c.self.invariant.room_is c.args.session old _ c.order.new.self c.args.lifters c.swept-harvest.result.sweeps order harvest c.args.out.now.items _ c.in-Ok.ensures.accepted refl
+    (λ tone told. commit_answers g.L.Terms.limit c.self.invariant.room_is c.args.session old _ c.order.new.self c.args.lifters c.swept-harvest.result.sweeps order harvest c.args.out.now.items _ c.in-Ok.ensures.accepted refl
     c.args.sweeps c.in-Ok.ensures.ours c.in-Ok.ensures.order swept_order few c.swept-harvest.ensures.made none
     c.commit_own.new.self c.in-Ok-commit_own.added c.in-Ok-commit_own.ensures.accepted never_refused c.in-Err-settled.fault told.0 c.in-Err-settled.ensures.fault told.1)
     (both_on c.put_unanswered-in-Err-settled.result _ _ c.put_unanswered-in-Err-settled.ensures.full c.put_unanswered-in-Err-settled.ensures.told)
@@ -91,6 +91,6 @@ returns g c =
     let few = subst (λ (n : ℕ). c.swept-harvest.result.sweeps ≤ n) given c.swept-harvest.ensures.few in
     let none = subst (λ (n : ℕ). n ≡ 0 → (which : Which) → harvest_table which harvest ≡ order_table which order) given c.swept-harvest.ensures.none in
     on_view_by c.settled-2.result _ old _ _ _ _ _ _ c.self.view_is
-    (λ told. settle_answers g.L.Terms.limit c.self.invariant.room_is c.args.session old _ c.order.new.self c.args.lifters c.swept-harvest.result.sweeps order harvest c.args.out.now.items _ c.in-Ok.ensures.accepted refl
+    (λ tone told. settle_answers g.L.Terms.limit c.self.invariant.room_is c.args.session old _ c.order.new.self c.args.lifters c.swept-harvest.result.sweeps order harvest c.args.out.now.items _ c.in-Ok.ensures.accepted refl
     c.args.sweeps c.in-Ok.ensures.ours c.in-Ok.ensures.order swept_order few c.swept-harvest.ensures.made none
     c.commit_own.new.self c.in-Ok-commit_own.added c.in-Ok-commit_own.ensures.accepted c.in-Ok-settled.settled c.in-Ok-settled.ensures.accepted told) c.settled-2.ensures

@@ -46,7 +46,7 @@ returns-in-Ok g c =
     let token = c.remove-token.result in
     let holds : List ℕ → List ℕ → Held = λ ns rs. record { undos = ns; redos = rs; harvests = old.held.harvests; seen = old.held.seen } in
     on_view c.hold_redo.result _ old _ _ _ _ _ c.self.view_is
-    (λ told. undone g.L.Terms.limit c.self.invariant.room_is old _ c.args.session at.0 c.in-Some.place token.serial c.args.out.now.items _ c.args.serial c.in-Ok.redo.serial at.1.0 here
+    (λ tone told. undone g.L.Terms.limit c.self.invariant.room_is old _ c.args.session at.0 c.in-Some.place token.serial c.args.out.now.items _ c.args.serial c.in-Ok.redo.serial at.1.0 here
     (serial_at tokens c.in-Some.place token token c.remove-token.ensures.value token.serial refl) c.in-Ok.ensures.accepted
     (ap₂ holds (ap serials c.remove-token.ensures.items ∙ serials_removed tokens c.in-Some.place) (c.hold_redo.ensures.held ∙ ap (λ (ts : List Token). serials ts ++ c.in-Ok.redo.serial ∷ []) c.reserve.ensures.items)) told) c.hold_redo.ensures.told
 
@@ -65,7 +65,7 @@ returns-in-Err g c =
     let again = c.hold_undone.ensures token back in
     ap₂ holds (put_again tokens c.in-Some.place token at.0 _ _ here c.remove-token.ensures.value c.remove-token.ensures.items again.0) (ap serials (again.1 ∙ c.reserve.ensures.items))) in
     on_view c.undo_refused.result _ old _ _ _ _ _ c.self.view_is
-    (λ told. unanswered g.L.Terms.limit c.self.invariant.room_is c.args.session undo_refusal old _ (script.Undo c.args.serial) (Undo token.serial) c.in-Err.field-0.fault c.names.result.now c.args.out.now.items _ meant c.in-Err.ensures.fault
+    (λ tone told. unanswered g.L.Terms.limit c.self.invariant.room_is c.args.session undo_refusal old _ (script.Undo c.args.serial) (Undo token.serial) c.in-Err.field-0.fault c.names.result.now c.args.out.now.items _ meant c.in-Err.ensures.fault
     stays_held c.names.ensures told) c.undo_refused.ensures
 
 pub hold_undone-requires-clause-place : goal.hold_undone-requires-clause-place
@@ -82,7 +82,7 @@ returns-in_default g c =
     let old = engine_in e.client e.undos.items e.redos.items e.harvests.items e.seen.items in
     let none = subst (λ (ts : List Token). IsPlaceOf (undo_meant (serials ts) c.args.serial) (serials ts) None) c.deref.ensures.value c.in_default.ensures in
     on_same_view c.refused.result _ old _ _ _ _ c.self.view_is
-    (λ told. unasked old c.args.session (script.Undo c.args.serial) NoToken c.args.out.now.items _ (ap (λ (x : Option ℕ). call_or NoToken Undo x) none) told) c.refused.ensures
+    (λ tone told. unasked old c.args.session (script.Undo c.args.serial) NoToken c.args.out.now.items _ (ap (λ (x : Option ℕ). call_or NoToken Undo x) none) told) c.refused.ensures
 
 pub hold_undone-requires-clause-room : goal.hold_undone-requires-clause-room
 hold_undone-requires-clause-room g c = grind (arith, common_steps)

@@ -3,7 +3,10 @@ use Rattle.vpg_verdict.specs.declared.which.Which.TheVariants.{Hopeful, Dual}
 use Rattle.vpg_partial.specs.Known.{literal_of}
 use Rattle.vpg_script.specs.View.{assertion_shown}
 use Rattle.vpg_texts.specs.Scene.{scene_of}
-use Rattle.vpg_texts.specs.Sights.{IsAsserted}
+use Rattle.vpg_game.specs.Game.{vertex_ids}
+use Rattle.vpg_game.specs.Levels.{top_of}
+use Rattle.vpg_serving.specs.Answer.{Answer}
+use Rattle.vpg_texts.specs.Sights.{IsAsserted, assertion_answer}
 use Rattle.vpg_texts.proofs.Counted.{asserts}
 use Rattle.vpg_texts.proofs.Settled.{table_of_games}
 use Rattle.vpg_texts.proofs.Shown.{on_ok, appended, written}
@@ -22,12 +25,9 @@ pub returns-clause-asserted : goal.returns-clause-asserted
 returns-clause-asserted c =
     let page = c.args.page.now in
     let said = assertion_shown c.args.assertion.now in
-    let text = c.assertion.new.out.items in
-    let asserted : IsAsserted (scene_of c.args.game.now c.args.diagram.now) said page.decisions page.hopeful page.dual text =
-    asserts c.args.game.now c.args.diagram.now page.decisions c.args.games.now c.requires.games page.hopeful page.dual text
+    let answer : Answer = assertion_answer (top_of c.args.games.now.hopeful_levels) (top_of c.args.games.now.dual_levels) (vertex_ids c.args.game.now.vertices) page.hopeful page.dual said c.is_full-full.result c.is_settled-settled.result in
+    let asserted : IsAsserted (scene_of c.args.game.now c.args.diagram.now) said page.decisions page.hopeful page.dual answer =
+    asserts c.args.game.now c.args.diagram.now page.decisions c.args.games.now c.requires.games page.hopeful page.dual answer
     c.requires.hopeful c.requires.dual c.requires.hopeful_within c.requires.dual_within said c.is_full-full.result c.is_settled-settled.result
-    (rw c.known.ensures at c.is_full-full.ensures.known) c.is_settled-settled.ensures (written text text c.new-text.result.items _ refl c.in_ok-assertion.ensures c.new-text.ensures.items) in
-    on_ok c.extend_from_slice.result _ _ (λ items. (text, (asserted, items ∙ ap (λ (bytes : List ℕ). c.args.out.now.items ++ bytes) c.deref.ensures.value))) (appended c.extend_from_slice.result _ _ _ c.extend_from_slice.ensures.items)
-
-pub returns-clause-unchanged : goal.returns-clause-unchanged
-returns-clause-unchanged c = unwritten c.extend_from_slice.result _ _ _ _ c.extend_from_slice.ensures.items refl
+    (rw c.known.ensures at c.is_full-full.ensures.known) c.is_settled-settled.ensures refl in
+    (answer, (asserted, (c.in_ok-tone.ensures.0, c.in_ok-extend_from_slice.ensures.items ∙ ap (λ (bytes : List ℕ). c.args.out.now.items ++ bytes) (c.deref.ensures.value ∙ written _ _ c.new-text.result.items _ refl c.in_ok-tone.ensures.1 c.new-text.ensures.items))))
