@@ -9,6 +9,7 @@ marked whose text, and that of all crates below, is the same in both checkouts a
 from one run: statements fit only the libraries that they were built over. The gate itself begins from nothing whatever
 stands there.
 """
+import functools
 import importlib.machinery
 import importlib.util
 import os
@@ -20,8 +21,12 @@ LOADER = importlib.machinery.SourceFileLoader("rt", os.path.realpath(shutil.whic
 SPEC = importlib.util.spec_from_loader("rt", LOADER)
 RT = importlib.util.module_from_spec(SPEC)
 LOADER.exec_module(RT)
+# (a crate's stamp has those of all crates below, along each way that leads there: without this it takes minutes)
+RT.rtlib.Crate.stamp = functools.cache(RT.rtlib.Crate.stamp)
 
 ROOT = os.path.dirname(os.path.dirname(os.path.abspath(__file__)))
+# a crate's stamp is made of those of all crates below: each is made once
+RT.rtlib.Crate.stamp, RT.rtlib.Crate.below = map(functools.cache, [RT.rtlib.Crate.stamp, RT.rtlib.Crate.below])
 
 
 def crates_at(top):
@@ -30,6 +35,7 @@ def crates_at(top):
     return {it.name: it for it in RT.rtlib.crates_below(top)}
 
 
+@functools.cache
 def is_made(crate):
     """Whether the checkout has a library of the crate, and no file of the crate is younger."""
     made = f"{crate.folder}/out/rlib/{crate.name}.rlib"
@@ -43,18 +49,22 @@ def main(words):
         sys.exit(__doc__)
     theirs = crates_at(os.path.abspath(words[0]))
     made = {name for name, crate in theirs.items() if all(map(is_made, [crate, *crate.below()]))}
-    taken, left = [], []
+    taken, had, left = [], [], []
     for name, crate in crates_at(ROOT).items():
         if name not in made or theirs[name].stamp() != crate.stamp():
             left.append(name)
             continue
         kept = f"{crate.folder}/out/rlib"
+        if os.path.isfile(f"{kept}/stamp") and RT.rtlib.text_of(f"{kept}/stamp") == crate.stamp():
+            had.append(name)
+            continue
         shutil.rmtree(kept, ignore_errors=True)
         shutil.copytree(f"{theirs[name].folder}/out/rlib", kept)
         with open(f"{kept}/stamp", "w", encoding="utf-8") as it:
             it.write(crate.stamp())
         taken.append(name)
     print(f"taken: {' '.join(sorted(taken)) or 'none'}")
+    print(f"here already: {' '.join(sorted(had)) or 'none'}")
     print(f"left: {' '.join(sorted(left)) or 'none'}")
 
 

@@ -34,6 +34,7 @@ import argparse
 import concurrent.futures
 import datetime
 import fcntl
+import functools
 import hashlib
 import importlib.machinery
 import importlib.util
@@ -51,6 +52,10 @@ LOADER = importlib.machinery.SourceFileLoader("rt", os.path.realpath(shutil.whic
 SPEC = importlib.util.spec_from_loader("rt", LOADER)
 RT = importlib.util.module_from_spec(SPEC)
 LOADER.exec_module(RT)
+# copies a folder by links; an earlier kit has no call that does
+LINKED = getattr(RT, "linked", shutil.copytree)
+# (wrong bodies are tried on copies, so the stamps of crates stay as they are)
+RT.rtlib.Crate.stamp = functools.cache(RT.rtlib.Crate.stamp)
 
 ROOT = os.path.dirname(os.path.dirname(os.path.abspath(__file__)))
 FOLDERS = {"gate": "must-fail", "outside": "wrong-bodies"}
@@ -594,7 +599,7 @@ class Lanes:
         """Tries a share of the crate's wrong bodies, and names those that somebody has to look at."""
         kept, loud = self.kept(name, f"kept-{number}"), []
         shutil.rmtree(kept, ignore_errors=True)
-        RT.linked(self.kept(name), kept)
+        LINKED(self.kept(name), kept)
         with open(f"{self.room}/said-{name}-{number}", "a", encoding="utf-8") as log:
             for body, said in try_all(self.crates[name], self.shares(name)[number], kept, self.asked.together, log):
                 row = [name, body.name, body.part, datetime.date.today().isoformat(), self.commit, body.text, *said, f"{body.seconds:.0f}"]
