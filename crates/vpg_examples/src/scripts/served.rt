@@ -7,20 +7,34 @@ use std::thread::Threads;
 use vpg_script::{Command, Device, LineFault, Request};
 use vpg_serving::{RunFault, ServeFault, Server, Tone, answer_script};
 
+/// Returns the refusal of a command that needs a token or a harvest.
+fn refusal(command: &Command<'_>) -> Result<&'static [u8], ServeFault> {
+    match command {
+        Command::Undo(_) | Command::Redo(_) | Command::Keep(_) | Command::Forget(_) => {
+            Ok(b"refused NoToken\n")
+        }
+        Command::Commit(_) => Ok(b"refused NoHarvest\n"),
+        Command::Look(_) => Err(ServeFault::Stray),
+        _ => Err(ServeFault::Memory),
+    }
+}
+
 // Refuses commands that need a token or a harvest; it has no desk for the rest.
 #[derive(Drop)]
 struct Refuser;
 
 impl Server for Refuser {
-    ghost use Rattle.std.specs.Prelude.{[], None};
-    ghost use Rattle.vpg_report.specs.Run.{Between, begun, calling};
+    ghost use Rattle.std.specs.Prelude.{◌≡◌, true, []};
+    ghost use Rattle.vpg_report.specs.Run.{Between, begun};
+    ghost use Rattle.vpg_serving.specs.Answer.{is_refusal};
     ghost use Rattle.vpg_texts.specs.Scene.{Scene as OfScene};
 
     ghost Scene = { OfScene };
 
     ghost State = { Between };
 
-    ghost answering = { λ scene _. calling None scene };
+    // Each answer is a refusal.
+    ghost answering = { λ _ _ _ _ answer _. is_refusal answer ≡ true };
 
     ghost scene = { λ _. record { game = []; lines = []; names = []; identifiers = [] } };
 
@@ -34,14 +48,7 @@ impl Server for Refuser {
         request: &Request<'_>,
         out: &mut Vec<u8>,
     ) -> Result<Tone, ServeFault> {
-        match &request.command {
-            Command::Undo(_) | Command::Redo(_) | Command::Keep(_) | Command::Forget(_) => {
-                out.extend_from_slice(b"refused NoToken\n")?
-            }
-            Command::Commit(_) => out.extend_from_slice(b"refused NoHarvest\n")?,
-            Command::Look(_) => return Err(ServeFault::Stray),
-            _ => return Err(ServeFault::Memory),
-        }
+        out.extend_from_slice(refusal(&request.command)?)?;
         Ok(Tone::Refused)
     }
 }
