@@ -8,4 +8,4 @@ pub mod Steps
 pub mod Limits
 pub mod Meaning
 pub mod Below
-pub mod Named
+pub mod Renaming

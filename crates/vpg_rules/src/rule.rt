@@ -5,7 +5,7 @@ ghost use Rattle.vpg_rules.specs.View.{constraints_of, parts_in};
 /// A formula over features. `parse_rule` returns rules in which each `All` and `Any` has two parts or more. `All`
 /// without parts is true, and `Any` without parts is false.
 #[cycle(rule)]
-#[derive(Debug, Drop)]
+#[derive(Debug, Drop, PartialEq)]
 pub enum Rule {
     /// True in every set of features, written `true`.
     Always,
@@ -28,7 +28,7 @@ pub enum Rule {
 /// The parts of an `All` or an `Any`, in order. Contracts see the list of their constraints. It is made from a `Vec`
 /// and gives it back without taking memory.
 #[cycle(rule)]
-#[derive(Debug, Drop)]
+#[derive(Debug, Drop, PartialEq)]
 pub struct Rules {
     pub(crate) items: Vec<Rule>,
 }
