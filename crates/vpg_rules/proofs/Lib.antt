@@ -9,3 +9,5 @@ pub mod Limits
 pub mod Meaning
 pub mod Below
 pub mod Renaming
+pub mod Same
+pub mod Features

@@ -170,8 +170,8 @@ module _ {A : Type 0} (to : List ℕ → A) where
       let factors : List ℕ → Read A = factor_with to (factor_at to n) (rule_at to n) in
       let seen : IsSeen factor factors = factor_seen (factor_at same n) (rule_at same n) (factor_at to n) (rule_at to n) inner.factors inner.rules in
       let arrows : IsSeen (implication_at same (suc n)) (implication_at to (suc n)) =
-          arrow_seen (disjunction_with factor) (implication_at same n) (disjunction_with factors) (implication_at to n) (codes "=>") implication implication (λ c d. refl)
-          (disjunction_seen factor factors seen) inner.implications in
+      arrow_seen (disjunction_with factor) (implication_at same n) (disjunction_with factors) (implication_at to n) (codes "=>") implication implication (λ c d. refl)
+      (disjunction_seen factor factors seen) inner.implications in
       record {
         factors = seen;
         implications = arrows;

@@ -27,10 +27,10 @@ constraint_of-implies b d = search (rules, the_lemmas)
 pub constraint_of-iff : (b d : Box Rule) → constraint_of (Iff b d) ≡ equivalence (constraint_of b.value) (constraint_of d.value)
 constraint_of-iff b d = search (rules, the_lemmas)
 
-constraint_of-parts_all : (cs : Rules) → constraint_of (All cs) ≡ all (parts_in cs)
+pub constraint_of-parts_all : (cs : Rules) → constraint_of (All cs) ≡ all (parts_in cs)
 constraint_of-parts_all cs = search (rules, the_lemmas)
 
-constraint_of-parts_any : (cs : Rules) → constraint_of (Any cs) ≡ any (parts_in cs)
+pub constraint_of-parts_any : (cs : Rules) → constraint_of (Any cs) ≡ any (parts_in cs)
 constraint_of-parts_any cs = search (rules, the_lemmas)
 
 pub constraint_of-always : constraint_of Always ≡ always
