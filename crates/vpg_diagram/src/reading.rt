@@ -6,11 +6,12 @@ ghost use Rattle.vpg_diagram.specs.FeatureDiagram.{Line as DiagramLine};
 ghost use Rattle.vpg_diagram.specs.FormView.{texts, view_form};
 
 use crate::fault::{DiagramFault, LineError, LineFault};
-use crate::line::{Line, Members};
-use crate::text::{LineForm, first_line, form_of, is_blank_line, number};
+use crate::line::{Kept, Line, Members};
+use crate::text::{LineForm, behind_rule, first_line, form_of, is_blank_line, number};
 use indexmap::IndexSet;
 use std::alloc::{AllocError, Global};
 use vpg_features::{MOST_FEATURES, Names};
+use vpg_rules::{ClausesFault, Rule, RuleFault, parse_rule};
 
 /// The greatest number of rules in a diagram.
 pub const MOST_RULES: usize = 16_384;
@@ -200,26 +201,65 @@ fn line_at(
 #[derive(Drop)]
 pub(crate) struct Reader {
     pub(crate) names: Names,
-    pub(crate) lines: Vec<Line>,
+    pub(crate) lines: Vec<Kept>,
     rules: usize,
+}
+
+ghost use Rattle.vpg_diagram.specs.ReadCode.{ReadsRule, IsRuleError};
+
+/// Returns the rule of a formula and the number of its clauses, after this number of rules.
+fn formula_line(
+    alloc: Global,
+    names: &Names,
+    rules: usize,
+    text: &[u8],
+) -> Result<(Rule, usize), LineError>
+    requires { rules ≤ MOST_RULES }
+    ensures line { IfOk result (λ x. ReadsRule names.now rules text.now (constraint_of x.0) x.1) }
+    ensures refused { IfErr result (IsRuleError names.now rules text.now) }
+{
+    let rule = match parse_rule(alloc, text, names) {
+        Ok(rule) => rule,
+        Err(RuleFault::Memory) => return Err(LineError::Memory),
+        Err(_) => return Err(LineError::Refused(LineFault::Syntax)),
+    };
+    if !rule.is_below(names.len()) {
+        return Err(LineError::Refused(LineFault::UnknownFeature));
+    }
+    let count = match rule.clauses(alloc) {
+        Ok(clauses) => clauses.len(),
+        Err(ClausesFault::Memory) => return Err(LineError::Memory),
+        Err(ClausesFault::TooMany) => return Err(LineError::Refused(LineFault::TooManyClauses)),
+    };
+    if count > MOST_RULES - rules {
+        return Err(LineError::Refused(LineFault::TooMany));
+    }
+    Ok((rule, count))
 }
 
 ghost use Rattle.vpg_diagram.specs.ReadCode.{ReadsLine, AddsLine, IsLineError};
 
-/// Reads a line that is not blank, after this number of rules, and adds its new names.
+/// Reads a line that is not blank, after this number of rules, and adds its new names. Returns the number of its rules
+/// too.
 fn read_line(
     alloc: Global,
     names: &mut Names,
     rules: usize,
     bytes: &[u8],
-) -> Result<Line, LineError>
-    ensures line { IfOk result (λ line. ReadsLine names.old rules bytes.now names.new (line_of line)) }
+) -> Result<(Kept, usize), LineError>
+    requires { rules ≤ MOST_RULES }
+    ensures line { IfOk result (λ x. ReadsLine names.old rules bytes.now names.new (kept_line_of x.0) x.1) }
     ensures refused { IfErr result (IsLineError names.old rules bytes.now) }
 {
+    if let Some(text) = behind_rule(bytes) {
+        let (rule, count) = formula_line(alloc, names, rules, text)?;
+        return Ok((Kept::Formula(rule), count));
+    }
     let Some(form) = form_of(alloc, bytes)? else {
         return Err(LineError::Refused(LineFault::Syntax));
     };
-    line_at(alloc, names, rules, &form)
+    let line = line_at(alloc, names, rules, &form)?;
+    Ok((Kept::Line(line), line.rules()))
 }
 
 /// Reads a line that is not blank after the others.
@@ -229,13 +269,11 @@ fn add_line(alloc: Global, reader: &mut Reader, bytes: &[u8]) -> Result<(), Line
     ensures bound { IfOk result (λ _. reader.new.rules ≤ MOST_RULES) }
     ensures refused { IfErr result (IsLineError reader.old.names reader.old.rules bytes.now) }
 {
-    let line = read_line(alloc, &mut reader.names, reader.rules, bytes)?;
+    let (line, rules) = read_line(alloc, &mut reader.names, reader.rules, bytes)?;
     let Ok(()) = reader.lines.push(line) else {
         return Err(LineError::Memory);
     };
-    if line.is_rule() {
-        reader.rules += 1;
-    }
+    reader.rules += rules;
     Ok(())
 }
 
@@ -249,10 +287,27 @@ struct Root<'a> {
 
 ghost use Rattle.std.specs.Str.Lines.{lines};
 ghost use Rattle.vpg_diagram.specs.DiagramReading.{after_root, reading, form_of as line_form};
-ghost use Rattle.std.specs.Prelude.{Some};
-ghost use Rattle.vpg_diagram.specs.DiagramText.{RootLine};
-ghost use Rattle.vpg_diagram.specs.LineView.{line_of, lines_of};
+ghost use Rattle.std.specs.Prelude.{Some, option_map};
+ghost use Rattle.vpg_diagram.specs.DiagramText.{RootLine, FormulaLine};
+ghost use Rattle.vpg_diagram.specs.LineView.{line_of, kept_line_of, lines_of};
+ghost use Rattle.vpg_rules.specs.Reading.{named_rule_at};
+ghost use Rattle.vpg_rules.specs.View.{constraint_of};
 ghost use Rattle.vpg_diagram.specs.ReadCode.{IsReadingFault, behind_root};
+
+/// Returns the fault of a first line that begins with the word `rule`.
+fn root_rule(alloc: Global, text: &[u8], number: usize) -> DiagramFault
+    ensures { (rest : List (List ℕ)) →
+        IsReadingFault (after_root number (option_map FormulaLine (named_rule_at text.now)) rest) result }
+{
+    let Ok(names) = Names::new(alloc) else {
+        return DiagramFault::Memory;
+    };
+    match parse_rule(alloc, text, &names) {
+        Ok(_) => DiagramFault::UnknownFeature { line: number },
+        Err(RuleFault::Memory) => DiagramFault::Memory,
+        Err(_) => DiagramFault::Syntax { line: number },
+    }
+}
 
 /// Returns the name in a root line.
 fn root_name(alloc: Global, line: &[u8], number: usize) -> Result<&[u8], DiagramFault>
@@ -260,6 +315,9 @@ fn root_name(alloc: Global, line: &[u8], number: usize) -> Result<&[u8], Diagram
     ensures refused { IfErr result
         (λ e. (rest : List (List ℕ)) → IsReadingFault (after_root number (line_form line.now) rest) e) }
 {
+    if let Some(text) = behind_rule(line) {
+        return Err(root_rule(alloc, text, number));
+    }
     let Some(form) = form_of(alloc, line)? else {
         return Err(DiagramFault::Syntax { line: number });
     };
