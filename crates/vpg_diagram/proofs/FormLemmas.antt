@@ -1,5 +1,5 @@
 -- The bytes of a line, and its form.
-use Rattle.std.proofs.Common.{◌≡◌, ℕ, Bool, true, false, not, ◌&&◌, ◌==◌, cond, List, [], ◌∷◌, ◌++◌, filter, Option, Some, None, codes, bytes_eq, option_map, ◌⊎◌, inl, inr, refl, sym, ap, ap₂, ◌∙◌, subst, arith, eqb-true, append-nil}
+use Rattle.std.proofs.Common.{◌≡◌, ℕ, Bool, true, false, not, ◌&&◌, ◌==◌, cond, List, [], ◌∷◌, ◌++◌, filter, Option, Some, None, codes, bytes_eq, option_map, ◌⊎◌, inl, inr, refl, sym, ap, ap₂, ◌∙◌, subst, arith, eqb-true, append-nil, append_assoc}
 use Rattle.std.specs.List.{AllByRecursion, list_all, slice_split, onto_first}
 use Rattle.std.specs.Char.{is_ascii_digit}
 use Rattle.std.specs.Str.Parse.{digits_value}
@@ -140,6 +140,10 @@ group_sound bytes front back (w ∷ p ∷ i ∷ j ∷ x ∷ xs) (c ∷ cs) f b h
 pub form_sound : (bytes : List ℕ) (f : Form) → form_of bytes ≡ Some f → SpellsForm bytes f
 form_sound bytes f e = by_word (behind_rule bytes) refl e
   where
+    go : (o : Option (List ℕ × List ℕ)) → at_colon bytes ≡ o → form_by_colon bytes o ≡ Some f → SpellsForm bytes f
+    go None q e = plain_sound bytes (words bytes) f refl e
+    go (Some p) q e = group_sound bytes p.0 p.1 (words p.0) (words p.1) f (colon_parts bytes p.0 p.1 q) refl refl e
+
     in_rule : (text : List ℕ) → behind_rule bytes ≡ Some text → (o : Option NamedRule) → named_rule_at text ≡ o → option_map FormulaLine o ≡ Some f → SpellsForm bytes f
     in_rule text w None r e = absurd (cc)
     in_rule text w (Some c) r e =
@@ -150,10 +154,6 @@ form_sound bytes f e = by_word (behind_rule bytes) refl e
     by_word : (o : Option (List ℕ)) → behind_rule bytes ≡ o → form_by_word bytes o ≡ Some f → SpellsForm bytes f
     by_word None w e = go (at_colon bytes) refl e
     by_word (Some text) w e = in_rule text w (named_rule_at text) refl e
-
-    go : (o : Option (List ℕ × List ℕ)) → at_colon bytes ≡ o → form_by_colon bytes o ≡ Some f → SpellsForm bytes f
-    go None q e = plain_sound bytes (words bytes) f refl e
-    go (Some p) q e = group_sound bytes p.0 p.1 (words p.0) (words p.1) f (colon_parts bytes p.0 p.1 q) refl refl e
 
 -- No colon.
 abbrev not_colon : ℕ → Bool
@@ -278,7 +278,7 @@ form_complete bytes (GroupLine p low high (c ∷ cs)) h =
     (form_of_names (p ∷ c ∷ cs) (GroupLine p (digits_value 10 i) (digits_value 10 j) (c ∷ cs)) (members_pass bytes (codes "group" ∷ p ∷ i ∷ j ∷ []) p (c ∷ cs) h.4) ∙
     ap₂ (λ x y. Some (GroupLine p x y (c ∷ cs))) h.2.value h.3.value))
 form_complete bytes (FormulaLine c) h =
-    ap (form_by_word bytes) (ap behind_rule h.bytes_are ∙ parts_rule h.front h.text h.blank h.front_blank h.is_one)
+    ap (form_by_word bytes) (ap behind_rule (h.bytes_are ∙ append_assoc h.front (codes "rule") (h.blank ∷ h.text)) ∙ parts_rule h.front h.text h.blank h.front_blank h.is_one)
     ∙ ap (option_map FormulaLine) (rule_again h.text c h.rule)
 
 -- a line with a form has a word

@@ -1,10 +1,12 @@
 -- The results of reading a line, for the contracts of private functions.
-use Rattle.std.specs.Prelude.{ℕ, ◌≡◌, ◌+◌, ◌≤◌, ◌++◌, length, true, ◌∷◌, [], Bool, List, Some, None, Ok, Err, Result, ◌⊎◌, ⊤}
+use Rattle.std.specs.Prelude.{ℕ, ◌≡◌, ◌+◌, ◌≤◌, ◌++◌, length, true, ◌∷◌, [], Bool, List, Option, Some, None, Ok, Err, Result, ◌⊎◌, ⊤}
 use Rattle.std.specs.Str.Lines.{lines}
-use Rattle.vpg_rules.specs.Constraint.{Constraint}
+use Rattle.vpg_rules.specs.Constraint.{Constraint, renamed}
 use Rattle.vpg_rules.specs.Clauses.{clause_count}
-use Rattle.vpg_rules.specs.Grammar.{NamedRule}
+use Rattle.vpg_rules.specs.Grammar.{NamedRule, index_or_end}
 use Rattle.vpg_rules.specs.Reading.{named_rule_at}
+use Rattle.vpg_rules.specs.View.{constraint_of}
+use Rattle.vpg_rules.specs.declared.rule.Rule.{Rule}
 use Rattle.vpg_diagram.specs.FeatureDiagram.{Line, Formula}
 use Rattle.vpg_diagram.specs.DiagramText.{Form, NamedDiagram}
 use Rattle.vpg_diagram.specs.DiagramReading.{Syntax, Fault, NoRoot, At, place_of_name, children_at, formula_line, line_at, form_of, new_names, rules_in, read_lines, with_root}
@@ -37,6 +39,12 @@ IsChildrenError names parent members fits (Refused kind) =
 abbrev pub IsFormError : List (List ℕ) → ℕ → Form → LineError → Type 0
 IsFormError names rules form Memory = ⊤
 IsFormError names rules form (Refused kind) = line_at names rules form ≡ Err kind
+
+-- whether the text spells a rule, and the rule over indices of names
+abbrev pub IsReadRule : List (List ℕ) → List ℕ → Option Rule → Type 0
+IsReadRule names text None = named_rule_at text ≡ None
+IsReadRule names text (Some rule) =
+    (c : NamedRule) × (named_rule_at text ≡ Some c) × (constraint_of rule ≡ renamed (index_or_end names) c)
 
 -- the rule that a text spells, after lines with these names and this number of rules, and the number of its clauses
 pub record ReadsRule (names : List (List ℕ)) (rules : ℕ) (text : List ℕ) (rule : Constraint ℕ)

@@ -205,7 +205,19 @@ pub(crate) struct Reader {
     rules: usize,
 }
 
-ghost use Rattle.vpg_diagram.specs.ReadCode.{ReadsRule, IsRuleError};
+ghost use Rattle.vpg_diagram.specs.ReadCode.{IsReadRule, ReadsRule, IsRuleError};
+
+/// Returns the rule that a text spells, if it spells one. A name that is not among the names is no feature's index.
+fn read_rule(alloc: Global, names: &Names, text: &[u8]) -> Result<Option<Rule>, AllocError>
+    ensures { IfOk result (IsReadRule names.now text.now) }
+{
+    match parse_rule(alloc, text, names) {
+        Ok(rule) => Ok(Some(rule)),
+        Err(RuleFault::Syntax { .. }) => Ok(None),
+        Err(RuleFault::TooDeep { .. }) => Ok(None),
+        Err(RuleFault::Memory) => Err(AllocError),
+    }
+}
 
 /// Returns the rule of a formula and the number of its clauses, after this number of rules.
 fn formula_line(
@@ -216,12 +228,11 @@ fn formula_line(
 ) -> Result<(Rule, usize), LineError>
     requires { rules ≤ MOST_RULES }
     ensures line { IfOk result (λ x. ReadsRule names.now rules text.now (constraint_of x.0) x.1) }
+    ensures bound { IfOk result (λ x. rules + x.1 ≤ MOST_RULES) }
     ensures refused { IfErr result (IsRuleError names.now rules text.now) }
 {
-    let rule = match parse_rule(alloc, text, names) {
-        Ok(rule) => rule,
-        Err(RuleFault::Memory) => return Err(LineError::Memory),
-        Err(_) => return Err(LineError::Refused(LineFault::Syntax)),
+    let Some(rule) = read_rule(alloc, names, text)? else {
+        return Err(LineError::Refused(LineFault::Syntax));
     };
     if !rule.is_below(names.len()) {
         return Err(LineError::Refused(LineFault::UnknownFeature));
@@ -249,6 +260,7 @@ fn read_line(
 ) -> Result<(Kept, usize), LineError>
     requires { rules ≤ MOST_RULES }
     ensures line { IfOk result (λ x. ReadsLine names.old rules bytes.now names.new (kept_line_of x.0) x.1) }
+    ensures bound { IfOk result (λ x. rules + x.1 ≤ MOST_RULES) }
     ensures refused { IfErr result (IsLineError names.old rules bytes.now) }
 {
     if let Some(text) = behind_rule(bytes) {
@@ -302,10 +314,10 @@ fn root_rule(alloc: Global, text: &[u8], number: usize) -> DiagramFault
     let Ok(names) = Names::new(alloc) else {
         return DiagramFault::Memory;
     };
-    match parse_rule(alloc, text, &names) {
-        Ok(_) => DiagramFault::UnknownFeature { line: number },
-        Err(RuleFault::Memory) => DiagramFault::Memory,
-        Err(_) => DiagramFault::Syntax { line: number },
+    match read_rule(alloc, &names, text) {
+        Ok(Some(_)) => DiagramFault::UnknownFeature { line: number },
+        Ok(None) => DiagramFault::Syntax { line: number },
+        Err(_) => DiagramFault::Memory,
     }
 }
 
