@@ -338,3 +338,20 @@ rules_of_line names rules (ExcludesLine a b) l e = go (place_of_name names a) (p
         subst (λ (x : Line). ◌≡◌ {A = ℕ} (rules_of x) 1) w refl
 rules_of_line names rules (FormulaLine c) l e =
     subst (λ (x : Line). ◌≡◌ {A = ℕ} (rules_of x) (clause_count c)) (formula_sound names rules c l e).line_is (count_renamed (index_or_end names) c)
+
+-- the rules of a line have room
+rule_room : (rules : ℕ) (o q : Option ℕ) (line : ℕ → ℕ → Line) (l : Line) → rule_at rules o q line ≡ Ok l → rules + 1 ≤ 16384
+rule_room rules None q line l e = absurd (cc)
+rule_room rules (Some i) None line l e = absurd (cc)
+rule_room rules (Some i) (Some j) line l e = let under : rules < 16384 = ltb-true rules 16384 (checked_ok (nat_lt rules 16384) TooMany (Ok (line i j)) l e).0 in omega arith
+
+pub room_after : (names : List (List ℕ)) (rules : ℕ) (form : Form) (l : Line) → rules ≤ 16384 → line_at names rules form ≡ Ok l → rules + rules_in form ≤ 16384
+room_after names rules (RootLine r) l m e = absurd (cc)
+room_after names rules (MandatoryLine p c) l m e = omega arith
+room_after names rules (OptionalLine p c) l m e = omega arith
+room_after names rules (AlternativeLine p cs) l m e = omega arith
+room_after names rules (OrLine p cs) l m e = omega arith
+room_after names rules (GroupLine p low high cs) l m e = omega arith
+room_after names rules (RequiresLine a b) l m e = rule_room rules (place_of_name names a) (place_of_name names b) Requires l e
+room_after names rules (ExcludesLine a b) l m e = rule_room rules (place_of_name names a) (place_of_name names b) Excludes l e
+room_after names rules (FormulaLine c) l m e = (formula_sound names rules c l e).room

@@ -1,5 +1,5 @@
 -- Reading the rule of a formula.
-use Rattle.std.proofs.Common.{◌≡◌, ℕ, ◌+◌, ◌<◌, ◌≤◌, Bool, true, false, nat_le, List, [], ◌∷◌, length, map, Option, Some, None, Result, Ok, Err, refl, sym, ap, ◌∙◌, inl, inr, arith}
+use Rattle.std.proofs.Common.{◌≡◌, ℕ, ◌+◌, ◌<◌, ◌≤◌, Bool, true, false, nat_le, List, [], ◌∷◌, length, map, Option, Some, None, Result, Ok, Err, refl, sym, ap, ◌∙◌, inl, inr, arith, append-nil}
 use Rattle.std.specs.Prelude.{◌≢◌, option_map}
 use Rattle.std.proofs.lemmas.Bool.{both_ways, le-leb}
 use Rattle.std.proofs.lemmas.Bool.Decides.{nat_tests}
@@ -17,9 +17,11 @@ use Rattle.vpg_rules.proofs.Levels.{rule_found, rule_again}
 use Rattle.vpg_diagram.specs.FeatureDiagram.{Line, Formula}
 use Rattle.vpg_diagram.specs.Clauses.{feature_out, literal_of, rule_clause}
 use Rattle.vpg_diagram.specs.DiagramText.{FormulaLine}
-use Rattle.vpg_diagram.specs.DiagramReading.{LineFault, UnknownFeature, Syntax, TooManyClauses, TooMany, checked, are_known, formula_line, At, after_root}
-use Rattle.vpg_diagram.specs.ReadCode.{IsReadRule, IsReadingFault}
+use Rattle.vpg_diagram.specs.DiagramReading.{LineFault, UnknownFeature, Syntax, TooManyClauses, TooMany, checked, are_known, formula_line, At, after_root, behind_rule, form_by_word}
+use Rattle.vpg_diagram.specs.ReadCode.{IsReadRule, ReadsRule, IsRuleError, ReadsLine, IsLineError, IsReadingFault}
 use Rattle.vpg_diagram.specs.declared.clause.Literal.{Literal}
+use Rattle.vpg_diagram.specs.declared.fault.LineError.{LineError}
+use Rattle.vpg_diagram.specs.declared.fault.LineError.TheVariants.{Memory, Refused}
 use Rattle.vpg_diagram.specs.declared.fault.DiagramFault.TheVariants as whole
 use Rattle.vpg_diagram.proofs.RuleLemmas.{known_each, each_known}
 
@@ -39,21 +41,21 @@ not_syntax at e = cc
 not_deep : (at : ℕ) → faults.TooDeep at ≡ faults.Memory → ⊥
 not_deep at e = cc
 
-pub none_at_syntax : (text : List ℕ) (at : ℕ) → ((c : NamedRule) → Spells text c → faults.Syntax at ≡ faults.Memory) → named_rule_at text ≡ None
-none_at_syntax text at only = read_none text (faults.Syntax at) (not_syntax at) only
+pub none_at_syntax : (text : List ℕ) (fault : RuleFault) (at : ℕ) → fault ≡ faults.Syntax at → ((c : NamedRule) → Spells text c → fault ≡ faults.Memory) → named_rule_at text ≡ None
+none_at_syntax text fault at is only = read_none text fault (λ m. not_syntax at (sym is ∙ m)) only
 
-pub none_at_deep : (text : List ℕ) (at : ℕ) → ((c : NamedRule) → Spells text c → faults.TooDeep at ≡ faults.Memory) → named_rule_at text ≡ None
-none_at_deep text at only = read_none text (faults.TooDeep at) (not_deep at) only
+pub none_at_deep : (text : List ℕ) (fault : RuleFault) (at : ℕ) → fault ≡ faults.TooDeep at → ((c : NamedRule) → Spells text c → fault ≡ faults.Memory) → named_rule_at text ≡ None
+none_at_deep text fault at is only = read_none text fault (λ m. not_deep at (sym is ∙ m)) only
 
 module _ (names : List (List ℕ)) (rules : ℕ) (c : NamedRule) where
   last : Result Line LineFault
   last = Ok (Formula (renamed (index_or_end names) c))
 
   pub line_unknown : (IsBelow (length names) (renamed (index_or_end names) c) → ⊥) → formula_line names rules c ≡ Err UnknownFeature
-  line_unknown no = go (are_known names (features_in c)) refl
+  line_unknown absent = go (are_known names (features_in c)) refl
     where
       go : (t : Bool) → are_known names (features_in c) ≡ t → checked t UnknownFeature (checked (nat_le (clause_count c) 64) TooManyClauses (checked (nat_le (rules + clause_count c) 16384) TooMany (Ok (Formula (renamed (index_or_end names) c))))) ≡ Err UnknownFeature
-      go true e = absurd (no (renamed_below (length names) (index_or_end names) c (known_each names (features_in c) e)))
+      go true e = absurd (absent (renamed_below (length names) (index_or_end names) c (known_each names (features_in c) e)))
       go false e = refl
 
   module _ (below : IsBelow (length names) (renamed (index_or_end names) c)) where
@@ -62,19 +64,19 @@ module _ (names : List (List ℕ)) (rules : ℕ) (c : NamedRule) where
 
     pub line_long : 64 < clause_count c → formula_line names rules c ≡ Err TooManyClauses
     line_long lt =
-        let no : nat_le (clause_count c) 64 ≡ false = over (clause_count c) 64 lt in
+        let large : nat_le (clause_count c) 64 ≡ false = over (clause_count c) 64 lt in
         ap (λ (t : Bool). checked t UnknownFeature (checked (nat_le (clause_count c) 64) TooManyClauses (checked (nat_le (rules + clause_count c) 16384) TooMany (Ok (Formula (renamed (index_or_end names) c)))))) known
-        ∙ ap (λ (t : Bool). checked t TooManyClauses (checked (nat_le (rules + clause_count c) 16384) TooMany (Ok (Formula (renamed (index_or_end names) c))))) no
+        ∙ ap (λ (t : Bool). checked t TooManyClauses (checked (nat_le (rules + clause_count c) 16384) TooMany (Ok (Formula (renamed (index_or_end names) c))))) large
       where
         over : (n m : ℕ) → m < n → nat_le n m ≡ false
         over n m lt = grind (arith, nat_tests)
 
     pub line_full : clause_count c ≤ 64 → 16384 < rules + clause_count c → formula_line names rules c ≡ Err TooMany
     line_full le lt =
-        let no : nat_le (rules + clause_count c) 16384 ≡ false = over (rules + clause_count c) 16384 lt in
+        let large : nat_le (rules + clause_count c) 16384 ≡ false = over (rules + clause_count c) 16384 lt in
         ap (λ (t : Bool). checked t UnknownFeature (checked (nat_le (clause_count c) 64) TooManyClauses (checked (nat_le (rules + clause_count c) 16384) TooMany (Ok (Formula (renamed (index_or_end names) c)))))) known
         ∙ ap (λ (t : Bool). checked t TooManyClauses (checked (nat_le (rules + clause_count c) 16384) TooMany (Ok (Formula (renamed (index_or_end names) c))))) (le-leb (clause_count c) 64 le)
-        ∙ ap (λ (t : Bool). checked t TooMany (Ok (Formula (renamed (index_or_end names) c)))) no
+        ∙ ap (λ (t : Bool). checked t TooMany (Ok (Formula (renamed (index_or_end names) c)))) large
       where
         over : (n m : ℕ) → m < n → nat_le n m ≡ false
         over n m lt = grind (arith, nat_tests)
@@ -102,5 +104,21 @@ clause_empty [] xs e z = refl
 clause_empty (l ∷ ls) xs e z = absurd (omega (arith, ap length e))
 
 pub clause_filled : (ls : List RuleLiteral) (xs : List Literal) → xs ≡ map literal_of ls → (length xs ≡ 0 → ⊥) → xs ≡ rule_clause ls
-clause_filled [] xs e no = absurd (no (ap length e))
-clause_filled (l ∷ ls) xs e no = e
+clause_filled [] xs e some = absurd (some (ap length e))
+clause_filled (l ∷ ls) xs e some = e
+
+-- a line that begins with the word
+pub rule_line : (names after : List (List ℕ)) (rules : ℕ) (bytes text : List ℕ) (rule : Constraint ℕ) (count : ℕ) → behind_rule bytes ≡ Some text → after ≡ names → ReadsRule names rules text rule count
+    → ReadsLine names rules bytes after (Formula rule) count
+rule_line names after rules bytes text rule count w n r = record {
+  form = FormulaLine r.named;
+  form_is = ap (form_by_word bytes) w ∙ ap (option_map FormulaLine) r.named_is;
+  line_is = r.line_is;
+  names_are = n ∙ sym (append-nil names);
+  count_is = r.count_is;
+}
+
+pub rule_refused : (names : List (List ℕ)) (rules : ℕ) (bytes text : List ℕ) (e : LineError) → behind_rule bytes ≡ Some text → IsRuleError names rules text e → IsLineError names rules bytes e
+rule_refused names rules bytes text Memory w h = tt
+rule_refused names rules bytes text (Refused kind) w (inl h) = inl (ap (form_by_word bytes) w ∙ ap (option_map FormulaLine) h.0, h.1)
+rule_refused names rules bytes text (Refused kind) w (inr h) = inr (FormulaLine h.0, ap (form_by_word bytes) w ∙ ap (option_map FormulaLine) h.1, h.2)

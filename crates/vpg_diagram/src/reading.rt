@@ -1,7 +1,8 @@
 //! Reading the lines of a diagram.
 
 ghost use Rattle.std.specs.Prelude.{◌≡◌, ◌+◌, ◌++◌, ◌∷◌, [], ◌<◌, ◌≤◌, ◌^◌, ℕ, List, Ok, Err, length, IfOk, IfErr, nat_le, ◌&&◌};
-ghost use Rattle.vpg_diagram.specs.DiagramReading.{are_new, place_of_name, rule_at, line_at, new_names};
+ghost use Rattle.vpg_diagram.specs.DiagramText.{rules_of};
+ghost use Rattle.vpg_diagram.specs.DiagramReading.{behind_rule, are_new, place_of_name, rule_at, line_at, new_names};
 ghost use Rattle.vpg_diagram.specs.FeatureDiagram.{Line as DiagramLine};
 ghost use Rattle.vpg_diagram.specs.FormView.{texts, view_form};
 
@@ -250,6 +251,24 @@ fn formula_line(
 
 ghost use Rattle.vpg_diagram.specs.ReadCode.{ReadsLine, AddsLine, IsLineError};
 
+/// Reads a line that is neither blank nor a rule, after this number of rules, and adds its new names.
+fn read_plain(
+    alloc: Global,
+    names: &mut Names,
+    rules: usize,
+    bytes: &[u8],
+) -> Result<Line, LineError>
+    requires { behind_rule bytes.now ≡ None }
+    ensures line { IfOk result
+        (λ line. ReadsLine names.old rules bytes.now names.new (line_of line) (rules_of (line_of line))) }
+    ensures refused { IfErr result (IsLineError names.old rules bytes.now) }
+{
+    let Some(form) = form_of(alloc, bytes)? else {
+        return Err(LineError::Refused(LineFault::Syntax));
+    };
+    line_at(alloc, names, rules, &form)
+}
+
 /// Reads a line that is not blank, after this number of rules, and adds its new names. Returns the number of its rules
 /// too.
 fn read_line(
@@ -267,10 +286,7 @@ fn read_line(
         let (rule, count) = formula_line(alloc, names, rules, text)?;
         return Ok((Kept::Formula(rule), count));
     }
-    let Some(form) = form_of(alloc, bytes)? else {
-        return Err(LineError::Refused(LineFault::Syntax));
-    };
-    let line = line_at(alloc, names, rules, &form)?;
+    let line = read_plain(alloc, names, rules, bytes)?;
     Ok((Kept::Line(line), line.rules()))
 }
 
@@ -299,7 +315,7 @@ struct Root<'a> {
 
 ghost use Rattle.std.specs.Str.Lines.{lines};
 ghost use Rattle.vpg_diagram.specs.DiagramReading.{after_root, reading, form_of as line_form};
-ghost use Rattle.std.specs.Prelude.{Some, option_map};
+ghost use Rattle.std.specs.Prelude.{Some, None, option_map};
 ghost use Rattle.vpg_diagram.specs.DiagramText.{RootLine, FormulaLine};
 ghost use Rattle.vpg_diagram.specs.LineView.{line_of, kept_line_of, lines_of};
 ghost use Rattle.vpg_rules.specs.Reading.{named_rule_at};
@@ -321,21 +337,31 @@ fn root_rule(alloc: Global, text: &[u8], number: usize) -> DiagramFault
     }
 }
 
-/// Returns the name in a root line.
-fn root_name(alloc: Global, line: &[u8], number: usize) -> Result<&[u8], DiagramFault>
+/// Returns the name in a first line that is no rule.
+fn plain_root(alloc: Global, line: &[u8], number: usize) -> Result<&[u8], DiagramFault>
+    requires { behind_rule line.now ≡ None }
     ensures name { IfOk result (λ name. line_form line.now ≡ Some (RootLine name.now)) }
     ensures refused { IfErr result
         (λ e. (rest : List (List ℕ)) → IsReadingFault (after_root number (line_form line.now) rest) e) }
 {
-    if let Some(text) = behind_rule(line) {
-        return Err(root_rule(alloc, text, number));
-    }
     let Some(form) = form_of(alloc, line)? else {
         return Err(DiagramFault::Syntax { line: number });
     };
     match form {
         LineForm::Root(name) => Ok(name),
         _ => Err(DiagramFault::UnknownFeature { line: number }),
+    }
+}
+
+/// Returns the name in a root line.
+fn root_name(alloc: Global, line: &[u8], number: usize) -> Result<&[u8], DiagramFault>
+    ensures name { IfOk result (λ name. line_form line.now ≡ Some (RootLine name.now)) }
+    ensures refused { IfErr result
+        (λ e. (rest : List (List ℕ)) → IsReadingFault (after_root number (line_form line.now) rest) e) }
+{
+    match behind_rule(line) {
+        Some(text) => Err(root_rule(alloc, text, number)),
+        None => plain_root(alloc, line, number),
     }
 }
 
