@@ -1,5 +1,6 @@
 -- The kept line of a line of a diagram.
-use Rattle.std.proofs.Common.{◌≡◌, ℕ, zero, suc, subst, ◌+◌, ◌-◌, ◌<◌, List, [], ◌∷◌, length, map, get_or, refl, sym, ap, ap₂, ◌∙◌, arith}
+use Rattle.std.proofs.Common.{◌≡◌, ℕ, zero, suc, subst, ◌+◌, ◌-◌, ◌<◌, ◌≤◌, drop, List, [], ◌∷◌, length, map, get_or, refl, sym, ap, ap₂, ◌∙◌, arith}
+use Rattle.std.proofs.lemmas.List.{drop_more}
 use Rattle.std.proofs.lemmas.List.FromFn.{length-range_with_len, get_or-range_with_len}
 use Rattle.vpg_diagram.specs.FeatureDiagram.{Line, Mandatory, Optional, Alternative, Or, Group, Requires, Excludes, Formula, introduced, StandsAfter, StandAfter, IsDiagram}
 use Rattle.vpg_diagram.specs.LineView.{members_of, line_of, kept_line_of, lines_of}
@@ -80,3 +81,10 @@ pub stands_at : (known : ℕ) (lines : List whole.Kept) (i : ℕ) (c : whole.Kep
 stands_at known [] i c s lt is = absurd (omega arith)
 stands_at known (x ∷ xs) zero c s lt is = (known, subst (λ (y : whole.Kept). StandsAfter known (kept_line_of y)) (sym is) s.0)
 stands_at known (x ∷ xs) (suc i) c s lt is = stands_at (known + length (introduced (kept_line_of x))) xs i c s.1 (omega arith) is
+
+-- the next line and those behind it
+pub lines_before : (lines : List whole.Kept) (n : ℕ) (c : whole.Kept) → 0 < n → n ≤ length lines → c ≡ get_or lines (n - 1) c → lines_of (drop (n - 1) lines) ≡ kept_line_of c ∷ lines_of (drop n lines)
+lines_before lines n c some le is =
+    let next : n - 1 + 1 ≡ n = omega arith in
+    ap lines_of (drop_more lines (n - 1) c (omega arith) ∙ ap (λ (x : whole.Kept). x ∷ drop (n - 1 + 1) lines) (sym is))
+    ∙ ap (λ (k : ℕ). kept_line_of c ∷ lines_of (drop k lines)) next
