@@ -139,7 +139,8 @@ fn factor<'t>(
     depth: usize,
 ) -> Result<(Rule, &'t [u8]), RuleFault>
     requires { length text.now ≤ whole }
-    ensures gives { Gives (λ x. (constraint_of x.0, x.1.now)) result (factor_at (index_or_end names.now) (suc depth) text.now) }
+    ensures gives { Gives (λ x. (constraint_of x.0, x.1.now)) result
+        (factor_at (index_or_end names.now) (suc depth) text.now) }
     ensures shorter { IfOk result (λ x. length x.1.now ≤ length text.now) }
 {
     let word_text = after_blanks(text);
@@ -237,7 +238,8 @@ fn implication<'t>(
     depth: usize,
 ) -> Result<(Rule, &'t [u8]), RuleFault>
     requires { length text.now ≤ whole }
-    ensures gives { Gives (λ x. (constraint_of x.0, x.1.now)) result (implication_at (index_or_end names.now) (suc depth) text.now) }
+    ensures gives { Gives (λ x. (constraint_of x.0, x.1.now)) result
+        (implication_at (index_or_end names.now) (suc depth) text.now) }
     ensures shorter { IfOk result (λ x. length x.1.now ≤ length text.now) }
 {
     let (left, rest) = disjunction(alloc, names, text, whole, depth)?;
@@ -269,7 +271,8 @@ fn rule<'t>(
     depth: usize,
 ) -> Result<(Rule, &'t [u8]), RuleFault>
     requires { length text.now ≤ whole }
-    ensures gives { Gives (λ x. (constraint_of x.0, x.1.now)) result (rule_at (index_or_end names.now) (suc depth) text.now) }
+    ensures gives { Gives (λ x. (constraint_of x.0, x.1.now)) result
+        (rule_at (index_or_end names.now) (suc depth) text.now) }
     ensures shorter { IfOk result (λ x. length x.1.now ≤ length text.now) }
 {
     let (left, rest) = implication(alloc, names, text, whole, depth)?;

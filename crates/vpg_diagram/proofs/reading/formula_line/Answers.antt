@@ -12,8 +12,12 @@ pub returns-then-not-is_below-clause-refused : goal.returns-then-not-is_below-cl
 returns-then-not-is_below-clause-refused c =
     let names = c.args.names.now in
     let h = subst (IsReadRule names c.args.text.now) c.in-Some.is c.in_ok-rule.ensures in
-    inr (h.0, h.1, line_unknown names c.args.rules h.0 (λ b.
-        let yes = c.is_below.ensures.1 (subst (λ (k : ℕ). IsBelow k (constraint_of c.in-Some.rule)) (sym c.len.ensures.len) (subst (IsBelow (length names)) (sym h.2) b)) in cc))
+    inr (
+      h.0,
+      h.1,
+      line_unknown names c.args.rules h.0 (λ b.
+          let yes = c.is_below.ensures.1 (subst (λ (k : ℕ). IsBelow k (constraint_of c.in-Some.rule)) (sym c.len.ensures.len) (subst (IsBelow (length names)) (sym h.2) b)) in cc),
+    )
 
 pub returns-in-Err-TooMany-clause-refused : goal.returns-in-Err-TooMany-clause-refused
 returns-in-Err-TooMany-clause-refused c =
