@@ -1,13 +1,19 @@
 -- Faults of a text.
-use Rattle.std.proofs.Common.{◌≡◌, ◌≢◌, ℕ, zero, suc, ◌+◌, ◌-◌, ◌<◌, ◌≤◌, Bool, true, false, not, ◌&&◌, cond, nat_lt, nat_le, List, [], ◌∷◌, ◌++◌, length, map, filter, Option, Some, None, Result, Ok, Err, IsTrue, slice_get, count_by, ◌⊎◌, inl, inr, refl, sym, ap, ap₂, ◌∙◌, subst, subst₂, arith, append_assoc, append-nil, length-append, one-add}
+use Rattle.std.proofs.Common.{◌≡◌, ◌≢◌, ℕ, zero, suc, ◌+◌, ◌-◌, ◌<◌, ◌≤◌, Bool, true, false, not, ◌&&◌, cond, nat_lt, nat_le, List, [], ◌∷◌, ◌++◌, length, map, filter, Option, Some, None, Result, Ok, Err, IsTrue, slice_get, sum_by, ◌⊎◌, inl, inr, refl, sym, ap, ap₂, ◌∙◌, subst, subst₂, arith, append_assoc, append-nil, length-append, one-add}
 use Rattle.std.specs.List.{AllByRecursion, AllZip}
 use Rattle.std.specs.Str.Lines.{lines}
 use Rattle.std.proofs.lemmas.Bool.{both_ways, leb-false, ltb-false, leb-true, and_cases}
-use Rattle.vpg_diagram.specs.FeatureDiagram.{Line, Mandatory, Optional, Alternative, Or, Group, Requires, Excludes}
+use Rattle.std.proofs.lemmas.Option.{slice_get_within}
+use Rattle.vpg_rules.specs.Constraint.{renamed, features_in}
+use Rattle.vpg_rules.specs.Clauses.{clause_count}
+use Rattle.vpg_rules.specs.Grammar.{NamedRule, index_or_end}
+use Rattle.vpg_diagram.proofs.Lists.{All-implies}
+use Rattle.vpg_diagram.proofs.RuleLemmas.{end_at, before_end, known_each, each_known}
+use Rattle.vpg_diagram.specs.FeatureDiagram.{Line, Mandatory, Optional, Alternative, Or, Group, Requires, Excludes, Formula}
 use Rattle.vpg_features.specs.Names.{AreDistinct}
-use Rattle.vpg_diagram.specs.DiagramText.{Form, RootLine, MandatoryLine, OptionalLine, AlternativeLine, OrLine, GroupLine, RequiresLine, ExcludesLine, SpellsForm, NamedDiagram, is_rule}
-use Rattle.vpg_diagram.specs.DiagramReading.{LineFault, Syntax, TwoRoots, UnknownFeature, TwoParents, TooMany, BadRange, Fault, NoRoot, At, checked, place_of_name, are_new, children_at, rule_at, line_at, form_of, new_names, rules_in, with_line, with_root, after_line, after_form, read_lines, after_root, read_root, reading}
-use Rattle.vpg_diagram.specs.TextFaults.{not_blank, AreLinesOf, earlier_names, IsOther, IsAmong, HasBadRange, IsFormFault, IsLineFault, IsRootFault, IsFaultAt, fault_at, IsFirstFault}
+use Rattle.vpg_diagram.specs.DiagramText.{Form, RootLine, MandatoryLine, OptionalLine, AlternativeLine, OrLine, GroupLine, RequiresLine, ExcludesLine, FormulaLine, SpellsForm, NamedDiagram, rules_of}
+use Rattle.vpg_diagram.specs.DiagramReading.{LineFault, Syntax, TwoRoots, UnknownFeature, TwoParents, TooManyClauses, TooMany, BadRange, Fault, NoRoot, At, checked, place_of_name, are_new, children_at, rule_at, are_known, formula_line, line_at, form_of, new_names, rules_in, with_line, with_root, after_line, after_form, read_lines, after_root, read_root, reading}
+use Rattle.vpg_diagram.specs.TextFaults.{not_blank, AreLinesOf, earlier_names, IsOther, IsAmong, HasBadRange, HasManyClauses, IsFormFault, IsLineFault, IsRootFault, IsFaultAt, fault_at, IsFirstFault}
 use Rattle.vpg_diagram.specs.ReadCode.{fault_of}
 use Rattle.vpg_diagram.proofs.NameLemmas.{AreApart, apart_from_distinct, distinct_from_apart, place_some, place_none, new_to_distinct, distinct_to_new}
 use Rattle.vpg_diagram.proofs.FormLemmas.{form_sound, form_complete}
@@ -16,9 +22,9 @@ use Rattle.vpg_diagram.proofs.TextLemmas.{chosen_way, some_names, count_rules, r
 
 -- what is refused of children
 children_fault : (names : List (List ℕ)) (rules : ℕ) (form : Form) (parent : List ℕ) (line : ℕ → List ℕ → Line) (fits : Bool) (kind : LineFault) →
-    AreApart names → IsOther form → earlier_names form ≡ parent ∷ [] → (fits ≡ false → HasBadRange form) →
+    AreApart names → IsOther form → earlier_names form ≡ parent ∷ [] → (fits ≡ false → HasBadRange form) → (HasManyClauses form → ⊥) →
     children_at names (place_of_name names parent) (new_names form) line fits ≡ Err kind → IsFormFault names rules form kind
-children_fault names rules form parent line fits kind u o early bad e = go (place_of_name names parent) refl e
+children_fault names rules form parent line fits kind u o early bad not_many e = go (place_of_name names parent) refl e
   where
     ok : ℕ → Result Line LineFault
     ok k = Ok (line k (Rattle.std.specs.List.range_with_len (length names) (length (new_names form))))
@@ -36,7 +42,7 @@ children_fault names rules form parent line fits kind u o early bad e = go (plac
     at_few k p n true f e = at_range k p n (leb-true (length names + length (new_names form)) 512 f) fits refl e
     at_few k p n false f e =
         let w : TooMany ≡ kind = cc in
-        subst (IsFormFault names rules form) w (o, among k p, distinct_from_apart (names ++ new_names form) (new_to_distinct names (new_names form) u n), inl (leb-false (length names + length (new_names form)) 512 f))
+        subst (IsFormFault names rules form) w (o, among k p, distinct_from_apart (names ++ new_names form) (new_to_distinct names (new_names form) u n), not_many, inl (leb-false (length names + length (new_names form)) 512 f))
 
     at_new : (k : ℕ) → place_of_name names parent ≡ Some k → (b : Bool) → are_new names (new_names form) ≡ b → checked b TwoParents (checked (nat_le (length names + length (new_names form)) 512) TooMany (checked fits BadRange (ok k))) ≡ Err kind → IsFormFault names rules form kind
     at_new k p true f e = at_few k p f (nat_le (length names + length (new_names form)) 512) refl e
@@ -51,9 +57,9 @@ children_fault names rules form parent line fits kind u o early bad e = go (plac
     go (Some k) p e = at_new k p (are_new names (new_names form)) refl e
 
 rule_fault : (names : List (List ℕ)) (rules : ℕ) (form : Form) (a b : List ℕ) (line : ℕ → ℕ → Line) (kind : LineFault) →
-    AreApart names → IsOther form → earlier_names form ≡ a ∷ b ∷ [] → new_names form ≡ [] → ◌≡◌ {A = ℕ} (rules_in form) 1 →
+    AreApart names → IsOther form → earlier_names form ≡ a ∷ b ∷ [] → new_names form ≡ [] → ◌≡◌ {A = ℕ} (rules_in form) 1 → (HasManyClauses form → ⊥) →
     rule_at rules (place_of_name names a) (place_of_name names b) line ≡ Err kind → IsFormFault names rules form kind
-rule_fault names rules form a b line kind u o early new one e = go (place_of_name names a) (place_of_name names b) refl refl e
+rule_fault names rules form a b line kind u o early new one not_many e = go (place_of_name names a) (place_of_name names b) refl refl e
   where
     at_room : (i j : ℕ) → place_of_name names a ≡ Some i → place_of_name names b ≡ Some j → (t : Bool) → nat_lt rules 16384 ≡ t → checked t TooMany (Ok (line i j)) ≡ Err kind → IsFormFault names rules form kind
     at_room i j p q true f e = absurd (cc)
@@ -64,6 +70,7 @@ rule_fault names rules form a b line kind u o early new one e = go (place_of_nam
           o,
           subst (AllByRecursion (IsAmong names)) (sym early) ((i, place_some names a i p), ((j, place_some names b j q), tt)),
           subst AreDistinct (sym (ap (λ x. names ++ x) new ∙ append-nil names)) (distinct_from_apart names u),
+          not_many,
           inr (omega arith),
         )
 
@@ -76,6 +83,43 @@ rule_fault names rules form a b line kind u o early new one e = go (place_of_nam
         subst (IsFormFault names rules form) w (o, λ all. let two = subst (AllByRecursion (IsAmong names)) early all in place_none names b q two.1.0.0 two.1.0.1)
     go (Some i) (Some j) p q e = at_room i j p q (nat_lt rules 16384) refl e
 
+-- what is refused of a formula
+formula_fault : (names : List (List ℕ)) (rules : ℕ) (c : NamedRule) (kind : LineFault) → AreApart names → formula_line names rules c ≡ Err kind → IsFormFault names rules (FormulaLine c) kind
+formula_fault names rules c kind u e = at_names (are_known names (features_in c)) refl e
+  where
+    distinct : AreDistinct names
+    distinct = distinct_from_apart names u
+
+    last : Result Line LineFault
+    last = Ok (Formula (renamed (index_or_end names) c))
+
+    alone : AreDistinct (names ++ [])
+    alone = subst AreDistinct (sym (append-nil names)) distinct
+
+    among : are_known names (features_in c) ≡ true → AllByRecursion (IsAmong names) (features_in c)
+    among f = All-implies (λ w. index_or_end names w < length names) (IsAmong names) (features_in c) (λ w lt. (index_or_end names w, before_end names w lt)) (known_each names (features_in c) f)
+
+    there : (w : List ℕ) → IsAmong names w → index_or_end names w < length names
+    there w h = subst (λ (k : ℕ). k < length names) (sym (end_at names w h.0 distinct h.1)) (slice_get_within names h.0 w h.1)
+
+    at_room : are_known names (features_in c) ≡ true → clause_count c ≤ 64 → (t : Bool) → nat_le (rules + clause_count c) 16384 ≡ t → checked t TooMany last ≡ Err kind → IsFormFault names rules (FormulaLine c) kind
+    at_room f few true g e = absurd (cc)
+    at_room f few false g e =
+        let w : TooMany ≡ kind = cc in
+        subst (IsFormFault names rules (FormulaLine c)) w (tt, among f, alone, λ many. absurd (omega arith), inr (leb-false (rules + clause_count c) 16384 g))
+
+    at_few : are_known names (features_in c) ≡ true → (t : Bool) → nat_le (clause_count c) 64 ≡ t → checked t TooManyClauses (checked (nat_le (rules + clause_count c) 16384) TooMany last) ≡ Err kind → IsFormFault names rules (FormulaLine c) kind
+    at_few f true g e = at_room f (leb-true (clause_count c) 64 g) (nat_le (rules + clause_count c) 16384) refl e
+    at_few f false g e =
+        let w : TooManyClauses ≡ kind = cc in
+        subst (IsFormFault names rules (FormulaLine c)) w (tt, among f, alone, leb-false (clause_count c) 64 g)
+
+    at_names : (t : Bool) → are_known names (features_in c) ≡ t → checked t UnknownFeature (checked (nat_le (clause_count c) 64) TooManyClauses (checked (nat_le (rules + clause_count c) 16384) TooMany last)) ≡ Err kind → IsFormFault names rules (FormulaLine c) kind
+    at_names true f e = at_few f (nat_le (clause_count c) 64) refl e
+    at_names false f e =
+        let w : UnknownFeature ≡ kind = cc in
+        subst (IsFormFault names rules (FormulaLine c)) w (tt, λ all. both_ways (are_known names (features_in c)) f (each_known names (features_in c) (All-implies (IsAmong names) (λ w. index_or_end names w < length names) (features_in c) there all)))
+
 bad_range : (p : List ℕ) (low high : ℕ) (cs : List (List ℕ)) → (nat_le low high && nat_le high (length cs)) ≡ false → HasBadRange (GroupLine p low high cs)
 bad_range p low high cs e = go (and_cases (nat_le low high) (nat_le high (length cs)) e)
   where
@@ -85,20 +129,22 @@ bad_range p low high cs e = go (and_cases (nat_le low high) (nat_le high (length
 
 pub form_fault : (names : List (List ℕ)) (rules : ℕ) (form : Form) (kind : LineFault) → AreApart names → line_at names rules form ≡ Err kind → IsFormFault names rules form kind
 form_fault names rules (RootLine r) kind u e = let w : TwoRoots ≡ kind = cc in subst (IsFormFault names rules (RootLine r)) w (λ o. o)
-form_fault names rules (MandatoryLine p c) kind u e = children_fault names rules (MandatoryLine p c) p (λ k _. Mandatory k (length names)) true kind u tt refl (λ f. absurd (cc)) e
-form_fault names rules (OptionalLine p c) kind u e = children_fault names rules (OptionalLine p c) p (λ k _. Optional k (length names)) true kind u tt refl (λ f. absurd (cc)) e
-form_fault names rules (AlternativeLine p cs) kind u e = children_fault names rules (AlternativeLine p cs) p Alternative true kind u tt refl (λ f. absurd (cc)) e
-form_fault names rules (OrLine p cs) kind u e = children_fault names rules (OrLine p cs) p Or true kind u tt refl (λ f. absurd (cc)) e
+form_fault names rules (MandatoryLine p c) kind u e = children_fault names rules (MandatoryLine p c) p (λ k _. Mandatory k (length names)) true kind u tt refl (λ f. absurd (cc)) (λ h. h) e
+form_fault names rules (OptionalLine p c) kind u e = children_fault names rules (OptionalLine p c) p (λ k _. Optional k (length names)) true kind u tt refl (λ f. absurd (cc)) (λ h. h) e
+form_fault names rules (AlternativeLine p cs) kind u e = children_fault names rules (AlternativeLine p cs) p Alternative true kind u tt refl (λ f. absurd (cc)) (λ h. h) e
+form_fault names rules (OrLine p cs) kind u e = children_fault names rules (OrLine p cs) p Or true kind u tt refl (λ f. absurd (cc)) (λ h. h) e
 form_fault names rules (GroupLine p low high cs) kind u e =
-    children_fault names rules (GroupLine p low high cs) p (λ k ks. Group k low high ks) (nat_le low high && nat_le high (length cs)) kind u tt refl (bad_range p low high cs) e
-form_fault names rules (RequiresLine a b) kind u e = rule_fault names rules (RequiresLine a b) a b Requires kind u tt refl refl refl e
-form_fault names rules (ExcludesLine a b) kind u e = rule_fault names rules (ExcludesLine a b) a b Excludes kind u tt refl refl refl e
+    children_fault names rules (GroupLine p low high cs) p (λ k ks. Group k low high ks) (nat_le low high && nat_le high (length cs)) kind u tt refl (bad_range p low high cs) (λ h. h) e
+form_fault names rules (RequiresLine a b) kind u e = rule_fault names rules (RequiresLine a b) a b Requires kind u tt refl refl refl (λ h. h) e
+form_fault names rules (ExcludesLine a b) kind u e = rule_fault names rules (ExcludesLine a b) a b Excludes kind u tt refl refl refl (λ h. h) e
+form_fault names rules (FormulaLine c) kind u e = formula_fault names rules c kind u e
 
 line_fault : (names : List (List ℕ)) (rules : ℕ) (bytes : List ℕ) (form : Form) (kind : LineFault) → AreApart names → form_of bytes ≡ Some form → line_at names rules form ≡ Err kind → IsLineFault names rules bytes kind
 line_fault names rules bytes form Syntax u p e = absurd (form_fault names rules form Syntax u e)
 line_fault names rules bytes form TwoRoots u p e = (form, form_sound bytes form p, form_fault names rules form TwoRoots u e)
 line_fault names rules bytes form UnknownFeature u p e = (form, form_sound bytes form p, form_fault names rules form UnknownFeature u e)
 line_fault names rules bytes form TwoParents u p e = (form, form_sound bytes form p, form_fault names rules form TwoParents u e)
+line_fault names rules bytes form TooManyClauses u p e = (form, form_sound bytes form p, form_fault names rules form TooManyClauses u e)
 line_fault names rules bytes form TooMany u p e = (form, form_sound bytes form p, form_fault names rules form TooMany u e)
 line_fault names rules bytes form BadRange u p e = (form, form_sound bytes form p, form_fault names rules form BadRange u e)
 
@@ -116,7 +162,7 @@ record FaultBehind (number : ℕ) (ls : List (List ℕ)) (names : List (List ℕ
   fault_is : fault ≡ At (number + length before) kind
   written : IsTrue (not_blank bytes)
   read_is : read_lines number before names rules ≡ Ok read
-  here : IsLineFault (names ++ read.names) (rules + count_by is_rule read.lines) bytes kind
+  here : IsLineFault (names ++ read.names) (rules + sum_by rules_of read.lines) bytes kind
 
 here_fault : (number : ℕ) (bytes : List ℕ) (rest names : List (List ℕ)) (rules : ℕ) (kind : LineFault) → IsTrue (not_blank bytes) → IsLineFault names rules bytes kind → FaultBehind number (bytes ∷ rest) names rules (At number kind)
 here_fault number bytes rest names rules kind w h = record {
@@ -213,7 +259,7 @@ record FaultFrom (number : ℕ) (ls : List (List ℕ)) (fault : Fault) : Type 0 
   fault_is : fault ≡ At (number + length before) kind
   written : IsTrue (not_blank bytes)
   here : ((filter not_blank before ≡ []) × IsRootFault bytes kind) ⊎
-      ((d : NamedDiagram) × AreLinesOf before d × IsLineFault d.names (count_by is_rule d.lines) bytes kind)
+      ((d : NamedDiagram) × AreLinesOf before d × IsLineFault d.names (sum_by rules_of d.lines) bytes kind)
 
 at_root : (number : ℕ) (bytes : List ℕ) (rest : List (List ℕ)) (kind : LineFault) → not_blank bytes ≡ true → IsRootFault bytes kind → FaultFrom number (bytes ∷ rest) (At number kind)
 at_root number bytes rest kind w h = record {
@@ -242,8 +288,8 @@ root_fault_blank number bytes rest fault w f = record {
     kept : filter not_blank (bytes ∷ f.before) ≡ filter not_blank f.before
     kept = ap (λ t. cond t (bytes ∷ filter not_blank f.before) (filter not_blank f.before)) w
 
-    go : ((filter not_blank f.before ≡ []) × IsRootFault f.bytes f.kind) ⊎ ((d : NamedDiagram) × AreLinesOf f.before d × IsLineFault d.names (count_by is_rule d.lines) f.bytes f.kind) →
-        ((filter not_blank (bytes ∷ f.before) ≡ []) × IsRootFault f.bytes f.kind) ⊎ ((d : NamedDiagram) × AreLinesOf (bytes ∷ f.before) d × IsLineFault d.names (count_by is_rule d.lines) f.bytes f.kind)
+    go : ((filter not_blank f.before ≡ []) × IsRootFault f.bytes f.kind) ⊎ ((d : NamedDiagram) × AreLinesOf f.before d × IsLineFault d.names (sum_by rules_of d.lines) f.bytes f.kind) →
+        ((filter not_blank (bytes ∷ f.before) ≡ []) × IsRootFault f.bytes f.kind) ⊎ ((d : NamedDiagram) × AreLinesOf (bytes ∷ f.before) d × IsLineFault d.names (sum_by rules_of d.lines) f.bytes f.kind)
     go (inl h) = inl (kept ∙ h.0, h.1)
     go (inr h) = inr (h.0, record { named_diagram = h.1.named_diagram; root = h.1.root; others = h.1.others; lines_are = kept ∙ h.1.lines_are; root_is = h.1.root_is; others_are = h.1.others_are }, h.2)
 
@@ -264,7 +310,7 @@ fault_after_root number bytes rest r fault w p f =
       here = inr (
         d,
         record { named_diagram = s.0; root = s.1.root; others = s.1.others; lines_are = s.1.lines_are; root_is = s.1.root_is; others_are = s.1.others_are },
-        subst (λ (k : ℕ). IsLineFault (r ∷ f.read.names) k f.bytes f.kind) (Rattle.std.proofs.Common.zero-add (count_by is_rule f.read.lines)) f.here,
+        subst (λ (k : ℕ). IsLineFault (r ∷ f.read.names) k f.bytes f.kind) (Rattle.std.proofs.Common.zero-add (sum_by rules_of f.read.lines)) f.here,
       );
     }
 
@@ -304,6 +350,7 @@ root_faults number (bytes ∷ rest) fault e =
     at_form w (Some (GroupLine a l h b)) p e = other (GroupLine a l h b) w p tt e
     at_form w (Some (RequiresLine a b)) p e = other (RequiresLine a b) w p tt e
     at_form w (Some (ExcludesLine a b)) p e = other (ExcludesLine a b) w p tt e
+    at_form w (Some (FormulaLine c)) p e = other (FormulaLine c) w p tt e
 
     go : ((not_blank bytes ≡ true) × (after_root number (form_of bytes) rest ≡ Err fault)) ⊎ ((not_blank bytes ≡ false) × (read_root (number + 1) rest ≡ Err fault)) →
         (read_root (number + 1) rest ≡ Err fault → RootFaults (number + 1) rest fault) → RootFaults number (bytes ∷ rest) fault
@@ -322,6 +369,7 @@ fault_by_kind text number Syntax f = f
 fault_by_kind text number TwoRoots f = f
 fault_by_kind text number UnknownFeature f = f
 fault_by_kind text number TwoParents f = f
+fault_by_kind text number TooManyClauses f = f
 fault_by_kind text number TooMany f = f
 fault_by_kind text number BadRange f = f
 

@@ -1,12 +1,16 @@
 -- The bytes of a line, and its form.
-use Rattle.std.proofs.Common.{◌≡◌, ℕ, Bool, true, false, not, ◌&&◌, ◌==◌, cond, List, [], ◌∷◌, ◌++◌, filter, Option, Some, None, codes, bytes_eq, ◌⊎◌, inl, inr, refl, sym, ap, ap₂, ◌∙◌, subst, arith, eqb-true}
+use Rattle.std.proofs.Common.{◌≡◌, ℕ, Bool, true, false, not, ◌&&◌, ◌==◌, cond, List, [], ◌∷◌, ◌++◌, filter, Option, Some, None, codes, bytes_eq, option_map, ◌⊎◌, inl, inr, refl, sym, ap, ap₂, ◌∙◌, subst, arith, eqb-true, append-nil, append_assoc}
 use Rattle.std.specs.List.{AllByRecursion, list_all, slice_split, onto_first}
 use Rattle.std.specs.Char.{is_ascii_digit}
 use Rattle.std.specs.Str.Parse.{digits_value}
 use Rattle.std.proofs.lemmas.Bool.{cases_Bool, both_ways, or_cases}
-use Rattle.vpg_diagram.specs.DiagramText.{is_blank, is_nonempty, words, is_numeral, Form, RootLine, MandatoryLine, OptionalLine, AlternativeLine, OrLine, GroupLine, RequiresLine, ExcludesLine, HasTwoNames, HasMembers, SpellsForm}
+use Rattle.vpg_rules.specs.Grammar.{NamedRule}
+use Rattle.vpg_rules.specs.Reading.{named_rule_at}
+use Rattle.vpg_rules.proofs.Levels.{rule_found, rule_again}
+use Rattle.vpg_diagram.specs.DiagramText.{is_blank, is_nonempty, words, is_numeral, Form, RootLine, MandatoryLine, OptionalLine, AlternativeLine, OrLine, GroupLine, RequiresLine, ExcludesLine, FormulaLine, HasTwoNames, HasMembers, SpellsForm}
 use Rattle.vpg_features.specs.Names.{is_name_byte, IsFeatureName}
-use Rattle.vpg_diagram.specs.DiagramReading.{is_feature_name, before_next, at_colon, if_names, plain_form, group_form, form_by_colon, form_of}
+use Rattle.vpg_diagram.specs.DiagramReading.{is_feature_name, before_next, at_colon, if_names, plain_form, group_form, form_by_colon, form_by_word, behind_rule, form_of}
+use Rattle.vpg_diagram.proofs.RuleWord.{no_rule, no_rule_blank, rule_parts, parts_rule}
 use Rattle.vpg_diagram.proofs.NameLemmas.{eq_same, name_from_test, test_from_name, names_from_tests, tests_from_names}
 
 chosen_way : {A : Type 0} (b : Bool) (x y z : A) → cond b x y ≡ z → ((b ≡ true) × (x ≡ z)) ⊎ ((b ≡ false) × (y ≡ z))
@@ -134,11 +138,22 @@ group_sound bytes front back (w ∷ p ∷ i ∷ j ∷ x ∷ xs) (c ∷ cs) f b h
 
 -- what is read of a line is what it spells
 pub form_sound : (bytes : List ℕ) (f : Form) → form_of bytes ≡ Some f → SpellsForm bytes f
-form_sound bytes f e = go (at_colon bytes) refl e
+form_sound bytes f e = by_word (behind_rule bytes) refl e
   where
     go : (o : Option (List ℕ × List ℕ)) → at_colon bytes ≡ o → form_by_colon bytes o ≡ Some f → SpellsForm bytes f
     go None q e = plain_sound bytes (words bytes) f refl e
     go (Some p) q e = group_sound bytes p.0 p.1 (words p.0) (words p.1) f (colon_parts bytes p.0 p.1 q) refl refl e
+
+    in_rule : (text : List ℕ) → behind_rule bytes ≡ Some text → (o : Option NamedRule) → named_rule_at text ≡ o → option_map FormulaLine o ≡ Some f → SpellsForm bytes f
+    in_rule text w None r e = absurd (cc)
+    in_rule text w (Some c) r e =
+        let is : FormulaLine c ≡ f = cc in
+        let p = rule_parts bytes text w in
+        subst (SpellsForm bytes) is (record { front = p.front; blank = p.blank; text = text; bytes_are = p.bytes_are; front_blank = p.front_blank; is_one = p.is_one; rule = rule_found text c r })
+
+    by_word : (o : Option (List ℕ)) → behind_rule bytes ≡ o → form_by_word bytes o ≡ Some f → SpellsForm bytes f
+    by_word None w e = go (at_colon bytes) refl e
+    by_word (Some text) w e = in_rule text w (named_rule_at text) refl e
 
 -- No colon.
 abbrev not_colon : ℕ → Bool
@@ -217,18 +232,22 @@ numeral_no_colon w e = no_colon_by is_ascii_digit refl w (and_parts (is_nonempty
 word_no_colon : (w : List ℕ) → list_all not_colon w ≡ true → NoColon w
 word_no_colon w e = no_colon_by not_colon refl w e
 
-two_complete : (bytes word a b : List ℕ) → list_all not_colon word ≡ true → HasTwoNames bytes word a b → form_of bytes ≡ plain_form (word ∷ a ∷ b ∷ [])
-two_complete bytes word a b w h =
+-- a line with another word first has no rule
+other_line : (bytes word : List ℕ) (ws : List (List ℕ)) → words bytes ≡ word ∷ ws → bytes_eq word (codes "rule") ≡ false → form_of bytes ≡ form_by_colon bytes (at_colon bytes)
+other_line bytes word ws is other = ap (form_by_word bytes) (ap behind_rule (sym (append-nil bytes)) ∙ no_rule bytes [] word ws tt is other)
+
+two_complete : (bytes word a b : List ℕ) → list_all not_colon word ≡ true → bytes_eq word (codes "rule") ≡ false → HasTwoNames bytes word a b → form_of bytes ≡ plain_form (word ∷ a ∷ b ∷ [])
+two_complete bytes word a b w other h =
     let nc = words_no_colon bytes (subst (AllByRecursion NoColon) (sym h.words_are) (word_no_colon word w, (name_no_colon a h.first_name, (name_no_colon b h.second_name, tt)))) in
-    ap (form_by_colon bytes) (no_colon_found bytes nc) ∙ ap plain_form h.words_are
+    other_line bytes word (a ∷ b ∷ []) h.words_are other ∙ (ap (form_by_colon bytes) (no_colon_found bytes nc) ∙ ap plain_form h.words_are)
 
 two_pass : (a b bytes word : List ℕ) → HasTwoNames bytes word a b → list_all is_feature_name (a ∷ b ∷ []) ≡ true
 two_pass a b bytes word h = all_pass is_feature_name (a ∷ b ∷ []) (test_from_name a h.first_name, (test_from_name b h.second_name, tt))
 
-members_complete : (bytes : List ℕ) (head : List (List ℕ)) (p : List ℕ) (cs : List (List ℕ)) → AllByRecursion NoColon head → HasMembers bytes head p cs → form_of bytes ≡ group_form head cs
-members_complete bytes head p cs a h =
+members_complete : (bytes word : List ℕ) (head : List (List ℕ)) (p : List ℕ) (cs : List (List ℕ)) → AllByRecursion NoColon (word ∷ head) → bytes_eq word (codes "rule") ≡ false → HasMembers bytes (word ∷ head) p cs → form_of bytes ≡ group_form (word ∷ head) cs
+members_complete bytes word head p cs a other h =
     let nc = words_no_colon h.front (subst (AllByRecursion NoColon) (sym h.head_is) a) in
-    ap form_of h.bytes_are ∙ (ap (form_by_colon (h.front ++ 58 ∷ h.back)) (first_colon h.front h.back nc) ∙ ap₂ group_form h.head_is h.members_are)
+    ap form_of h.bytes_are ∙ (ap (form_by_word (h.front ++ 58 ∷ h.back)) (no_rule h.front (58 ∷ h.back) word head refl h.head_is other) ∙ ap (form_by_colon (h.front ++ 58 ∷ h.back)) (first_colon h.front h.back nc) ∙ ap₂ group_form h.head_is h.members_are)
 
 members_pass : (bytes : List ℕ) (head : List (List ℕ)) (p : List ℕ) (cs : List (List ℕ)) → HasMembers bytes head p cs → list_all is_feature_name (p ∷ cs) ≡ true
 members_pass bytes head p cs h = all_pass is_feature_name (p ∷ cs) (test_from_name p h.parent_name, tests_from_names cs h.member_names)
@@ -237,31 +256,34 @@ members_pass bytes head p cs h = all_pass is_feature_name (p ∷ cs) (test_from_
 pub form_complete : (bytes : List ℕ) (f : Form) → SpellsForm bytes f → form_of bytes ≡ Some f
 form_complete bytes (RootLine r) h =
     let nc = words_no_colon bytes (subst (AllByRecursion NoColon) (sym h.0) (word_no_colon (codes "root") refl, (name_no_colon r h.1, tt))) in
-    ap (form_by_colon bytes) (no_colon_found bytes nc) ∙ (ap plain_form h.0 ∙ form_of_names (r ∷ []) (RootLine r) (all_pass is_feature_name (r ∷ []) (test_from_name r h.1, tt)))
-form_complete bytes (MandatoryLine p c) h = two_complete bytes (codes "mandatory") p c refl h ∙ form_of_names (p ∷ c ∷ []) (MandatoryLine p c) (two_pass p c bytes (codes "mandatory") h)
-form_complete bytes (OptionalLine p c) h = two_complete bytes (codes "optional") p c refl h ∙ form_of_names (p ∷ c ∷ []) (OptionalLine p c) (two_pass p c bytes (codes "optional") h)
-form_complete bytes (RequiresLine p c) h = two_complete bytes (codes "requires") p c refl h ∙ form_of_names (p ∷ c ∷ []) (RequiresLine p c) (two_pass p c bytes (codes "requires") h)
-form_complete bytes (ExcludesLine p c) h = two_complete bytes (codes "excludes") p c refl h ∙ form_of_names (p ∷ c ∷ []) (ExcludesLine p c) (two_pass p c bytes (codes "excludes") h)
+    other_line bytes (codes "root") (r ∷ []) h.0 refl ∙ ap (form_by_colon bytes) (no_colon_found bytes nc) ∙ (ap plain_form h.0 ∙ form_of_names (r ∷ []) (RootLine r) (all_pass is_feature_name (r ∷ []) (test_from_name r h.1, tt)))
+form_complete bytes (MandatoryLine p c) h = two_complete bytes (codes "mandatory") p c refl refl h ∙ form_of_names (p ∷ c ∷ []) (MandatoryLine p c) (two_pass p c bytes (codes "mandatory") h)
+form_complete bytes (OptionalLine p c) h = two_complete bytes (codes "optional") p c refl refl h ∙ form_of_names (p ∷ c ∷ []) (OptionalLine p c) (two_pass p c bytes (codes "optional") h)
+form_complete bytes (RequiresLine p c) h = two_complete bytes (codes "requires") p c refl refl h ∙ form_of_names (p ∷ c ∷ []) (RequiresLine p c) (two_pass p c bytes (codes "requires") h)
+form_complete bytes (ExcludesLine p c) h = two_complete bytes (codes "excludes") p c refl refl h ∙ form_of_names (p ∷ c ∷ []) (ExcludesLine p c) (two_pass p c bytes (codes "excludes") h)
 form_complete bytes (AlternativeLine p []) h = absurd (omega (arith, h.some))
 form_complete bytes (AlternativeLine p (c ∷ cs)) h =
-    members_complete bytes (codes "alternative" ∷ p ∷ []) p (c ∷ cs) (word_no_colon (codes "alternative") refl, (name_no_colon p h.parent_name, tt)) h ∙
+    members_complete bytes (codes "alternative") (p ∷ []) p (c ∷ cs) (word_no_colon (codes "alternative") refl, (name_no_colon p h.parent_name, tt)) refl h ∙
     form_of_names (p ∷ c ∷ cs) (AlternativeLine p (c ∷ cs)) (members_pass bytes (codes "alternative" ∷ p ∷ []) p (c ∷ cs) h)
 form_complete bytes (OrLine p []) h = absurd (omega (arith, h.some))
 form_complete bytes (OrLine p (c ∷ cs)) h =
-    members_complete bytes (codes "or" ∷ p ∷ []) p (c ∷ cs) (word_no_colon (codes "or") refl, (name_no_colon p h.parent_name, tt)) h ∙
+    members_complete bytes (codes "or") (p ∷ []) p (c ∷ cs) (word_no_colon (codes "or") refl, (name_no_colon p h.parent_name, tt)) refl h ∙
     form_of_names (p ∷ c ∷ cs) (OrLine p (c ∷ cs)) (members_pass bytes (codes "or" ∷ p ∷ []) p (c ∷ cs) h)
 form_complete bytes (GroupLine p low high []) h = absurd (omega (arith, h.4.some))
 form_complete bytes (GroupLine p low high (c ∷ cs)) h =
     let i = h.0 in
     let j = h.1 in
-    members_complete bytes (codes "group" ∷ p ∷ i ∷ j ∷ []) p (c ∷ cs) (word_no_colon (codes "group") refl, (name_no_colon p h.4.parent_name, (numeral_no_colon i h.2.numeral, (numeral_no_colon j h.3.numeral, tt)))) h.4 ∙
+    members_complete bytes (codes "group") (p ∷ i ∷ j ∷ []) p (c ∷ cs) (word_no_colon (codes "group") refl, (name_no_colon p h.4.parent_name, (numeral_no_colon i h.2.numeral, (numeral_no_colon j h.3.numeral, tt)))) refl h.4 ∙
     (ap (λ b. cond b (if_names (p ∷ c ∷ cs) (GroupLine p (digits_value 10 i) (digits_value 10 j) (c ∷ cs))) None) (and_both (is_numeral i) (is_numeral j) h.2.numeral h.3.numeral) ∙
     (form_of_names (p ∷ c ∷ cs) (GroupLine p (digits_value 10 i) (digits_value 10 j) (c ∷ cs)) (members_pass bytes (codes "group" ∷ p ∷ i ∷ j ∷ []) p (c ∷ cs) h.4) ∙
     ap₂ (λ x y. Some (GroupLine p x y (c ∷ cs))) h.2.value h.3.value))
+form_complete bytes (FormulaLine c) h =
+    ap (form_by_word bytes) (ap behind_rule (h.bytes_are ∙ append_assoc h.front (codes "rule") (h.blank ∷ h.text)) ∙ parts_rule h.front h.text h.blank h.front_blank h.is_one)
+    ∙ ap (option_map FormulaLine) (rule_again h.text c h.rule)
 
 -- a line with a form has a word
 pub form_has_words : (bytes : List ℕ) (f : Form) → form_of bytes ≡ Some f → (words bytes ≡ [] → ⊥)
-form_has_words bytes f e w = go (at_colon bytes) refl e
+form_has_words bytes f e w = go (at_colon bytes) refl (sym (ap (form_by_word bytes) (no_rule_blank bytes w)) ∙ e)
   where
     go : (o : Option (List ℕ × List ℕ)) → at_colon bytes ≡ o → form_by_colon bytes o ≡ Some f → ⊥
     go None q e = let r : plain_form [] ≡ Some f = sym (ap plain_form w) ∙ e in absurd (cc)

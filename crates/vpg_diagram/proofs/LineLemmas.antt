@@ -1,13 +1,20 @@
 -- A form and its line.
 use Rattle.std.proofs.Common.{◌≡◌, ℕ, zero, suc, ◌+◌, ◌<◌, ◌≤◌, Bool, true, false, ◌&&◌, cond, nat_lt, nat_le, List, [], ◌∷◌, ◌++◌, length, map, Option, Some, None, Result, Ok, slice_get, refl, sym, ap, ap₂, ◌∙◌, subst, arith, append_assoc, append-nil}
 use Rattle.std.specs.Prelude.{⊤}
-use Rattle.std.specs.List.{range_with_len}
+use Rattle.std.specs.List.{range_with_len, AllByRecursion}
 use Rattle.std.proofs.lemmas.Bool.{leb-true, ltb-true, le-leb, lt-ltb}
 use Rattle.std.proofs.lemmas.Option.{slice_get-get_or, slice_get_within, get_or_from_slice_get}
-use Rattle.vpg_diagram.specs.FeatureDiagram.{Line, Mandatory, Optional, Alternative, Or, Group, Requires, Excludes, introduced, IsGroupAfter, StandsAfter}
-use Rattle.vpg_diagram.specs.DiagramText.{Form, RootLine, MandatoryLine, OptionalLine, AlternativeLine, OrLine, GroupLine, RequiresLine, ExcludesLine, name_of, named, is_rule}
-use Rattle.vpg_diagram.specs.DiagramReading.{LineFault, TwoParents, TooMany, BadRange, checked, place_of_name, are_new, children_at, rule_at, line_at, new_names, rules_in}
-use Rattle.vpg_diagram.proofs.NameLemmas.{AreApart, place_some, place_found, new_to_distinct, distinct_to_new, distinct_front, names_of_range, name_before}
+use Rattle.vpg_features.specs.Names.{AreDistinct}
+use Rattle.vpg_rules.specs.Constraint.{Constraint, renamed, features_in, IsBelow}
+use Rattle.vpg_rules.specs.Clauses.{clause_count}
+use Rattle.vpg_rules.specs.Grammar.{NamedRule, index_or_end}
+use Rattle.vpg_rules.proofs.Features.{below_each, renamed_below, below_renamed, renamed_back, count_renamed}
+use Rattle.vpg_diagram.proofs.RuleLemmas.{end_at, before_end, known_each, each_known}
+use Rattle.vpg_diagram.proofs.Lists.{All-implies}
+use Rattle.vpg_diagram.specs.FeatureDiagram.{Line, Mandatory, Optional, Alternative, Or, Group, Requires, Excludes, Formula, introduced, IsGroupAfter, StandsAfter}
+use Rattle.vpg_diagram.specs.DiagramText.{Form, RootLine, MandatoryLine, OptionalLine, AlternativeLine, OrLine, GroupLine, RequiresLine, ExcludesLine, FormulaLine, name_of, named, rules_of, HasFewClauses}
+use Rattle.vpg_diagram.specs.DiagramReading.{LineFault, UnknownFeature, TwoParents, TooManyClauses, TooMany, BadRange, checked, place_of_name, are_new, children_at, rule_at, are_known, formula_line, line_at, new_names, rules_in}
+use Rattle.vpg_diagram.proofs.NameLemmas.{AreApart, distinct_from_apart, place_some, place_found, new_to_distinct, distinct_to_new, distinct_front, names_of_range, name_before}
 
 checked_ok : {A : Type 0} (b : Bool) (fault : LineFault) (r : Result A LineFault) (x : A) → checked b fault r ≡ Ok x → (b ≡ true) × (r ≡ Ok x)
 checked_ok true fault r x e = (refl, e)
@@ -25,6 +32,7 @@ length-range first (suc count) = ap suc (length-range (first + 1) count)
 abbrev pub HasSomeNames : Form → Type 0
 HasSomeNames (RequiresLine a b) = ⊤
 HasSomeNames (ExcludesLine a b) = ⊤
+HasSomeNames (FormulaLine c) = ⊤
 HasSomeNames form = 0 < length (new_names form)
 
 -- what a line that is read says
@@ -34,7 +42,8 @@ pub record IsLineOf (names : List (List ℕ)) (rules : ℕ) (form : Form) (line 
   pub distinct : AreApart (names ++ new_names form)
   pub few_names : length names + length (new_names form) ≤ 512
   pub few_rules : rules + rules_in form ≤ 16384
-  pub rule : ◌≡◌ {A = ℕ} (cond (is_rule line) 1 0) (rules_in form)
+  pub rule : ◌≡◌ {A = ℕ} (rules_of line) (rules_in form)
+  pub few_clauses : HasFewClauses line
   pub named_so : (more : List (List ℕ)) → named (names ++ (new_names form ++ more)) line ≡ form
 
 -- what children that are read say
@@ -72,6 +81,21 @@ group_after names parent members k s p = record {
   next = ap (range_with_len (length names)) (sym (length-range (length names) (length members)));
 }
 
+-- what a formula that is read says
+record FormulaIs (names : List (List ℕ)) (rules : ℕ) (c : NamedRule) (l : Line) : Type 0 where
+  known : AllByRecursion (λ w. index_or_end names w < length names) (features_in c)
+  few : clause_count c ≤ 64
+  room : rules + clause_count c ≤ 16384
+  line_is : Formula (renamed (index_or_end names) c) ≡ l
+
+formula_sound : (names : List (List ℕ)) (rules : ℕ) (c : NamedRule) (l : Line) → formula_line names rules c ≡ Ok l → FormulaIs names rules c l
+formula_sound names rules c l e =
+    let last : Result Line LineFault = Ok (Formula (renamed (index_or_end names) c)) in
+    let x = checked_ok (are_known names (features_in c)) UnknownFeature (checked (nat_le (clause_count c) 64) TooManyClauses (checked (nat_le (rules + clause_count c) 16384) TooMany last)) l e in
+    let y = checked_ok (nat_le (clause_count c) 64) TooManyClauses (checked (nat_le (rules + clause_count c) 16384) TooMany last) l x.1 in
+    let z = checked_ok (nat_le (rules + clause_count c) 16384) TooMany last l y.1 in
+    record { known = known_each names (features_in c) x.0; few = leb-true (clause_count c) 64 y.0; room = leb-true (rules + clause_count c) 16384 z.0; line_is = (let w = z.1 in cc) }
+
 pub line_sound : (names : List (List ℕ)) (rules : ℕ) (form : Form) (l : Line) → AreApart names → length names ≤ 512 → rules ≤ 16384 → HasSomeNames form →
     line_at names rules form ≡ Ok l → IsLineOf names rules form l
 line_sound names rules (RootLine r) l d n m s e = absurd (cc)
@@ -84,6 +108,7 @@ line_sound names rules (MandatoryLine p c) l d n m s e =
       few_names = r.few;
       few_rules = omega arith;
       rule = refl;
+      few_clauses = tt;
       named_so = λ more. ap₂ MandatoryLine (name_at_place names (c ∷ more) p r.place r.found) (one_name_of_range names c more);
     })
 line_sound names rules (OptionalLine p c) l d n m s e =
@@ -95,6 +120,7 @@ line_sound names rules (OptionalLine p c) l d n m s e =
       few_names = r.few;
       few_rules = omega arith;
       rule = refl;
+      few_clauses = tt;
       named_so = λ more. ap₂ OptionalLine (name_at_place names (c ∷ more) p r.place r.found) (one_name_of_range names c more);
     })
 line_sound names rules (AlternativeLine p cs) l d n m s e =
@@ -106,6 +132,7 @@ line_sound names rules (AlternativeLine p cs) l d n m s e =
       few_names = r.few;
       few_rules = omega arith;
       rule = refl;
+      few_clauses = tt;
       named_so = λ more. ap₂ AlternativeLine (name_at_place names (cs ++ more) p r.place r.found) (names_of_range names cs more);
     })
 line_sound names rules (OrLine p cs) l d n m s e =
@@ -117,6 +144,7 @@ line_sound names rules (OrLine p cs) l d n m s e =
       few_names = r.few;
       few_rules = omega arith;
       rule = refl;
+      few_clauses = tt;
       named_so = λ more. ap₂ OrLine (name_at_place names (cs ++ more) p r.place r.found) (names_of_range names cs more);
     })
 line_sound names rules (GroupLine p low high cs) l d n m s e =
@@ -129,6 +157,7 @@ line_sound names rules (GroupLine p low high cs) l d n m s e =
       few_names = r.few;
       few_rules = omega arith;
       rule = refl;
+      few_clauses = tt;
       named_so = λ more. ap₂ (λ x xs. GroupLine x low high xs) (name_at_place names (cs ++ more) p r.place r.found) (names_of_range names cs more);
     })
   where
@@ -150,6 +179,7 @@ line_sound names rules (RequiresLine a b) l d n m s e = go (place_of_name names 
           few_names = omega arith;
           few_rules = (let x : rules < 16384 = ltb-true rules 16384 c.0 in omega arith);
           rule = refl;
+          few_clauses = tt;
           named_so = λ more. ap₂ RequiresLine (name_at_place names more a i (place_some names a i f)) (name_at_place names more b j (place_some names b j g));
         })
 line_sound names rules (ExcludesLine a b) l d n m s e = go (place_of_name names a) (place_of_name names b) refl refl e
@@ -167,8 +197,24 @@ line_sound names rules (ExcludesLine a b) l d n m s e = go (place_of_name names 
           few_names = omega arith;
           few_rules = (let x : rules < 16384 = ltb-true rules 16384 c.0 in omega arith);
           rule = refl;
+          few_clauses = tt;
           named_so = λ more. ap₂ ExcludesLine (name_at_place names more a i (place_some names a i f)) (name_at_place names more b j (place_some names b j g));
         })
+line_sound names rules (FormulaLine c) l d n m s e =
+    let r = formula_sound names rules c l e in
+    let to = index_or_end names in
+    subst (IsLineOf names rules (FormulaLine c)) r.line_is (record {
+      stands = renamed_below (length names) to c r.known;
+      as_many = refl;
+      distinct = subst AreApart (sym (append-nil names)) d;
+      few_names = omega arith;
+      few_rules = r.room;
+      rule = count_renamed to c;
+      few_clauses = subst (λ (k : ℕ). k ≤ 64) (sym (count_renamed to c)) r.few;
+      named_so = λ more. ap FormulaLine (renamed_back to (name_of (names ++ more)) c
+          (All-implies (λ w. index_or_end names w < length names) (λ w. name_of (names ++ more) (index_or_end names w) ≡ w) (features_in c)
+          (λ w lt. name_at_place names more w (index_or_end names w) (before_end names w lt)) r.known));
+    })
 
 pub children_complete : (names : List (List ℕ)) (parent : List ℕ) (p : ℕ) (members : List (List ℕ)) (line : ℕ → List ℕ → Line) (fits : Bool) →
     place_of_name names parent ≡ Some p → are_new names members ≡ true → length names + length members ≤ 512 → fits ≡ true →
@@ -184,7 +230,7 @@ children_complete names parent p members line fits f a few t =
 pub record IsReadBack (names : List (List ℕ)) (rules : ℕ) (form : Form) (line : Line) (new : List (List ℕ)) : Type 0 where
   pub read : line_at names rules form ≡ Ok line
   pub names_are : new_names form ≡ new
-  pub rules_are : ◌≡◌ {A = ℕ} (rules_in form) (cond (is_rule line) 1 0)
+  pub rules_are : ◌≡◌ {A = ℕ} (rules_in form) (rules_of line)
 
 module _ (names : List (List ℕ)) (rules : ℕ) (new more : List (List ℕ)) (distinct : AreApart (names ++ (new ++ more))) (few : length names + length new ≤ 512) where
   place_there : (p : ℕ) → p < length names → place_of_name names (name_of (names ++ (new ++ more)) p) ≡ Some p
@@ -217,23 +263,23 @@ module _ (names : List (List ℕ)) (rules : ℕ) (new more : List (List ℕ)) (d
   empty_new : length new ≡ 0 → [] ≡ new
   empty_new e = sym (Rattle.std.proofs.lemmas.List.nil_from_length new e)
 
-  pub line_complete : (line : Line) → StandsAfter (length names) line → length new ≡ length (introduced line) → rules + cond (is_rule line) 1 0 ≤ 16384 →
+  pub line_complete : (line : Line) → StandsAfter (length names) line → length new ≡ length (introduced line) → rules + rules_of line ≤ 16384 → HasFewClauses line →
       IsReadBack names rules (named (names ++ (new ++ more)) line) line new
-  line_complete (Mandatory p c) s l r =
+  line_complete (Mandatory p c) s l r few_clauses =
       let one : length names ∷ [] ≡ c ∷ [] = ap (λ x. x ∷ []) (sym s.1) in
       let ns = next_names (c ∷ []) l (sym one) in
       record { read = children_back p (c ∷ []) (name_of (names ++ (new ++ more)) c ∷ []) (λ k _. Mandatory k (length names)) true s.0 l (sym one) ns refl ∙ ap (λ x. Ok (Mandatory p x)) (sym s.1); names_are = ns; rules_are = refl }
-  line_complete (Optional p c) s l r =
+  line_complete (Optional p c) s l r few_clauses =
       let one : length names ∷ [] ≡ c ∷ [] = ap (λ x. x ∷ []) (sym s.1) in
       let ns = next_names (c ∷ []) l (sym one) in
       record { read = children_back p (c ∷ []) (name_of (names ++ (new ++ more)) c ∷ []) (λ k _. Optional k (length names)) true s.0 l (sym one) ns refl ∙ ap (λ x. Ok (Optional p x)) (sym s.1); names_are = ns; rules_are = refl }
-  line_complete (Alternative p cs) s l r =
+  line_complete (Alternative p cs) s l r few_clauses =
       let ns = next_names cs l s.next in
       record { read = children_back p cs (map (name_of (names ++ (new ++ more))) cs) Alternative true s.parent_known l s.next ns refl; names_are = ns; rules_are = refl }
-  line_complete (Or p cs) s l r =
+  line_complete (Or p cs) s l r few_clauses =
       let ns = next_names cs l s.next in
       record { read = children_back p cs (map (name_of (names ++ (new ++ more))) cs) Or true s.parent_known l s.next ns refl; names_are = ns; rules_are = refl }
-  line_complete (Group p low high cs) s l r =
+  line_complete (Group p low high cs) s l r few_clauses =
       let ns = next_names cs l s.0.next in
       record {
         read = children_back p cs (map (name_of (names ++ (new ++ more))) cs) (λ k ks. Group k low high ks) (nat_le low high && nat_le high (length (map (name_of (names ++ (new ++ more))) cs))) s.0.parent_known l s.0.next ns
@@ -241,31 +287,71 @@ module _ (names : List (List ℕ)) (rules : ℕ) (new more : List (List ℕ)) (d
         names_are = ns;
         rules_are = refl;
       }
-  line_complete (Requires a b) s l r = record { read = rule_back a b Requires s.0 s.1 (omega arith); names_are = empty_new l; rules_are = refl }
-  line_complete (Excludes a b) s l r = record { read = rule_back a b Excludes s.0 s.1 (omega arith); names_are = empty_new l; rules_are = refl }
+  line_complete (Requires a b) s l r few_clauses = record { read = rule_back a b Requires s.0 s.1 (omega arith); names_are = empty_new l; rules_are = refl }
+  line_complete (Excludes a b) s l r few_clauses = record { read = rule_back a b Excludes s.0 s.1 (omega arith); names_are = empty_new l; rules_are = refl }
+  line_complete (Formula c) s l r few_clauses =
+      let back = name_of (names ++ (new ++ more)) in
+      let to = index_or_end names in
+      let apart : AreDistinct names = distinct_from_apart names (distinct_front names (new ++ more) distinct) in
+      let at : (f : ℕ) → f < length names → index_or_end names (name_of (names ++ (new ++ more)) f) ≡ f =
+      λ f lt. end_at names (name_of (names ++ (new ++ more)) f) f apart (slice_get-get_or names f [] lt ∙ ap Some (sym (name_before names (new ++ more) f lt))) in
+      let same : renamed to (renamed back c) ≡ c =
+      renamed_back back to c (All-implies (λ f. f < length names) (λ f. index_or_end names (name_of (names ++ (new ++ more)) f) ≡ f) (features_in c) at (below_each (length names) c s)) in
+      let count : clause_count (renamed back c) ≡ clause_count c = count_renamed back c in
+      let last : Result Line LineFault = Ok (Formula (renamed to (renamed back c))) in
+      record {
+        read = ok_checked (are_known names (features_in (renamed back c))) UnknownFeature
+            (checked (nat_le (clause_count (renamed back c)) 64) TooManyClauses (checked (nat_le (rules + clause_count (renamed back c)) 16384) TooMany last)) (Formula c)
+            (each_known names (features_in (renamed back c)) (below_renamed (length names) to (renamed back c) (subst (IsBelow (length names)) (sym same) s)))
+            (ok_checked (nat_le (clause_count (renamed back c)) 64) TooManyClauses (checked (nat_le (rules + clause_count (renamed back c)) 16384) TooMany last) (Formula c)
+            (le-leb (clause_count (renamed back c)) 64 (subst (λ (k : ℕ). k ≤ 64) (sym count) few_clauses))
+            (ok_checked (nat_le (rules + clause_count (renamed back c)) 16384) TooMany last (Formula c)
+            (le-leb (rules + clause_count (renamed back c)) 16384 (subst (λ (k : ℕ). rules + k ≤ 16384) (sym count) r)) (ap (λ x. Ok (Formula x)) same)));
+        names_are = empty_new l;
+        rules_are = count;
+      }
 
--- a form is a rule where its line is
-pub rules_of_line : (names : List (List ℕ)) (rules : ℕ) (form : Form) (l : Line) → line_at names rules form ≡ Ok l → ◌≡◌ {A = ℕ} (cond (is_rule l) 1 0) (rules_in form)
+-- a form has as many rules as its line
+pub rules_of_line : (names : List (List ℕ)) (rules : ℕ) (form : Form) (l : Line) → line_at names rules form ≡ Ok l → ◌≡◌ {A = ℕ} (rules_of l) (rules_in form)
 rules_of_line names rules (RootLine r) l e = absurd (cc)
-rules_of_line names rules (MandatoryLine p c) l e = subst (λ (x : Line). ◌≡◌ {A = ℕ} (cond (is_rule x) 1 0) 0) (children_sound names p (c ∷ []) (λ k _. Mandatory k (length names)) true l e).line_is refl
-rules_of_line names rules (OptionalLine p c) l e = subst (λ (x : Line). ◌≡◌ {A = ℕ} (cond (is_rule x) 1 0) 0) (children_sound names p (c ∷ []) (λ k _. Optional k (length names)) true l e).line_is refl
-rules_of_line names rules (AlternativeLine p cs) l e = subst (λ (x : Line). ◌≡◌ {A = ℕ} (cond (is_rule x) 1 0) 0) (children_sound names p cs Alternative true l e).line_is refl
-rules_of_line names rules (OrLine p cs) l e = subst (λ (x : Line). ◌≡◌ {A = ℕ} (cond (is_rule x) 1 0) 0) (children_sound names p cs Or true l e).line_is refl
+rules_of_line names rules (MandatoryLine p c) l e = subst (λ (x : Line). ◌≡◌ {A = ℕ} (rules_of x) 0) (children_sound names p (c ∷ []) (λ k _. Mandatory k (length names)) true l e).line_is refl
+rules_of_line names rules (OptionalLine p c) l e = subst (λ (x : Line). ◌≡◌ {A = ℕ} (rules_of x) 0) (children_sound names p (c ∷ []) (λ k _. Optional k (length names)) true l e).line_is refl
+rules_of_line names rules (AlternativeLine p cs) l e = subst (λ (x : Line). ◌≡◌ {A = ℕ} (rules_of x) 0) (children_sound names p cs Alternative true l e).line_is refl
+rules_of_line names rules (OrLine p cs) l e = subst (λ (x : Line). ◌≡◌ {A = ℕ} (rules_of x) 0) (children_sound names p cs Or true l e).line_is refl
 rules_of_line names rules (GroupLine p low high cs) l e =
-    subst (λ (x : Line). ◌≡◌ {A = ℕ} (cond (is_rule x) 1 0) 0) (children_sound names p cs (λ k ks. Group k low high ks) (nat_le low high && nat_le high (length cs)) l e).line_is refl
+    subst (λ (x : Line). ◌≡◌ {A = ℕ} (rules_of x) 0) (children_sound names p cs (λ k ks. Group k low high ks) (nat_le low high && nat_le high (length cs)) l e).line_is refl
 rules_of_line names rules (RequiresLine a b) l e = go (place_of_name names a) (place_of_name names b) e
   where
-    go : (o q : Option ℕ) → rule_at rules o q Requires ≡ Ok l → ◌≡◌ {A = ℕ} (cond (is_rule l) 1 0) 1
+    go : (o q : Option ℕ) → rule_at rules o q Requires ≡ Ok l → ◌≡◌ {A = ℕ} (rules_of l) 1
     go None q e = absurd (cc)
     go (Some i) None e = absurd (cc)
     go (Some i) (Some j) e =
         let w : Requires i j ≡ l = (let x = (checked_ok (nat_lt rules 16384) TooMany (Ok (Requires i j)) l e).1 in cc) in
-        subst (λ (x : Line). ◌≡◌ {A = ℕ} (cond (is_rule x) 1 0) 1) w refl
+        subst (λ (x : Line). ◌≡◌ {A = ℕ} (rules_of x) 1) w refl
 rules_of_line names rules (ExcludesLine a b) l e = go (place_of_name names a) (place_of_name names b) e
   where
-    go : (o q : Option ℕ) → rule_at rules o q Excludes ≡ Ok l → ◌≡◌ {A = ℕ} (cond (is_rule l) 1 0) 1
+    go : (o q : Option ℕ) → rule_at rules o q Excludes ≡ Ok l → ◌≡◌ {A = ℕ} (rules_of l) 1
     go None q e = absurd (cc)
     go (Some i) None e = absurd (cc)
     go (Some i) (Some j) e =
         let w : Excludes i j ≡ l = (let x = (checked_ok (nat_lt rules 16384) TooMany (Ok (Excludes i j)) l e).1 in cc) in
-        subst (λ (x : Line). ◌≡◌ {A = ℕ} (cond (is_rule x) 1 0) 1) w refl
+        subst (λ (x : Line). ◌≡◌ {A = ℕ} (rules_of x) 1) w refl
+rules_of_line names rules (FormulaLine c) l e =
+    subst (λ (x : Line). ◌≡◌ {A = ℕ} (rules_of x) (clause_count c)) (formula_sound names rules c l e).line_is (count_renamed (index_or_end names) c)
+
+-- the rules of a line have room
+rule_room : (rules : ℕ) (o q : Option ℕ) (line : ℕ → ℕ → Line) (l : Line) → rule_at rules o q line ≡ Ok l → rules + 1 ≤ 16384
+rule_room rules None q line l e = absurd (cc)
+rule_room rules (Some i) None line l e = absurd (cc)
+rule_room rules (Some i) (Some j) line l e = let under : rules < 16384 = ltb-true rules 16384 (checked_ok (nat_lt rules 16384) TooMany (Ok (line i j)) l e).0 in omega arith
+
+pub room_after : (names : List (List ℕ)) (rules : ℕ) (form : Form) (l : Line) → rules ≤ 16384 → line_at names rules form ≡ Ok l → rules + rules_in form ≤ 16384
+room_after names rules (RootLine r) l m e = absurd (cc)
+room_after names rules (MandatoryLine p c) l m e = omega arith
+room_after names rules (OptionalLine p c) l m e = omega arith
+room_after names rules (AlternativeLine p cs) l m e = omega arith
+room_after names rules (OrLine p cs) l m e = omega arith
+room_after names rules (GroupLine p low high cs) l m e = omega arith
+room_after names rules (RequiresLine a b) l m e = rule_room rules (place_of_name names a) (place_of_name names b) Requires l e
+room_after names rules (ExcludesLine a b) l m e = rule_room rules (place_of_name names a) (place_of_name names b) Excludes l e
+room_after names rules (FormulaLine c) l m e = (formula_sound names rules c l e).room

@@ -15,6 +15,8 @@ use Rattle.vpg_diagram.specs.FormView.{view_form}
 use Rattle.vpg_diagram.specs.declared.text.LineForm.{LineForm}
 use Rattle.vpg_diagram.specs.declared.text.LineForm.TheVariants as kept
 use Rattle.vpg_diagram.specs.declared.reading.Reader.{Reader}
+use Rattle.vpg_diagram.specs.DiagramText.{rules_of}
+use Rattle.vpg_diagram.proofs.LineLemmas.{rules_of_line}
 
 -- what is read, in front of what is read behind it
 abbrev pub continued : List (List ℕ) → List Line → Result NamedDiagram Fault → Result NamedDiagram Fault
@@ -104,8 +106,8 @@ all_read rest number names ls rules e = rw e (at_end names ls)
 
 -- a line that is read by its form, or refused
 pub form_read : (names after : List (List ℕ)) (rules : ℕ) (bytes : List ℕ) (form : Form) (r : Result code.Line LineError) → form_of bytes ≡ Some form →
-    IfOk r (λ line. line_at names rules form ≡ Ok (line_of line)) → IfOk r (λ _. after ≡ names ++ new_names form) → IfOk r (λ line. ReadsLine names rules bytes after (line_of line))
-form_read names after rules bytes form (Ok line) e l n = record { form = form; form_is = e; line_is = l; names_are = n }
+    IfOk r (λ line. line_at names rules form ≡ Ok (line_of line)) → IfOk r (λ _. after ≡ names ++ new_names form) → IfOk r (λ line. ReadsLine names rules bytes after (line_of line) (rules_of (line_of line)))
+form_read names after rules bytes form (Ok line) e l n = record { form = form; form_is = e; line_is = l; names_are = n; count_is = rules_of_line names rules form (line_of line) l }
 form_read names after rules bytes form (Err x) e l n = tt
 
 pub form_refused : (names : List (List ℕ)) (rules : ℕ) (bytes : List ℕ) (form : Form) (r : Result code.Line LineError) → form_of bytes ≡ Some form → IfErr r (IsFormError names rules form) → IfErr r (IsLineError names rules bytes)

@@ -1,12 +1,12 @@
 -- Texts and diagrams.
-use Rattle.std.proofs.Common.{◌≡◌, ◌≢◌, ℕ, zero, suc, ◌+◌, ◌-◌, ◌<◌, ◌≤◌, Bool, true, false, cond, nat_lt, List, [], ◌∷◌, ◌++◌, length, map, filter, take, drop, Option, Some, None, Result, Ok, Err, IsTrue, flat_map, count_by, ◌⊎◌, inl, inr, refl, sym, ap, ap₂, ◌∙◌, subst, subst₂, arith, append_assoc, append-nil, length-append, take-append-drop, length-take, length-drop}
+use Rattle.std.proofs.Common.{◌≡◌, ◌≢◌, ℕ, zero, suc, ◌+◌, ◌-◌, ◌<◌, ◌≤◌, Bool, true, false, cond, nat_lt, List, [], ◌∷◌, ◌++◌, length, map, filter, take, drop, Option, Some, None, Result, Ok, Err, IsTrue, flat_map, sum_by, ◌⊎◌, inl, inr, refl, sym, ap, ap₂, ◌∙◌, subst, subst₂, arith, append_assoc, append-nil, length-append, take-append-drop, length-take, length-drop}
 use Rattle.std.specs.List.{AllByRecursion, AllZip}
 use Rattle.std.specs.Str.Lines.{lines}
 use Rattle.std.proofs.lemmas.Bool.{cases_Bool}
 use Rattle.std.proofs.lemmas.List.{nil_from_length, length-take-le}
 use Rattle.std.proofs.lemmas.List.Sums.{sum_by-cons}
 use Rattle.vpg_diagram.specs.FeatureDiagram.{Line, introduced, StandAfter}
-use Rattle.vpg_diagram.specs.DiagramText.{is_nonempty, words, Form, RootLine, MandatoryLine, OptionalLine, AlternativeLine, OrLine, GroupLine, RequiresLine, ExcludesLine, SpellsForm, NamedDiagram, name_of, named, is_rule, IsNamedDiagram, IsTextOf}
+use Rattle.vpg_diagram.specs.DiagramText.{is_nonempty, words, Form, RootLine, MandatoryLine, OptionalLine, AlternativeLine, OrLine, GroupLine, RequiresLine, ExcludesLine, FormulaLine, SpellsForm, NamedDiagram, name_of, named, rules_of, HasFewClauses, IsNamedDiagram, IsTextOf}
 use Rattle.vpg_diagram.specs.DiagramReading.{LineFault, Fault, form_of, line_at, new_names, rules_in, with_line, with_root, after_line, after_form, read_lines, after_root, read_root, reading}
 use Rattle.vpg_features.specs.Names.{IsFeatureName}
 use Rattle.vpg_diagram.proofs.Lists.{All-append}
@@ -27,6 +27,7 @@ some_names bytes (OrLine p cs) h = h.some
 some_names bytes (GroupLine p low high cs) h = h.4.some
 some_names bytes (RequiresLine a b) h = tt
 some_names bytes (ExcludesLine a b) h = tt
+some_names bytes (FormulaLine c) h = tt
 
 -- lines that spell the lines of a diagram, behind lines with these names and so many rules
 pub record SpellRest (ls : List (List ℕ)) (names : List (List ℕ)) (rules : ℕ) (d : NamedDiagram) : Type 0 where
@@ -34,7 +35,8 @@ pub record SpellRest (ls : List (List ℕ)) (names : List (List ℕ)) (rules : �
   pub as_many : length d.names ≡ length (flat_map introduced d.lines)
   pub distinct : AreApart (names ++ d.names)
   pub few_names : length names + length d.names ≤ 512
-  pub few_rules : rules + count_by is_rule d.lines ≤ 16384
+  pub few_rules : rules + sum_by rules_of d.lines ≤ 16384
+  pub few_clauses : AllByRecursion HasFewClauses d.lines
   pub spelled : AllZip (λ bytes line. SpellsForm bytes (named (names ++ d.names) line)) (filter (λ line. is_nonempty (words line)) ls) d.lines
 
 AllZip-implies : {A B : Type 0} (R S : A → B → Type 0) (xs : List A) (ys : List B) → ((x : A) (y : B) → R x y → S x y) → AllZip R xs ys → AllZip S xs ys
@@ -43,8 +45,8 @@ AllZip-implies R S [] (y ∷ ys) f h = h
 AllZip-implies R S (x ∷ xs) [] f h = h
 AllZip-implies R S (x ∷ xs) (y ∷ ys) f h = (f x y h.0, AllZip-implies R S xs ys f h.1)
 
-pub count_rules : (l : Line) (ls : List Line) → count_by is_rule (l ∷ ls) ≡ cond (is_rule l) 1 0 + count_by is_rule ls
-count_rules l ls = sum_by-cons (λ x. cond (is_rule x) 1 0) l ls
+pub count_rules : (l : Line) (ls : List Line) → sum_by rules_of (l ∷ ls) ≡ rules_of l + sum_by rules_of ls
+count_rules l ls = sum_by-cons rules_of l ls
 
 rest_with_line : (bytes : List ℕ) (rest : List (List ℕ)) (names : List (List ℕ)) (rules : ℕ) (f : Form) (l : Line) (d : NamedDiagram) →
     is_nonempty (words bytes) ≡ true → form_of bytes ≡ Some f → IsLineOf names rules f l → SpellRest rest (names ++ new_names f) (rules + rules_in f) d →
@@ -58,6 +60,7 @@ rest_with_line bytes rest names rules f l d w e line r =
       distinct = subst AreApart joined r.distinct;
       few_names = (let x = r.few_names in omega (arith, x, length-append names new, length-append new d.names));
       few_rules = (let x = r.few_rules in omega (arith, x, count_rules l d.lines, line.rule));
+      few_clauses = (line.few_clauses, r.few_clauses);
       spelled = subst (λ (xs : List (List ℕ)). AllZip (λ b k. SpellsForm b (named (names ++ (new ++ d.names)) k)) xs (l ∷ d.lines))
           (sym (ap (λ t. cond t (bytes ∷ filter (λ line. is_nonempty (words line)) rest) (filter (λ line. is_nonempty (words line)) rest)) w)) (
             subst (SpellsForm bytes) (sym (line.named_so d.names)) (form_sound bytes f e),
@@ -75,6 +78,7 @@ form_names bytes (OrLine p cs) h = h.member_names
 form_names bytes (GroupLine p low high cs) h = h.4.member_names
 form_names bytes (RequiresLine a b) h = tt
 form_names bytes (ExcludesLine a b) h = tt
+form_names bytes (FormulaLine c) h = tt
 
 -- the names that are read are feature names
 read_names : (number : ℕ) (ls : List (List ℕ)) (names : List (List ℕ)) (rules : ℕ) (d : NamedDiagram) → read_lines number ls names rules ≡ Ok d → AllByRecursion IsFeatureName d.names
@@ -110,7 +114,7 @@ pub read_sound : (number : ℕ) (ls : List (List ℕ)) (names : List (List ℕ))
     AreApart names → length names ≤ 512 → rules ≤ 16384 → SpellRest ls names rules d
 read_sound number [] names rules d e u n m =
     let w : record { names = []; lines = [] } ≡ d = cc in
-    subst (SpellRest [] names rules) w (record { stands = tt; as_many = refl; distinct = subst AreApart (sym (append-nil names)) u; few_names = omega arith; few_rules = omega arith; spelled = tt })
+    subst (SpellRest [] names rules) w (record { stands = tt; as_many = refl; distinct = subst AreApart (sym (append-nil names)) u; few_names = omega arith; few_rules = omega arith; few_clauses = tt; spelled = tt })
 read_sound number (bytes ∷ rest) names rules d e u n m =
     go (chosen_way (is_nonempty (words bytes)) (after_form number names rules (form_of bytes) (read_lines (number + 1) rest)) (read_lines (number + 1) rest names rules) (Ok d) e) (λ ns r q. read_sound (number + 1) rest ns r q)
   where
@@ -147,6 +151,7 @@ read_sound number (bytes ∷ rest) names rules d e u n m =
           distinct = r.distinct;
           few_names = r.few_names;
           few_rules = r.few_rules;
+          few_clauses = r.few_clauses;
           spelled = subst (λ (xs : List (List ℕ)). AllZip (λ b k. SpellsForm b (named (names ++ d.names) k)) xs d.lines)
               (sym (ap (λ t. cond t (bytes ∷ filter (λ line. is_nonempty (words line)) rest) (filter (λ line. is_nonempty (words line)) rest)) h.0)) r.spelled;
         }
@@ -160,7 +165,7 @@ no_names : (names : List (List ℕ)) (ls : List Line) → ls ≡ [] → length n
 no_names names ls e l = nil_from_length names (l ∙ ap (λ x. length (flat_map introduced x)) e)
 
 read_back : (number : ℕ) (bytes : List ℕ) (names : List (List ℕ)) (rules : ℕ) (f : Form) (l : Line) (new : List (List ℕ)) (d : NamedDiagram) (rest : List (List ℕ) → ℕ → Result NamedDiagram Fault) →
-    form_of bytes ≡ Some f → IsReadBack names rules f l new → rest (names ++ new) (rules + cond (is_rule l) 1 0) ≡ Ok d →
+    form_of bytes ≡ Some f → IsReadBack names rules f l new → rest (names ++ new) (rules + rules_of l) ≡ Ok d →
     after_form number names rules (form_of bytes) rest ≡ Ok (record { names = new ++ d.names; lines = l ∷ d.lines })
 read_back number bytes names rules f l new d rest e b r =
     ap (λ o. after_form number names rules o rest) e ∙
@@ -190,21 +195,23 @@ read_complete number (bytes ∷ rest) names rules d s = go (cases_Bool (is_nonem
         let new_many : length new ≡ length (introduced l) = length-take-le (length (introduced l)) d.names (omega arith) in
         let more_many : length more ≡ length (flat_map introduced ls) = length-drop (length (introduced l)) d.names ∙ omega arith in
         let distinct : AreApart (names ++ (new ++ more)) = subst (λ (xs : List (List ℕ)). AreApart (names ++ xs)) (sym parts) s.distinct in
-        let rules_many : rules + (cond (is_rule l) 1 0 + count_by is_rule ls) ≤ 16384 = subst (λ (k : ℕ). rules + k ≤ 16384) (ap (count_by is_rule) e ∙ count_rules l ls) s.few_rules in
+        let rules_many : rules + (rules_of l + sum_by rules_of ls) ≤ 16384 = subst (λ (k : ℕ). rules + k ≤ 16384) (ap (sum_by rules_of) e ∙ count_rules l ls) s.few_rules in
         let few : length names + length d.names ≤ 512 = s.few_names in
-        let back = line_complete names rules new more distinct (omega (arith, few, new_many, many)) l stands.0 new_many (omega (arith, rules_many)) in
+        let few_clauses : AllByRecursion HasFewClauses (l ∷ ls) = subst (AllByRecursion HasFewClauses) e s.few_clauses in
+        let back = line_complete names rules new more distinct (omega (arith, few, new_many, many)) l stands.0 new_many (omega (arith, rules_many)) few_clauses.0 in
         let form : form_of bytes ≡ Some (named (names ++ (new ++ more)) l) = form_complete bytes (named (names ++ (new ++ more)) l) (subst (λ (xs : List (List ℕ)). SpellsForm bytes (named (names ++ xs) l)) (sym parts) z.0) in
-        let behind : SpellRest rest (names ++ new) (rules + cond (is_rule l) 1 0) (record { names = more; lines = ls }) = record {
+        let behind : SpellRest rest (names ++ new) (rules + rules_of l) (record { names = more; lines = ls }) = record {
           stands = subst (λ (k : ℕ). StandAfter k ls) (sym (length-append names new ∙ ap (λ k. length names + k) new_many)) stands.1;
           as_many = more_many;
           distinct = subst AreApart (sym (append_assoc names new more)) distinct;
           few_names = omega (arith, few, length-append names new, new_many, more_many, many);
           few_rules = omega (arith, rules_many);
+          few_clauses = few_clauses.1;
           spelled = AllZip-implies (λ b k. SpellsForm b (named (names ++ d.names) k)) (λ b k. SpellsForm b (named ((names ++ new) ++ more) k)) (filter (λ line. is_nonempty (words line)) rest) ls
               (λ b k h. subst (λ (xs : List (List ℕ)). SpellsForm b (named xs k)) (ap (λ x. names ++ x) (sym parts) ∙ sym (append_assoc names new more)) h) z.1;
         } in
         read_back number bytes names rules (named (names ++ (new ++ more)) l) l new (record { names = more; lines = ls }) (read_lines (number + 1) rest) form back
-        (ih (names ++ new) (rules + cond (is_rule l) 1 0) (record { names = more; lines = ls }) behind)
+        (ih (names ++ new) (rules + rules_of l) (record { names = more; lines = ls }) behind)
         ∙ ap Ok (λ i. record { names = parts i; lines = sym e i })
 
     go : (is_nonempty (words bytes) ≡ true) ⊎ (is_nonempty (words bytes) ≡ false) →
@@ -222,6 +229,7 @@ read_complete number (bytes ∷ rest) names rules d s = go (cases_Bool (is_nonem
           distinct = s.distinct;
           few_names = s.few_names;
           few_rules = s.few_rules;
+          few_clauses = s.few_clauses;
           spelled = subst (λ (xs : List (List ℕ)). AllZip (λ b line. SpellsForm b (named (names ++ d.names) line)) xs d.lines)
               (ap (λ t. cond t (bytes ∷ filter (λ line. is_nonempty (words line)) rest) (filter (λ line. is_nonempty (words line)) rest)) w) s.spelled;
         })
@@ -255,6 +263,7 @@ root_sound number (bytes ∷ rest) d e =
             names = record { each = each_from_all (r ∷ q.names) ((form_sound bytes (RootLine r) p).1, read_names (number + 1) rest (r ∷ []) 0 q y); distinct = distinct_from_apart (r ∷ q.names) s.distinct; few = (let m = s.few_names in omega (arith, m)) };
             each_named = (let m = s.as_many in omega (arith, m));
             few_rules = (let m = s.few_rules in omega (arith, m));
+            few_clauses = s.few_clauses;
           },
           record {
             root = bytes;
@@ -275,6 +284,7 @@ root_sound number (bytes ∷ rest) d e =
     at_form w (Some (GroupLine a l h b)) p e = absurd (cc)
     at_form w (Some (RequiresLine a b)) p e = absurd (cc)
     at_form w (Some (ExcludesLine a b)) p e = absurd (cc)
+    at_form w (Some (FormulaLine c)) p e = absurd (cc)
 
     go : ((is_nonempty (words bytes) ≡ true) × (after_root number (form_of bytes) rest ≡ Ok d)) ⊎ ((is_nonempty (words bytes) ≡ false) × (read_root (number + 1) rest ≡ Ok d)) →
         (read_root (number + 1) rest ≡ Ok d → IsNamedDiagram d × SpellsFrom rest d) → IsNamedDiagram d × SpellsFrom (bytes ∷ rest) d
@@ -308,6 +318,7 @@ root_complete number (bytes ∷ rest) d n s = go (cases_Bool (is_nonempty (words
           distinct = subst AreApart f.1 (apart_from_distinct d.names n.names.distinct);
           few_names = (let m = n.names.few in omega (arith, m, ap length f.1));
           few_rules = (let m = n.few_rules in omega (arith, m));
+          few_clauses = n.few_clauses;
           spelled = subst₂ (λ (xs : List (List ℕ)) (ns : List (List ℕ)). AllZip (λ x k. SpellsForm x (named ns k)) xs d.lines) (sym o) f.1 s.others_are;
         }) in
         ap (λ t. cond t (after_root number (form_of bytes) rest) (read_root (number + 1) rest)) w ∙

@@ -1,13 +1,17 @@
 -- Reading a text of a feature diagram, line by line, for the contracts of private functions.
-use Rattle.std.specs.Prelude.{ℕ, suc, ◌+◌, Bool, true, false, not, ◌&&◌, ◌==◌, nat_lt, nat_le, cond, List, [], ◌∷◌, ◌++◌, length, Option, Some, None, Result, Ok, Err, codes, bytes_eq, is_some, is_none, option_map}
+use Rattle.std.specs.Prelude.{ℕ, suc, ◌+◌, Bool, true, false, not, ◌&&◌, ◌==◌, nat_lt, nat_le, cond, List, [], ◌∷◌, ◌++◌, length, Option, Some, None, Result, Ok, Err, codes, bytes_eq, is_some, is_none, option_map, option_and_then}
 use Rattle.std.specs.List.{list_all, range_with_len}
 use Rattle.std.specs.Str.Parse.{digits_value}
 use Rattle.std.specs.Str.Lines.{lines}
 use Rattle.vpg_features.specs.Names.{starts_as_name, is_name_byte, constant_of}
-use Rattle.vpg_diagram.specs.FeatureDiagram.{Line, Mandatory, Optional, Alternative, Or, Group, Requires, Excludes}
+use Rattle.vpg_rules.specs.Constraint.{renamed, features_in}
+use Rattle.vpg_rules.specs.Clauses.{clause_count}
+use Rattle.vpg_rules.specs.Grammar.{NamedRule, index_or_end}
+use Rattle.vpg_rules.specs.Reading.{stripped, named_rule_at}
+use Rattle.vpg_diagram.specs.FeatureDiagram.{Line, Mandatory, Optional, Alternative, Or, Group, Requires, Excludes, Formula}
 pub use Rattle.vpg_diagram.specs.declared.fault.LineFault.{LineFault}
-pub use Rattle.vpg_diagram.specs.declared.fault.LineFault.TheVariants.{Syntax, TwoRoots, UnknownFeature, TwoParents, TooMany, BadRange}
-use Rattle.vpg_diagram.specs.DiagramText.{words, is_nonempty, is_numeral, Form, RootLine, MandatoryLine, OptionalLine, AlternativeLine, OrLine, GroupLine, RequiresLine, ExcludesLine, NamedDiagram}
+pub use Rattle.vpg_diagram.specs.declared.fault.LineFault.TheVariants.{Syntax, TwoRoots, UnknownFeature, TwoParents, TooManyClauses, TooMany, BadRange}
+use Rattle.vpg_diagram.specs.DiagramText.{is_blank, words, is_nonempty, is_numeral, Form, RootLine, MandatoryLine, OptionalLine, AlternativeLine, OrLine, GroupLine, RequiresLine, ExcludesLine, FormulaLine, NamedDiagram}
 pub use Rattle.vpg_diagram.specs.TextFaults.{new_names, rules_in}
 
 pub data Fault : Type 0 where
@@ -60,9 +64,24 @@ abbrev pub form_by_colon : List ℕ → Option (List ℕ × List ℕ) → Option
 form_by_colon bytes None = plain_form (words bytes)
 form_by_colon bytes (Some parts) = group_form (words parts.0) (words parts.1)
 
+-- the text after a blank at the front
+abbrev pub after_blank : List ℕ → Option (List ℕ)
+after_blank [] = None
+after_blank (b ∷ text) = cond (is_blank b) (Some text) None
+
+-- the text after the word `rule` and a blank, if the line begins so
+abbrev pub behind_rule : List ℕ → Option (List ℕ)
+behind_rule [] = None
+behind_rule (b ∷ bytes) =
+    cond (is_blank b) (behind_rule bytes) (option_and_then after_blank (stripped (codes "rule") (b ∷ bytes)))
+
+abbrev pub form_by_word : List ℕ → Option (List ℕ) → Option Form
+form_by_word bytes None = form_by_colon bytes (at_colon bytes)
+form_by_word bytes (Some text) = option_map FormulaLine (named_rule_at text)
+
 -- the form of a line, if it has one
 abbrev pub form_of : List ℕ → Option Form
-form_of bytes = form_by_colon bytes (at_colon bytes)
+form_of bytes = form_by_word bytes (behind_rule bytes)
 
 -- the feature of a name
 abbrev pub place_of_name : List (List ℕ) → List ℕ → Option ℕ
@@ -88,6 +107,17 @@ rule_at rules None b line = Err UnknownFeature
 rule_at rules (Some a) None line = Err UnknownFeature
 rule_at rules (Some a) (Some b) line = checked (nat_lt rules 16384) TooMany (Ok (line a b))
 
+-- names that are all there
+abbrev pub are_known : List (List ℕ) → List (List ℕ) → Bool
+are_known names words = list_all (λ w. nat_lt (index_or_end names w) (length names)) words
+
+abbrev pub formula_line : List (List ℕ) → ℕ → NamedRule → Result Line LineFault
+formula_line names rules c =
+    checked (are_known names (features_in c)) UnknownFeature
+    (checked (nat_le (clause_count c) 64) TooManyClauses
+    (checked (nat_le (rules + clause_count c) 16384) TooMany
+    (Ok (Formula (renamed (index_or_end names) c)))))
+
 -- the line of a form, after lines with these names and this number of rules
 abbrev pub line_at : List (List ℕ) → ℕ → Form → Result Line LineFault
 line_at names rules (RootLine r) = Err TwoRoots
@@ -102,6 +132,7 @@ line_at names rules (GroupLine p low high cs) =
     (nat_le low high && nat_le high (length cs))
 line_at names rules (RequiresLine a b) = rule_at rules (place_of_name names a) (place_of_name names b) Requires
 line_at names rules (ExcludesLine a b) = rule_at rules (place_of_name names a) (place_of_name names b) Excludes
+line_at names rules (FormulaLine c) = formula_line names rules c
 
 -- a line in front of what is read after it
 abbrev pub with_line : Line → List (List ℕ) → Result NamedDiagram Fault → Result NamedDiagram Fault

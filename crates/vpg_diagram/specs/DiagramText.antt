@@ -1,11 +1,14 @@
 -- Texts of feature diagrams: this project's own format.
-use Rattle.std.specs.Prelude.{ℕ, ◌<◌, ◌≤◌, ◌≡◌, Bool, true, false, ◌&&◌, ◌||◌, ◌==◌, List, [], ◌∷◌, ◌++◌, length, map, filter, slice_index_or, IsTrue, codes, count_by}
+use Rattle.std.specs.Prelude.{ℕ, ◌<◌, ◌≤◌, ◌≡◌, Bool, true, false, ◌&&◌, ◌||◌, ◌==◌, List, [], ◌∷◌, ◌++◌, length, map, filter, slice_index_or, IsTrue, codes, sum_by, ⊤}
 use Rattle.std.specs.List.{AllByRecursion, AllZip, list_all, slice_split}
 use Rattle.std.specs.Char.{is_ascii_digit}
 use Rattle.std.specs.Str.Parse.{digits_value}
 use Rattle.std.specs.Str.Lines.{lines}
 use Rattle.vpg_features.specs.Names.{IsFeatureName, AreNames}
-use Rattle.vpg_diagram.specs.FeatureDiagram.{Line, Mandatory, Optional, Alternative, Or, Group, Requires, Excludes, feature_count, IsDiagram}
+use Rattle.vpg_rules.specs.Constraint.{renamed}
+use Rattle.vpg_rules.specs.Clauses.{clause_count}
+use Rattle.vpg_rules.specs.Grammar.{NamedRule, Spells as SpellsRule}
+use Rattle.vpg_diagram.specs.FeatureDiagram.{Line, Mandatory, Optional, Alternative, Or, Group, Requires, Excludes, Formula, feature_count, IsDiagram}
 
 -- a space or a tab
 abbrev pub is_blank : ℕ → Bool
@@ -33,6 +36,7 @@ pub data Form : Type 0 where
   GroupLine : (parent : List ℕ) (low high : ℕ) (members : List (List ℕ)) → Form
   RequiresLine : (feature needed : List ℕ) → Form
   ExcludesLine : (feature other : List ℕ) → Form
+  FormulaLine : (rule : NamedRule) → Form
 
 -- two names after a word
 pub record HasTwoNames (bytes : List ℕ) (word first second : List ℕ) : Type 0 where
@@ -55,6 +59,16 @@ pub record IsNumeralOf (digits : List ℕ) (n : ℕ) : Type 0 where
   pub numeral : IsTrue (is_numeral digits)
   pub value : digits_value 10 digits ≡ n
 
+-- the word `rule`, a blank, and the text of a rule
+pub record HasRule (bytes : List ℕ) (c : NamedRule) : Type 0 where
+  pub front : List ℕ
+  pub blank : ℕ
+  pub text : List ℕ
+  pub bytes_are : bytes ≡ front ++ codes "rule" ++ blank ∷ text
+  pub front_blank : IsTrue (list_all is_blank front)
+  pub is_one : IsTrue (is_blank blank)
+  pub rule : SpellsRule text c
+
 -- the bytes of a line, and its form
 abbrev pub SpellsForm : List ℕ → Form → Type 0
 SpellsForm bytes (RootLine r) = (words bytes ≡ codes "root" ∷ r ∷ []) × IsFeatureName r
@@ -66,6 +80,7 @@ SpellsForm bytes (GroupLine p low high cs) =
     (i j : List ℕ) × IsNumeralOf i low × IsNumeralOf j high × HasMembers bytes (codes "group" ∷ p ∷ i ∷ j ∷ []) p cs
 SpellsForm bytes (RequiresLine a b) = HasTwoNames bytes (codes "requires") a b
 SpellsForm bytes (ExcludesLine a b) = HasTwoNames bytes (codes "excludes") a b
+SpellsForm bytes (FormulaLine c) = HasRule bytes c
 
 -- A diagram with the names of its features.
 pub record NamedDiagram : Type 0 where
@@ -84,22 +99,31 @@ named names (Or p cs) = OrLine (name_of names p) (map (name_of names) cs)
 named names (Group p low high cs) = GroupLine (name_of names p) low high (map (name_of names) cs)
 named names (Requires a b) = RequiresLine (name_of names a) (name_of names b)
 named names (Excludes a b) = ExcludesLine (name_of names a) (name_of names b)
+named names (Formula c) = FormulaLine (renamed (name_of names) c)
 
 -- the lines that are not blank
 abbrev pub kept_lines : List ℕ → List (List ℕ)
 kept_lines text = filter (λ line. is_nonempty (words line)) (lines text)
 
-abbrev pub is_rule : Line → Bool
-is_rule (Requires a b) = true
-is_rule (Excludes a b) = true
-is_rule _ = false
+-- how many rules a line has: each clause of a formula is one
+abbrev pub rules_of : Line → ℕ
+rules_of (Requires a b) = 1
+rules_of (Excludes a b) = 1
+rules_of (Formula c) = clause_count c
+rules_of _ = 0
+
+-- a formula has at most 64 clauses
+abbrev pub HasFewClauses : Line → Type 0
+HasFewClauses (Formula c) = clause_count c ≤ 64
+HasFewClauses _ = ⊤
 
 -- A diagram within the limits, and a name for each of its features, no two the same.
 pub record IsNamedDiagram (d : NamedDiagram) : Type 0 where
   pub diagram : IsDiagram d.lines
   pub names : AreNames d.names
   pub each_named : length d.names ≡ feature_count d.lines
-  pub few_rules : count_by is_rule d.lines ≤ 16384
+  pub few_rules : sum_by rules_of d.lines ≤ 16384
+  pub few_clauses : AllByRecursion HasFewClauses d.lines
 
 -- the text has a root line, and then a line for each line of the diagram
 pub record Spells (text : List ℕ) (d : NamedDiagram) : Type 0 where

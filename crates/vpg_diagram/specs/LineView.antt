@@ -1,9 +1,11 @@
 -- The lines that the code keeps, as lines of a diagram.
 use Rattle.std.specs.Prelude.{ℕ, ◌-◌, List, map}
 use Rattle.std.specs.List.{range_with_len}
-use Rattle.vpg_diagram.specs.FeatureDiagram.{Line, Mandatory, Optional, Alternative, Or, Group, Requires, Excludes}
+use Rattle.vpg_diagram.specs.FeatureDiagram.{Line, Mandatory, Optional, Alternative, Or, Group, Requires, Excludes, Formula}
+use Rattle.vpg_rules.specs.View.{constraint_of}
 use Rattle.vpg_diagram.specs.declared.line.Members.{Members}
 use Rattle.vpg_diagram.specs.declared.line.Line as kept
+use Rattle.vpg_diagram.specs.declared.line.Kept as whole
 
 -- the features from the first up to the end
 abbrev pub members_of : Members → List ℕ
@@ -18,5 +20,9 @@ line_of (kept.TheVariants.Group p low high cs) = Group p low high (members_of cs
 line_of (kept.TheVariants.Requires a b) = Requires a b
 line_of (kept.TheVariants.Excludes a b) = Excludes a b
 
-abbrev pub lines_of : List kept.Line → List Line
-lines_of lines = map line_of lines
+abbrev pub kept_line_of : whole.Kept → Line
+kept_line_of (whole.TheVariants.Line line) = line_of line
+kept_line_of (whole.TheVariants.Formula rule) = Formula (constraint_of rule)
+
+abbrev pub lines_of : List whole.Kept → List Line
+lines_of lines = map kept_line_of lines

@@ -1,9 +1,15 @@
 -- The results of reading a line, for the contracts of private functions.
-use Rattle.std.specs.Prelude.{ℕ, ◌≡◌, ◌+◌, ◌≤◌, ◌++◌, length, true, ◌∷◌, [], Bool, List, Some, None, Ok, Err, Result, ◌⊎◌, ⊤}
+use Rattle.std.specs.Prelude.{ℕ, ◌≡◌, ◌+◌, ◌≤◌, ◌++◌, length, true, ◌∷◌, [], Bool, List, Option, Some, None, Ok, Err, Result, ◌⊎◌, ⊤}
 use Rattle.std.specs.Str.Lines.{lines}
-use Rattle.vpg_diagram.specs.FeatureDiagram.{Line}
+use Rattle.vpg_rules.specs.Constraint.{Constraint, renamed}
+use Rattle.vpg_rules.specs.Clauses.{clause_count}
+use Rattle.vpg_rules.specs.Grammar.{NamedRule, index_or_end}
+use Rattle.vpg_rules.specs.Reading.{named_rule_at}
+use Rattle.vpg_rules.specs.View.{constraint_of}
+use Rattle.vpg_rules.specs.declared.rule.Rule.{Rule}
+use Rattle.vpg_diagram.specs.FeatureDiagram.{Line, Formula}
 use Rattle.vpg_diagram.specs.DiagramText.{Form, NamedDiagram}
-use Rattle.vpg_diagram.specs.DiagramReading.{Syntax, Fault, NoRoot, At, place_of_name, children_at, line_at, form_of, new_names, rules_in, read_lines, with_root}
+use Rattle.vpg_diagram.specs.DiagramReading.{Syntax, Fault, NoRoot, At, place_of_name, children_at, formula_line, line_at, form_of, new_names, rules_in, read_lines, with_root}
 use Rattle.vpg_diagram.specs.TextFaults.{fault_at}
 use Rattle.vpg_diagram.specs.LineView.{members_of, lines_of}
 use Rattle.vpg_diagram.specs.declared.fault.DiagramFault.{DiagramFault}
@@ -34,14 +40,36 @@ abbrev pub IsFormError : List (List ℕ) → ℕ → Form → LineError → Type
 IsFormError names rules form Memory = ⊤
 IsFormError names rules form (Refused kind) = line_at names rules form ≡ Err kind
 
--- the line that bytes spell, after lines with these names and this number of rules, and the names with those of the
--- line
+-- whether the text spells a rule, and the rule over indices of names
+abbrev pub IsReadRule : List (List ℕ) → List ℕ → Option Rule → Type 0
+IsReadRule names text None = named_rule_at text ≡ None
+IsReadRule names text (Some rule) =
+    (c : NamedRule) × (named_rule_at text ≡ Some c) × (constraint_of rule ≡ renamed (index_or_end names) c)
+
+-- the rule that a text spells, after lines with these names and this number of rules, and the number of its clauses
+pub record ReadsRule (names : List (List ℕ)) (rules : ℕ) (text : List ℕ) (rule : Constraint ℕ)
+    (count : ℕ) : Type 0 where
+  pub named : NamedRule
+  pub named_is : named_rule_at text ≡ Some named
+  pub line_is : formula_line names rules named ≡ Ok (Formula rule)
+  pub count_is : count ≡ clause_count named
+
+-- why a rule is refused
+abbrev pub IsRuleError : List (List ℕ) → ℕ → List ℕ → LineError → Type 0
+IsRuleError names rules text Memory = ⊤
+IsRuleError names rules text (Refused kind) =
+    ((named_rule_at text ≡ None) × (kind ≡ Syntax)) ⊎
+    ((c : NamedRule) × (named_rule_at text ≡ Some c) × (formula_line names rules c ≡ Err kind))
+
+-- the line that bytes spell, after lines with these names and this number of rules, the names with those of the line,
+-- and the number of its rules
 pub record ReadsLine (names : List (List ℕ)) (rules : ℕ) (bytes : List ℕ) (after : List (List ℕ))
-    (line : Line) : Type 0 where
+    (line : Line) (count : ℕ) : Type 0 where
   pub form : Form
   pub form_is : form_of bytes ≡ Some form
   pub line_is : line_at names rules form ≡ Ok line
   pub names_are : after ≡ names ++ new_names form
+  pub count_is : count ≡ rules_in form
 
 -- a line after what is read
 pub record AddsLine (old : Reader) (bytes : List ℕ) (new : Reader) : Type 0 where

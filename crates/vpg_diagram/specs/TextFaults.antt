@@ -1,13 +1,15 @@
 -- Which fault a text of a feature diagram has: the first by line, and then the first by number.
-use Rattle.std.specs.Prelude.{ℕ, ◌+◌, ◌<◌, ◌≤◌, ◌≡◌, Bool, List, [], ◌∷◌, ◌++◌, length, filter, Some, slice_get, IsTrue, count_by, ◌⊎◌, ⊤}
+use Rattle.std.specs.Prelude.{ℕ, ◌+◌, ◌<◌, ◌≤◌, ◌≡◌, Bool, List, [], ◌∷◌, ◌++◌, length, filter, Some, slice_get, IsTrue, sum_by, ◌⊎◌, ⊤}
 use Rattle.std.specs.List.{AllByRecursion, AllZip}
 use Rattle.std.specs.Str.Lines.{lines}
 use Rattle.vpg_features.specs.Names.{AreDistinct}
-use Rattle.vpg_diagram.specs.DiagramText.{is_nonempty, words, Form, RootLine, MandatoryLine, OptionalLine, AlternativeLine, OrLine, GroupLine, RequiresLine, ExcludesLine, SpellsForm, NamedDiagram, name_of, named, is_rule, IsNamedDiagram}
+use Rattle.vpg_rules.specs.Constraint.{features_in}
+use Rattle.vpg_rules.specs.Clauses.{clause_count}
+use Rattle.vpg_diagram.specs.DiagramText.{is_nonempty, words, Form, RootLine, MandatoryLine, OptionalLine, AlternativeLine, OrLine, GroupLine, RequiresLine, ExcludesLine, FormulaLine, SpellsForm, NamedDiagram, name_of, named, rules_of, IsNamedDiagram}
 use Rattle.vpg_diagram.specs.declared.fault.DiagramFault.{DiagramFault}
 use Rattle.vpg_diagram.specs.declared.fault.DiagramFault.TheVariants as faults
 use Rattle.vpg_diagram.specs.declared.fault.LineFault.{LineFault}
-use Rattle.vpg_diagram.specs.declared.fault.LineFault.TheVariants.{Syntax, TwoRoots, UnknownFeature, TwoParents, TooMany, BadRange}
+use Rattle.vpg_diagram.specs.declared.fault.LineFault.TheVariants.{Syntax, TwoRoots, UnknownFeature, TwoParents, TooManyClauses, TooMany, BadRange}
 
 abbrev pub not_blank : List ℕ → Bool
 not_blank line = is_nonempty (words line)
@@ -21,7 +23,7 @@ pub record AreLinesOf (ls : List (List ℕ)) (d : NamedDiagram) : Type 0 where
   pub root_is : SpellsForm root (RootLine (name_of d.names 0))
   pub others_are : AllZip (λ bytes line. SpellsForm bytes (named d.names line)) others d.lines
 
--- the names that a form adds, and whether it is a rule
+-- the names that a form adds, and how many rules it has
 abbrev pub new_names : Form → List (List ℕ)
 new_names (RootLine r) = r ∷ []
 new_names (MandatoryLine p c) = c ∷ []
@@ -31,10 +33,12 @@ new_names (OrLine p cs) = cs
 new_names (GroupLine p low high cs) = cs
 new_names (RequiresLine a b) = []
 new_names (ExcludesLine a b) = []
+new_names (FormulaLine c) = []
 
 abbrev pub rules_in : Form → ℕ
 rules_in (RequiresLine a b) = 1
 rules_in (ExcludesLine a b) = 1
+rules_in (FormulaLine c) = clause_count c
 rules_in _ = 0
 
 -- the names that must stand on an earlier line
@@ -47,6 +51,7 @@ earlier_names (OrLine p cs) = p ∷ []
 earlier_names (GroupLine p low high cs) = p ∷ []
 earlier_names (RequiresLine a b) = a ∷ b ∷ []
 earlier_names (ExcludesLine a b) = a ∷ b ∷ []
+earlier_names (FormulaLine c) = features_in c
 
 abbrev pub IsOther : Form → Type 0
 IsOther (RootLine r) = ⊥
@@ -60,6 +65,11 @@ abbrev pub HasBadRange : Form → Type 0
 HasBadRange (GroupLine p low high cs) = (high < low) ⊎ (length cs < high)
 HasBadRange _ = ⊥
 
+-- a formula of more than 64 clauses
+abbrev pub HasManyClauses : Form → Type 0
+HasManyClauses (FormulaLine c) = 64 < clause_count c
+HasManyClauses _ = ⊥
+
 -- A form that is refused after these names and this number of rules: each fault if none of a lower number holds.
 abbrev pub IsFormFault : List (List ℕ) → ℕ → Form → LineFault → Type 0
 IsFormFault names rules form Syntax = ⊥
@@ -67,9 +77,12 @@ IsFormFault names rules form TwoRoots = IsOther form → ⊥
 IsFormFault names rules form UnknownFeature = IsOther form × (AllByRecursion (IsAmong names) (earlier_names form) → ⊥)
 IsFormFault names rules form TwoParents =
     IsOther form × AllByRecursion (IsAmong names) (earlier_names form) × (AreDistinct (names ++ new_names form) → ⊥)
+IsFormFault names rules form TooManyClauses =
+    IsOther form × AllByRecursion (IsAmong names) (earlier_names form) × AreDistinct (names ++ new_names form) ×
+    HasManyClauses form
 IsFormFault names rules form TooMany =
     IsOther form × AllByRecursion (IsAmong names) (earlier_names form) × AreDistinct (names ++ new_names form) ×
-    ((512 < length names + length (new_names form)) ⊎ (16384 < rules + rules_in form))
+    (HasManyClauses form → ⊥) × ((512 < length names + length (new_names form)) ⊎ (16384 < rules + rules_in form))
 IsFormFault names rules form BadRange =
     IsOther form × AllByRecursion (IsAmong names) (earlier_names form) × AreDistinct (names ++ new_names form) ×
     (length names + length (new_names form) ≤ 512) × HasBadRange form
@@ -94,7 +107,7 @@ pub record IsFaultAt (ls : List (List ℕ)) (number : ℕ) (kind : LineFault) : 
   pub number_is : number ≡ length before + 1
   pub written : IsTrue (not_blank bytes)
   pub fault : ((filter not_blank before ≡ []) × IsRootFault bytes kind) ⊎
-      ((d : NamedDiagram) × AreLinesOf before d × IsLineFault d.names (count_by is_rule d.lines) bytes kind)
+      ((d : NamedDiagram) × AreLinesOf before d × IsLineFault d.names (sum_by rules_of d.lines) bytes kind)
 
 -- the fault of a text whose line is refused so
 abbrev pub fault_at : ℕ → LineFault → DiagramFault
@@ -102,6 +115,7 @@ fault_at line Syntax = faults.Syntax line
 fault_at line TwoRoots = faults.TwoRoots line
 fault_at line UnknownFeature = faults.UnknownFeature line
 fault_at line TwoParents = faults.TwoParents line
+fault_at line TooManyClauses = faults.TooManyClauses line
 fault_at line TooMany = faults.TooMany line
 fault_at line BadRange = faults.BadRange line
 
@@ -112,6 +126,7 @@ IsFirstFault text faults.NoRoot = filter not_blank (lines text) ≡ []
 IsFirstFault text (faults.TwoRoots line) = IsFaultAt (lines text) line TwoRoots
 IsFirstFault text (faults.UnknownFeature line) = IsFaultAt (lines text) line UnknownFeature
 IsFirstFault text (faults.TwoParents line) = IsFaultAt (lines text) line TwoParents
+IsFirstFault text (faults.TooManyClauses line) = IsFaultAt (lines text) line TooManyClauses
 IsFirstFault text (faults.TooMany line) = IsFaultAt (lines text) line TooMany
 IsFirstFault text (faults.BadRange line) = IsFaultAt (lines text) line BadRange
 IsFirstFault text faults.Memory = ⊤

@@ -1,12 +1,15 @@
 //! The clauses and counts of the lines of a diagram.
 
 ghost use Rattle.std.specs.Prelude.{◌≡◌, ◌++◌, ◌∷◌, [], map, filter_map, IfOk};
-ghost use Rattle.vpg_diagram.specs.Clauses.{feature_in, feature_out, parent_clauses, pair_clauses, line_clauses, clauses_of, counts_of};
-ghost use Rattle.vpg_diagram.specs.LineView.{line_of, lines_of};
+ghost use Rattle.vpg_diagram.specs.Clauses.{feature_in, feature_out, parent_clauses, pair_clauses, rule_clause, line_clauses, clauses_of, counts_of};
+ghost use Rattle.vpg_diagram.specs.LineView.{line_of, kept_line_of, lines_of};
+ghost use Rattle.vpg_rules.specs.Clauses as rules;
+ghost use Rattle.vpg_rules.specs.View.{constraint_of};
 
 use crate::clause::{Clause, Count};
-use crate::line::Line;
+use crate::line::{Kept, Line};
 use std::alloc::{AllocError, Global};
+use vpg_rules::Rule;
 
 /// Adds the clauses that keep members below their parent.
 fn push_parents(
@@ -95,24 +98,52 @@ fn push_line(alloc: Global, clauses: &mut Vec<Clause>, line: Line) -> Result<(),
     Ok(())
 }
 
+/// Adds the clauses of a rule of at most 64 clauses.
+fn push_rule(alloc: Global, clauses: &mut Vec<Clause>, rule: &Rule) -> Result<(), AllocError>
+    ensures { IfOk result (λ _. clauses.new.items ≡ clauses.old.items
+        ++ map rule_clause (rules.clauses_of (constraint_of rule.now))) }
+{
+    // The reader has counted them: only a growth can fail.
+    let Ok(parts) = rule.clauses(alloc) else {
+        return Err(AllocError);
+    };
+    for part in &parts {
+        clauses.push(Clause::of_rule(alloc, part)?)?;
+    }
+    Ok(())
+}
+
+/// Adds the clauses of a line of a diagram.
+fn push_kept(alloc: Global, clauses: &mut Vec<Clause>, line: &Kept) -> Result<(), AllocError>
+    ensures { IfOk result (λ _. clauses.new.items ≡ clauses.old.items ++ line_clauses (kept_line_of line.now)) }
+{
+    match line {
+        Kept::Line(line) => push_line(alloc, clauses, *line),
+        Kept::Formula(rule) => push_rule(alloc, clauses, rule),
+    }
+}
+
 /// Returns the clauses of a diagram.
-pub(crate) fn clauses_of(alloc: Global, lines: &[Line]) -> Result<Vec<Clause>, AllocError>
+pub(crate) fn clauses_of(alloc: Global, lines: &[Kept]) -> Result<Vec<Clause>, AllocError>
     ensures { IfOk result (λ clauses. clauses.items ≡ clauses_of (lines_of lines.now)) }
 {
     let mut clauses = Vec::new(alloc);
     clauses.push(Clause::always(alloc, 0)?)?;
     for line in lines {
-        push_line(alloc, &mut clauses, *line)?;
+        push_kept(alloc, &mut clauses, line)?;
     }
     Ok(clauses)
 }
 
 /// Returns the counts of a diagram.
-pub(crate) fn counts_of(alloc: Global, lines: &[Line]) -> Result<Vec<Count>, AllocError>
+pub(crate) fn counts_of(alloc: Global, lines: &[Kept]) -> Result<Vec<Count>, AllocError>
     ensures { IfOk result (λ counts. counts.items ≡ counts_of (lines_of lines.now)) }
 {
     let mut counts = Vec::new(alloc);
     for line in lines {
+        let Kept::Line(line) = line else {
+            continue;
+        };
         match *line {
             Line::Or { parent, members } => {
                 let members = members.list(alloc)?;

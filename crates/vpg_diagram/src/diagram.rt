@@ -11,7 +11,7 @@ ghost use Rattle.vpg_diagram.specs.Rules.{IsIndex};
 use crate::clause::{Clause, Count};
 use crate::fault::DiagramFault;
 use crate::index::index_of;
-use crate::line::Line;
+use crate::line::Kept;
 use crate::reading::read_text;
 use crate::{building, product};
 use std::alloc::{AllocError, Global};
@@ -21,7 +21,7 @@ use vpg_features::{Index, Names};
 /// A feature diagram: the names of its features, in order, and the lines below its root line.
 pub struct Diagram {
     names: Names,
-    lines: Vec<Line>,
+    lines: Vec<Kept>,
     clauses: Vec<Clause>,
     counts: Vec<Count>,
     index: Index,
@@ -41,9 +41,13 @@ impl Drop for Diagram {
 }
 
 impl Model for Diagram {
+    ghost use Rattle.std.specs.Coded.{codes};
+    ghost use Rattle.vpg_rules.specs.Coding.{rule_code};
     ghost use Rattle.vpg_diagram.specs.DiagramText.{NamedDiagram};
 
     ghost Value = { NamedDiagram };
+
+    ghost coded = { Prim.hlevel (codes, rule_code) };
 
     ghost use Rattle.vpg_diagram.specs.Kept.{IsKept};
     ghost use Rattle.vpg_diagram.specs.LineView.{lines_of};
@@ -59,7 +63,7 @@ impl Diagram {
     ghost use Rattle.vpg_diagram.specs.TextFaults.{IsFirstFault};
 
     /// Returns the diagram of these names and lines.
-    fn of(alloc: Global, names: Names, lines: Vec<Line>) -> Result<Diagram, AllocError>
+    fn of(alloc: Global, names: Names, lines: Vec<Kept>) -> Result<Diagram, AllocError>
         requires { IsNamedDiagram (record { names = names; lines = lines_of lines.items }) }
         ensures { IfOk result (λ d. d ≡ record { names = names; lines = lines_of lines.items }) }
     {
@@ -75,7 +79,8 @@ impl Diagram {
         })
     }
 
-    /// Returns the diagram that a text spells, of at most 512 features and 16,384 rules. If the text is refused, the
+    /// Returns the diagram that a text spells, of at most 512 features and 16,384 rules. A formula has at
+    /// most 64 clauses, and each counts as a rule. If the text is refused, the
     /// fault is the first of the first faulty line, in the order of `DiagramFault`.
     pub fn read(alloc: Global, text: &[u8]) -> Result<Diagram, DiagramFault>
         // The text spells the diagram that is read.
@@ -171,10 +176,18 @@ fn same_names(names: &Names, others: &Names) -> bool
 }
 
 /// Whether the lines are the same, in order.
-fn same_lines(lines: &[Line], others: &[Line]) -> bool
+fn same_lines(lines: &[Kept], others: &[Kept]) -> bool
     requires lines { IsDiagram (lines_of lines.now) }
     requires others { IsDiagram (lines_of others.now) }
     ensures { IsTrue result ↔ (lines_of lines.now ≡ lines_of others.now) }
 {
-    lines == others
+    if lines.len() != others.len() {
+        return false;
+    }
+    for place in (0..lines.len()).rev() {
+        if !lines[place].is_same(&others[place]) {
+            return false;
+        }
+    }
+    true
 }

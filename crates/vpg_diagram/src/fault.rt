@@ -18,7 +18,9 @@ pub enum DiagramFault {
     UnknownFeature { line: usize },
     /// A child that was named before as root or child, or twice in one group.
     TwoParents { line: usize },
-    /// The 513th feature, or the 16,385th rule.
+    /// A formula of more than 64 clauses.
+    TooManyClauses { line: usize },
+    /// The 513th feature, or the 16,385th rule; each clause of a formula counts as a rule.
     TooMany { line: usize },
     /// A range whose low end is above its high end, or whose high end is above the number of members.
     BadRange { line: usize },
@@ -35,6 +37,7 @@ impl DiagramFault {
             DiagramFault::TwoRoots { .. } => "TwoRoots",
             DiagramFault::UnknownFeature { .. } => "UnknownFeature",
             DiagramFault::TwoParents { .. } => "TwoParents",
+            DiagramFault::TooManyClauses { .. } => "TooManyClauses",
             DiagramFault::TooMany { .. } => "TooMany",
             DiagramFault::BadRange { .. } => "BadRange",
             DiagramFault::Memory => "Memory",
@@ -48,6 +51,7 @@ impl DiagramFault {
             | DiagramFault::TwoRoots { line }
             | DiagramFault::UnknownFeature { line }
             | DiagramFault::TwoParents { line }
+            | DiagramFault::TooManyClauses { line }
             | DiagramFault::TooMany { line }
             | DiagramFault::BadRange { line } => Some(line),
             DiagramFault::NoRoot | DiagramFault::Memory => None,
@@ -72,6 +76,7 @@ pub(crate) enum LineFault {
     TwoRoots,
     UnknownFeature,
     TwoParents,
+    TooManyClauses,
     TooMany,
     BadRange,
 }
@@ -89,6 +94,7 @@ impl LineFault {
             LineFault::TwoRoots => DiagramFault::TwoRoots { line },
             LineFault::UnknownFeature => DiagramFault::UnknownFeature { line },
             LineFault::TwoParents => DiagramFault::TwoParents { line },
+            LineFault::TooManyClauses => DiagramFault::TooManyClauses { line },
             LineFault::TooMany => DiagramFault::TooMany { line },
             LineFault::BadRange => DiagramFault::BadRange { line },
         }

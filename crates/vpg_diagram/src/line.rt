@@ -3,6 +3,7 @@
 ghost use Rattle.std.specs.Prelude.{◌≡◌, IfOk};
 
 use std::alloc::{AllocError, Global};
+use vpg_rules::Rule;
 
 /// The members of a group, which follow one another: the features from `first` up to `end`, without `end`.
 #[derive(Clone, Copy, PartialEq)]
@@ -22,7 +23,7 @@ impl Members {
     }
 }
 
-/// A line below the root line.
+/// A line below the root line, other than a formula.
 #[derive(Clone, Copy, PartialEq)]
 pub(crate) enum Line {
     Mandatory {
@@ -59,20 +60,51 @@ pub(crate) enum Line {
 
 impl Line {
     ghost use Rattle.std.specs.Prelude.{◌≡◌};
-    ghost use Rattle.vpg_diagram.specs.DiagramText.{is_rule};
+    ghost use Rattle.vpg_diagram.specs.DiagramText.{rules_of};
     ghost use Rattle.vpg_diagram.specs.LineView.{line_of};
 
-    /// Whether it is a rule.
-    pub(crate) fn is_rule(self) -> bool
-        ensures { result ≡ is_rule (line_of self) }
+    /// Returns the number of its rules.
+    pub(crate) fn rules(self) -> usize
+        ensures { result ≡ rules_of (line_of self) }
     {
         match self {
-            Line::Requires { .. } | Line::Excludes { .. } => true,
+            Line::Requires { .. } | Line::Excludes { .. } => 1,
             Line::Mandatory { .. }
             | Line::Optional { .. }
             | Line::Alternative { .. }
             | Line::Or { .. }
-            | Line::Group { .. } => false,
+            | Line::Group { .. } => 0,
+        }
+    }
+}
+
+/// A line below the root line, as a diagram keeps it.
+#[derive(Drop)]
+pub(crate) enum Kept {
+    Line(Line),
+    Formula(Rule),
+}
+
+impl Kept {
+    ghost use Rattle.std.specs.Prelude.{◌≡◌, ◌↔◌, ℕ, IsTrue};
+    ghost use Rattle.vpg_diagram.specs.FeatureDiagram.{StandsAfter};
+    ghost use Rattle.vpg_diagram.specs.LineView.{kept_line_of};
+
+    /// Whether both are the same line.
+    pub(crate) fn is_same(&self, other: &Kept) -> bool
+        ensures { (known also : ℕ) → StandsAfter known (kept_line_of self.now) →
+            StandsAfter also (kept_line_of other.now) →
+            IsTrue result ↔ (kept_line_of self.now ≡ kept_line_of other.now) }
+    {
+        match self {
+            Kept::Line(line) => match other {
+                Kept::Line(also) => line == also,
+                Kept::Formula(_) => false,
+            },
+            Kept::Formula(rule) => match other {
+                Kept::Formula(also) => rule.is_same(also),
+                Kept::Line(_) => false,
+            },
         }
     }
 }

@@ -1,16 +1,18 @@
 //! Reading the lines of a diagram.
 
 ghost use Rattle.std.specs.Prelude.{◌≡◌, ◌+◌, ◌++◌, ◌∷◌, [], ◌<◌, ◌≤◌, ◌^◌, ℕ, List, Ok, Err, length, IfOk, IfErr, nat_le, ◌&&◌};
-ghost use Rattle.vpg_diagram.specs.DiagramReading.{are_new, place_of_name, rule_at, line_at, new_names};
+ghost use Rattle.vpg_diagram.specs.DiagramText.{rules_of};
+ghost use Rattle.vpg_diagram.specs.DiagramReading.{behind_rule, are_new, place_of_name, rule_at, line_at, new_names};
 ghost use Rattle.vpg_diagram.specs.FeatureDiagram.{Line as DiagramLine};
 ghost use Rattle.vpg_diagram.specs.FormView.{texts, view_form};
 
 use crate::fault::{DiagramFault, LineError, LineFault};
-use crate::line::{Line, Members};
-use crate::text::{LineForm, first_line, form_of, is_blank_line, number};
+use crate::line::{Kept, Line, Members};
+use crate::text::{LineForm, behind_rule, first_line, form_of, is_blank_line, number};
 use indexmap::IndexSet;
 use std::alloc::{AllocError, Global};
 use vpg_features::{MOST_FEATURES, Names};
+use vpg_rules::{ClausesFault, Rule, RuleFault, parse_rule};
 
 /// The greatest number of rules in a diagram.
 pub const MOST_RULES: usize = 16_384;
@@ -200,26 +202,92 @@ fn line_at(
 #[derive(Drop)]
 pub(crate) struct Reader {
     pub(crate) names: Names,
-    pub(crate) lines: Vec<Line>,
+    pub(crate) lines: Vec<Kept>,
     rules: usize,
+}
+
+ghost use Rattle.vpg_diagram.specs.ReadCode.{IsReadRule, ReadsRule, IsRuleError};
+
+/// Returns the rule that a text spells, if it spells one. A name that is not among the names is no feature's index.
+fn read_rule(alloc: Global, names: &Names, text: &[u8]) -> Result<Option<Rule>, AllocError>
+    ensures { IfOk result (IsReadRule names.now text.now) }
+{
+    match parse_rule(alloc, text, names) {
+        Ok(rule) => Ok(Some(rule)),
+        Err(RuleFault::Syntax { .. }) => Ok(None),
+        Err(RuleFault::TooDeep { .. }) => Ok(None),
+        Err(RuleFault::Memory) => Err(AllocError),
+    }
+}
+
+/// Returns the rule of a formula and the number of its clauses, after this number of rules.
+fn formula_line(
+    alloc: Global,
+    names: &Names,
+    rules: usize,
+    text: &[u8],
+) -> Result<(Rule, usize), LineError>
+    requires { rules ≤ MOST_RULES }
+    ensures line { IfOk result (λ x. ReadsRule names.now rules text.now (constraint_of x.0) x.1) }
+    ensures bound { IfOk result (λ x. rules + x.1 ≤ MOST_RULES) }
+    ensures refused { IfErr result (IsRuleError names.now rules text.now) }
+{
+    let Some(rule) = read_rule(alloc, names, text)? else {
+        return Err(LineError::Refused(LineFault::Syntax));
+    };
+    if !rule.is_below(names.len()) {
+        return Err(LineError::Refused(LineFault::UnknownFeature));
+    }
+    let count = match rule.clauses(alloc) {
+        Ok(clauses) => clauses.len(),
+        Err(ClausesFault::Memory) => return Err(LineError::Memory),
+        Err(ClausesFault::TooMany) => return Err(LineError::Refused(LineFault::TooManyClauses)),
+    };
+    if count > MOST_RULES - rules {
+        return Err(LineError::Refused(LineFault::TooMany));
+    }
+    Ok((rule, count))
 }
 
 ghost use Rattle.vpg_diagram.specs.ReadCode.{ReadsLine, AddsLine, IsLineError};
 
-/// Reads a line that is not blank, after this number of rules, and adds its new names.
-fn read_line(
+/// Reads a line that is neither blank nor a rule, after this number of rules, and adds its new names.
+fn read_plain(
     alloc: Global,
     names: &mut Names,
     rules: usize,
     bytes: &[u8],
 ) -> Result<Line, LineError>
-    ensures line { IfOk result (λ line. ReadsLine names.old rules bytes.now names.new (line_of line)) }
+    requires { behind_rule bytes.now ≡ None }
+    ensures line { IfOk result
+        (λ line. ReadsLine names.old rules bytes.now names.new (line_of line) (rules_of (line_of line))) }
     ensures refused { IfErr result (IsLineError names.old rules bytes.now) }
 {
     let Some(form) = form_of(alloc, bytes)? else {
         return Err(LineError::Refused(LineFault::Syntax));
     };
     line_at(alloc, names, rules, &form)
+}
+
+/// Reads a line that is not blank, after this number of rules, and adds its new names. Returns the number of its rules
+/// too.
+fn read_line(
+    alloc: Global,
+    names: &mut Names,
+    rules: usize,
+    bytes: &[u8],
+) -> Result<(Kept, usize), LineError>
+    requires { rules ≤ MOST_RULES }
+    ensures line { IfOk result (λ x. ReadsLine names.old rules bytes.now names.new (kept_line_of x.0) x.1) }
+    ensures bound { IfOk result (λ x. rules + x.1 ≤ MOST_RULES) }
+    ensures refused { IfErr result (IsLineError names.old rules bytes.now) }
+{
+    if let Some(text) = behind_rule(bytes) {
+        let (rule, count) = formula_line(alloc, names, rules, text)?;
+        return Ok((Kept::Formula(rule), count));
+    }
+    let line = read_plain(alloc, names, rules, bytes)?;
+    Ok((Kept::Line(line), line.rules()))
 }
 
 /// Reads a line that is not blank after the others.
@@ -229,13 +297,11 @@ fn add_line(alloc: Global, reader: &mut Reader, bytes: &[u8]) -> Result<(), Line
     ensures bound { IfOk result (λ _. reader.new.rules ≤ MOST_RULES) }
     ensures refused { IfErr result (IsLineError reader.old.names reader.old.rules bytes.now) }
 {
-    let line = read_line(alloc, &mut reader.names, reader.rules, bytes)?;
+    let (line, rules) = read_line(alloc, &mut reader.names, reader.rules, bytes)?;
     let Ok(()) = reader.lines.push(line) else {
         return Err(LineError::Memory);
     };
-    if line.is_rule() {
-        reader.rules += 1;
-    }
+    reader.rules += rules;
     Ok(())
 }
 
@@ -249,13 +315,31 @@ struct Root<'a> {
 
 ghost use Rattle.std.specs.Str.Lines.{lines};
 ghost use Rattle.vpg_diagram.specs.DiagramReading.{after_root, reading, form_of as line_form};
-ghost use Rattle.std.specs.Prelude.{Some};
-ghost use Rattle.vpg_diagram.specs.DiagramText.{RootLine};
-ghost use Rattle.vpg_diagram.specs.LineView.{line_of, lines_of};
+ghost use Rattle.std.specs.Prelude.{Some, None, option_map};
+ghost use Rattle.vpg_diagram.specs.DiagramText.{RootLine, FormulaLine};
+ghost use Rattle.vpg_diagram.specs.LineView.{line_of, kept_line_of, lines_of};
+ghost use Rattle.vpg_rules.specs.Reading.{named_rule_at};
+ghost use Rattle.vpg_rules.specs.View.{constraint_of};
 ghost use Rattle.vpg_diagram.specs.ReadCode.{IsReadingFault, behind_root};
 
-/// Returns the name in a root line.
-fn root_name(alloc: Global, line: &[u8], number: usize) -> Result<&[u8], DiagramFault>
+/// Returns the fault of a first line that begins with the word `rule`.
+fn root_rule(alloc: Global, text: &[u8], number: usize) -> DiagramFault
+    ensures { (rest : List (List ℕ)) →
+        IsReadingFault (after_root number (option_map FormulaLine (named_rule_at text.now)) rest) result }
+{
+    let Ok(names) = Names::new(alloc) else {
+        return DiagramFault::Memory;
+    };
+    match read_rule(alloc, &names, text) {
+        Ok(Some(_)) => DiagramFault::UnknownFeature { line: number },
+        Ok(None) => DiagramFault::Syntax { line: number },
+        Err(_) => DiagramFault::Memory,
+    }
+}
+
+/// Returns the name in a first line that is no rule.
+fn plain_root(alloc: Global, line: &[u8], number: usize) -> Result<&[u8], DiagramFault>
+    requires { behind_rule line.now ≡ None }
     ensures name { IfOk result (λ name. line_form line.now ≡ Some (RootLine name.now)) }
     ensures refused { IfErr result
         (λ e. (rest : List (List ℕ)) → IsReadingFault (after_root number (line_form line.now) rest) e) }
@@ -266,6 +350,18 @@ fn root_name(alloc: Global, line: &[u8], number: usize) -> Result<&[u8], Diagram
     match form {
         LineForm::Root(name) => Ok(name),
         _ => Err(DiagramFault::UnknownFeature { line: number }),
+    }
+}
+
+/// Returns the name in a root line.
+fn root_name(alloc: Global, line: &[u8], number: usize) -> Result<&[u8], DiagramFault>
+    ensures name { IfOk result (λ name. line_form line.now ≡ Some (RootLine name.now)) }
+    ensures refused { IfErr result
+        (λ e. (rest : List (List ℕ)) → IsReadingFault (after_root number (line_form line.now) rest) e) }
+{
+    match behind_rule(line) {
+        Some(text) => Err(root_rule(alloc, text, number)),
+        None => plain_root(alloc, line, number),
     }
 }
 

@@ -33,7 +33,8 @@ fn words(alloc: Global, line: &[u8]) -> Result<Vec<&[u8]>, AllocError>
 }
 
 ghost use Rattle.std.specs.Prelude.{◌&&◌, bytes_eq};
-ghost use Rattle.vpg_diagram.specs.DiagramReading.{is_feature_name, plain_form, group_form, form_of};
+ghost use Rattle.vpg_diagram.specs.DiagramReading.{is_feature_name, plain_form, group_form, form_by_colon, at_colon, after_blank, behind_rule};
+ghost use Rattle.vpg_rules.specs.Reading.{stripped};
 ghost use Rattle.vpg_diagram.specs.FormView.{texts, view_form};
 
 /// A line, with the names and numerals that stand in it.
@@ -179,9 +180,9 @@ fn colon(line: &[u8]) -> Option<usize>
     line.iter().position(|b| *b == b':')
 }
 
-/// Returns the form of a line, if it has one.
+/// Returns the form of a line that is no formula, if it has one.
 pub(crate) fn form_of(alloc: Global, line: &[u8]) -> Result<Option<LineForm>, AllocError>
-    ensures { IfOk result (λ found. option_map view_form found ≡ form_of line.now) }
+    ensures { IfOk result (λ found. option_map view_form found ≡ form_by_colon line.now (at_colon line.now)) }
 {
     match colon(line) {
         None => {
@@ -194,6 +195,42 @@ pub(crate) fn form_of(alloc: Global, line: &[u8]) -> Result<Option<LineForm>, Al
             Ok(group_form(&head, members))
         }
     }
+}
+
+ghost use Rattle.std.specs.Prelude.{codes, option_and_then};
+
+/// Returns the text after a blank at the front.
+fn after_blank(text: &[u8]) -> Option<&[u8]>
+    ensures { option_map (λ t. t.now) result ≡ after_blank text.now }
+{
+    match text {
+        [b, behind @ ..] if is_blank(*b) => Some(behind),
+        _ => None,
+    }
+}
+
+/// Returns the text after the word `rule` at the front and a blank.
+fn after_word(text: &[u8]) -> Option<&[u8]>
+    ensures { option_map (λ t. t.now) result ≡ option_and_then after_blank (stripped (codes "rule") text.now) }
+{
+    match text.strip_prefix(b"rule") {
+        Some(behind) => after_blank(behind),
+        None => None,
+    }
+}
+
+/// Returns the text of the rule in a line that begins with the word `rule`.
+pub(crate) fn behind_rule(line: &[u8]) -> Option<&[u8]>
+    ensures { option_map (λ t. t.now) result ≡ behind_rule line.now }
+{
+    let mut rest = line;
+    while let [b, behind @ ..] = rest {
+        if !is_blank(*b) {
+            return after_word(rest);
+        }
+        rest = behind;
+    }
+    None
 }
 
 ghost use Rattle.std.specs.Prelude.{◌<◌, ◌^◌, min};

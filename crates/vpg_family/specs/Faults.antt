@@ -46,6 +46,7 @@ diagram_text diagram.NoRoot = codes "NoRoot"
 diagram_text (diagram.TwoRoots line) = labelled (codes "TwoRoots") line
 diagram_text (diagram.UnknownFeature line) = labelled (codes "UnknownFeature") line
 diagram_text (diagram.TwoParents line) = labelled (codes "TwoParents") line
+diagram_text (diagram.TooManyClauses line) = labelled (codes "TooManyClauses") line
 diagram_text (diagram.TooMany line) = labelled (codes "TooMany") line
 diagram_text (diagram.BadRange line) = labelled (codes "BadRange") line
 diagram_text diagram.Memory = codes "Memory"

@@ -75,6 +75,7 @@ fn put_diagram_fault(fault: DiagramFault, out: &mut Vec<u8>) -> Result<(), Alloc
         DiagramFault::TwoRoots { line } => put_labelled(b"TwoRoots", line as u64, out),
         DiagramFault::UnknownFeature { line } => put_labelled(b"UnknownFeature", line as u64, out),
         DiagramFault::TwoParents { line } => put_labelled(b"TwoParents", line as u64, out),
+        DiagramFault::TooManyClauses { line } => put_labelled(b"TooManyClauses", line as u64, out),
         DiagramFault::TooMany { line } => put_labelled(b"TooMany", line as u64, out),
         DiagramFault::BadRange { line } => put_labelled(b"BadRange", line as u64, out),
         DiagramFault::Memory => out.extend_from_slice(b"Memory"),

@@ -20,7 +20,9 @@ pub(crate) const NAME_RULE: &[u8] =
     b"a name is a letter or `_`, then letters, digits and `_`, at most 64 bytes, and neither `true` nor `false`";
 
 const KINDS: &[u8] =
-    b"`root`, `mandatory`, `optional`, `alternative`, `or`, `group`, `requires` or `excludes`";
+    b"`root`, `mandatory`, `optional`, `alternative`, `or`, `group`, `requires`, `excludes` or `rule`";
+
+const FORMULA: &[u8] = b"a formula of features with `!`, `&`, `|`, `=>`, `<=>` and parentheses";
 
 fn is_remark(word: &[u8]) -> bool {
     word.starts_with(b"#") || word.starts_with(b"//") || word.starts_with(b"--")
@@ -105,6 +107,7 @@ fn put_form(alloc: Global, faulty: &Faulty<'_>, out: &mut Said) -> usize {
     match form_of(&LINES, first.bytes) {
         Some(form) => match form.departure(rest) {
             Some(departure) => put_departure(faulty, &form, departure, out),
+            None if form.parts.contains(&Part::Formula) => faulty.put_found(1, FORMULA, out),
             None => faulty.put_found(0, KINDS, out),
         },
         None => {
@@ -279,6 +282,13 @@ fn put_too_many(faulty: &Faulty<'_>, out: &mut Said) -> usize {
     if word == b"requires".as_slice() || word == b"excludes".as_slice() {
         return faulty.put_found(0, b"at most 16,384 lines of `requires` and `excludes`", out);
     }
+    if word == b"rule".as_slice() {
+        return faulty.put_found(
+            0,
+            b"at most 16,384 rules, each clause of a formula as one",
+            out,
+        );
+    }
     faulty.put_found(0, b"at most 512 features", out)
 }
 
@@ -336,6 +346,9 @@ fn put_line_fault(
         DiagramFault::TwoRoots { .. }
         | DiagramFault::UnknownFeature { .. }
         | DiagramFault::TwoParents { .. } => put_named(alloc, faulty, fault, out),
+        DiagramFault::TooManyClauses { .. } => {
+            faulty.put_found(0, b"a formula of at most 64 clauses", out)
+        }
         DiagramFault::TooMany { .. } => put_too_many(faulty, out),
         DiagramFault::BadRange { .. } => put_bad_range(faulty, out),
         DiagramFault::NoRoot => put_no_root(faulty, out),
@@ -352,6 +365,7 @@ fn line_of_fault(fault: DiagramFault) -> usize
         DiagramFault::TwoRoots { line } => line,
         DiagramFault::UnknownFeature { line } => line,
         DiagramFault::TwoParents { line } => line,
+        DiagramFault::TooManyClauses { line } => line,
         DiagramFault::TooMany { line } => line,
         DiagramFault::BadRange { line } => line,
         DiagramFault::NoRoot | DiagramFault::Memory => 1,

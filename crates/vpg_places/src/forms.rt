@@ -13,6 +13,8 @@ pub enum Part {
     Low,
     High,
     Colon,
+    /// A word of a formula.
+    Formula,
     Feature,
     Serial,
     Table,
@@ -34,6 +36,7 @@ impl Part {
             Part::Low | Part::High | Part::Serial | Part::Number => are_digits(word),
             Part::Vertex => is_vertex(word),
             Part::Colon => word == b":".as_slice(),
+            Part::Formula => !word.is_empty(),
             Part::Table => is_one_of(word, &["hopeful", "dual"]),
             Part::Asked => is_vertex(word) || is_feature_name(without_sign(word)),
             Part::Asserted => is_vertex(word),
@@ -59,6 +62,7 @@ impl Part {
             Part::Low => b"the least number of children",
             Part::High => b"the greatest number of children",
             Part::Colon => b"`:` and the children",
+            Part::Formula => b"a formula of features",
             Part::Serial => b"the number of a change",
             Part::Table => b"`hopeful` or `dual`",
             Part::Vertex => b"the identifier or the name of a vertex",
@@ -172,7 +176,7 @@ fn departure_of_asserted(words: &[Word<'_>]) -> Option<Departure> {
 }
 
 /// The lines of diagrams.
-pub static LINES: [Form; 8] = [
+pub static LINES: [Form; 9] = [
     Form {
         word: "root",
         written: "root NAME",
@@ -234,6 +238,13 @@ pub static LINES: [Form; 8] = [
         parts: &[Part::First, Part::Second],
         optional: 0,
         rest: None,
+    },
+    Form {
+        word: "rule",
+        written: "rule FORMULA",
+        parts: &[Part::Formula],
+        optional: 0,
+        rest: Some(Part::Formula),
     },
 ];
 

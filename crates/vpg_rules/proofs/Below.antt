@@ -40,7 +40,7 @@ module _ (n : ℕ) where
   put cs ds h k = all_append (ClauseBelow n) cs ds h k
 
   mutual
-    pub when_below : (b : Bool) (c : Constraint) → IsBelow n c → ClausesBelow n (clauses_when b c)
+    pub when_below : (b : Bool) (c : Constraint ℕ) → IsBelow n c → ClausesBelow n (clauses_when b c)
     when_below true always h = tt
     when_below false always h = (tt, tt)
     when_below true never h = (tt, tt)
@@ -58,10 +58,10 @@ module _ (n : ℕ) where
     when_below false (equivalence c d) h =
         put _ _ (crossed_below _ _ (when_below true c h.0) (when_below true d h.1)) (crossed_below _ _ (when_below false c h.0) (when_below false d h.1))
 
-    each_below : (b : Bool) (cs : Parts) → AreBelow n cs → ClausesBelow n (each_when b cs)
+    each_below : (b : Bool) (cs : Parts ℕ) → AreBelow n cs → ClausesBelow n (each_when b cs)
     each_below b no_parts h = tt
     each_below b (part c cs) h = put _ _ (when_below b c h.0) (each_below b cs h.1)
 
-    some_below : (b : Bool) (cs : Parts) → AreBelow n cs → ClausesBelow n (some_when b cs)
+    some_below : (b : Bool) (cs : Parts ℕ) → AreBelow n cs → ClausesBelow n (some_when b cs)
     some_below b no_parts h = (tt, tt)
     some_below b (part c cs) h = crossed_below _ _ (when_below b c h.0) (some_below b cs h.1)

@@ -8,4 +8,6 @@ pub mod Steps
 pub mod Limits
 pub mod Meaning
 pub mod Below
-pub mod Named
+pub mod Renaming
+pub mod Same
+pub mod Features

@@ -16,7 +16,6 @@ use Rattle.vpg_rules.proofs.Words.{not_chosen, open_chosen, word_next}
 pub fails_too : {A B : Type 0} (e : RuleFault) (r : Option A) (s : Option B) → (r ≡ None → s ≡ None) → Fails e r → Fails e s
 fails_too faults.Memory r s so h = tt
 fails_too (faults.Syntax at) r s so h = so h
-fails_too (faults.UnknownFeature at) r s so h = so h
 fails_too (faults.TooDeep at) r s so h = so h
 
 pub if_ok_then : {T E : Type 0} (r : Result T E) (P Q : T → Type 0) → ((x : T) → P x → Q x) → IfOk r P → IfOk r Q
@@ -35,104 +34,104 @@ stripped_of text mark None absent = go (stripped mark text) (strip_is mark text)
 
 -- ---- series
 
-pub series_fails : (read : List ℕ → Read) (mark : List ℕ) (make : Parts → Constraint) (text : List ℕ) → read text ≡ None → series_at read mark make text ≡ None
+pub series_fails : {A : Type 0} (read : List ℕ → Read A) (mark : List ℕ) (make : Parts A → Constraint A) (text : List ℕ) → read text ≡ None → series_at read mark make text ≡ None
 unfolding series_at
-series_fails read mark make text e = ap (λ (r : Read). r >>= λ x. made make (more read mark (length x.1) (part x.0 no_parts) x.1)) e
+series_fails {A = A} read mark make text e = ap (λ (r : Read A). r >>= λ x. made make (more read mark (length x.1) (part x.0 no_parts) x.1)) e
 
-pub series_starts : (read : List ℕ → Read) (mark : List ℕ) (make : Parts → Constraint) (text : List ℕ) (x : Constraint × List ℕ) → read text ≡ Some x → series_at read mark make text ≡ made make (more read mark (length x.1) (part x.0 no_parts) x.1)
+pub series_starts : {A : Type 0} (read : List ℕ → Read A) (mark : List ℕ) (make : Parts A → Constraint A) (text : List ℕ) (x : Constraint A × List ℕ) → read text ≡ Some x → series_at read mark make text ≡ made make (more read mark (length x.1) (part x.0 no_parts) x.1)
 unfolding series_at
-series_starts read mark make text x e = ap (λ (r : Read). r >>= λ y. made make (more read mark (length y.1) (part y.0 no_parts) y.1)) e
+series_starts {A = A} read mark make text x e = ap (λ (r : Read A). r >>= λ y. made make (more read mark (length y.1) (part y.0 no_parts) y.1)) e
 
-pub more_fails : (read : List ℕ → Read) (mark : List ℕ) (n : ℕ) (cs : Parts) (text rest : List ℕ) → 0 < n → after_mark mark text ≡ Some rest → read rest ≡ None → more read mark n cs text ≡ None
+pub more_fails : {A : Type 0} (read : List ℕ → Read A) (mark : List ℕ) (n : ℕ) (cs : Parts A) (text rest : List ℕ) → 0 < n → after_mark mark text ≡ Some rest → read rest ≡ None → more read mark n cs text ≡ None
 unfolding more
-more_fails read mark zero cs text rest lt e f = absurd (omega arith)
-more_fails read mark (suc n) cs text rest lt e f =
-    ap (λ (o : Option (List ℕ)). choice o (λ rest. read rest >>= λ x. more read mark n (added cs x.0) x.1) (Some (cs, text))) e ∙ ap (λ (r : Read). r >>= λ x. more read mark n (added cs x.0) x.1) f
+more_fails {A = A} read mark zero cs text rest lt e f = absurd (omega arith)
+more_fails {A = A} read mark (suc n) cs text rest lt e f =
+    ap (λ (o : Option (List ℕ)). choice o (λ rest. read rest >>= λ x. more read mark n (added cs x.0) x.1) (Some (cs, text))) e ∙ ap (λ (r : Read A). r >>= λ x. more read mark n (added cs x.0) x.1) f
 
 -- ---- levels
 
 again_deep : (d : ℕ) → 0 < d → d ≡ suc (d - 1)
 again_deep d lt = omega arith
 
-factor_is : (names : List (List ℕ)) (n : ℕ) (text : List ℕ) → factor_at names (suc n) text ≡ factor_with names (factor_at names n) (rule_at names n) text
+factor_is : {A : Type 0} (to : List ℕ → A) (n : ℕ) (text : List ℕ) → factor_at to (suc n) text ≡ factor_with to (factor_at to n) (rule_at to n) text
 unfolding factor_at
-factor_is names n text = refl
+factor_is to n text = refl
 
-no_factor : (names : List (List ℕ)) (n : ℕ) (text : List ℕ) → n ≡ 0 → factor_at names n text ≡ None
+no_factor : {A : Type 0} (to : List ℕ → A) (n : ℕ) (text : List ℕ) → n ≡ 0 → factor_at to n text ≡ None
 unfolding factor_at
-no_factor names zero text e = refl
-no_factor names (suc n) text e = absurd (omega arith)
+no_factor to zero text e = refl
+no_factor to (suc n) text e = absurd (omega arith)
 
-no_implication : (names : List (List ℕ)) (n : ℕ) (text : List ℕ) → n ≡ 0 → implication_at names n text ≡ None
+no_implication : {A : Type 0} (to : List ℕ → A) (n : ℕ) (text : List ℕ) → n ≡ 0 → implication_at to n text ≡ None
 unfolding implication_at
-no_implication names zero text e = refl
-no_implication names (suc n) text e = absurd (omega arith)
+no_implication to zero text e = refl
+no_implication to (suc n) text e = absurd (omega arith)
 
-no_rule : (names : List (List ℕ)) (n : ℕ) (text : List ℕ) → n ≡ 0 → rule_at names n text ≡ None
+no_rule : {A : Type 0} (to : List ℕ → A) (n : ℕ) (text : List ℕ) → n ≡ 0 → rule_at to n text ≡ None
 unfolding rule_at
-no_rule names zero text e = refl
-no_rule names (suc n) text e = absurd (omega arith)
+no_rule to zero text e = refl
+no_rule to (suc n) text e = absurd (omega arith)
 
-module _ (names : List (List ℕ)) (d : ℕ) (text : List ℕ) where
-  pub factor_inverted : (rest : List ℕ) → 0 < d → after_mark (codes "!") text ≡ Some rest → factor_at names (suc d) text ≡ inverted_with (factor_at names (suc (d - 1))) rest
+module _ {A : Type 0} (to : List ℕ → A) (d : ℕ) (text : List ℕ) where
+  pub factor_inverted : (rest : List ℕ) → 0 < d → after_mark (codes "!") text ≡ Some rest → factor_at to (suc d) text ≡ inverted_with (factor_at to (suc (d - 1))) rest
   factor_inverted rest lt e =
-      factor_is names d text ∙ not_chosen names (factor_at names d) (rule_at names d) text rest e ∙ ap (λ (k : ℕ). inverted_with (factor_at names k) rest) (again_deep d lt)
+      factor_is to d text ∙ not_chosen to (factor_at to d) (rule_at to d) text rest e ∙ ap (λ (k : ℕ). inverted_with (factor_at to k) rest) (again_deep d lt)
 
-  pub factor_enclosed : (rest : List ℕ) → 0 < d → after_mark (codes "!") text ≡ None → after_mark (codes "(") text ≡ Some rest → factor_at names (suc d) text ≡ enclosed_with (rule_at names (suc (d - 1))) rest
+  pub factor_enclosed : (rest : List ℕ) → 0 < d → after_mark (codes "!") text ≡ None → after_mark (codes "(") text ≡ Some rest → factor_at to (suc d) text ≡ enclosed_with (rule_at to (suc (d - 1))) rest
   factor_enclosed rest lt e f =
-      factor_is names d text ∙ open_chosen names (factor_at names d) (rule_at names d) text rest e f ∙ ap (λ (k : ℕ). enclosed_with (rule_at names k) rest) (again_deep d lt)
+      factor_is to d text ∙ open_chosen to (factor_at to d) (rule_at to d) text rest e f ∙ ap (λ (k : ℕ). enclosed_with (rule_at to k) rest) (again_deep d lt)
 
-  pub too_deep_inverted : (rest : List ℕ) → d ≡ 0 → after_mark (codes "!") text ≡ Some rest → factor_at names (suc d) text ≡ None
+  pub too_deep_inverted : (rest : List ℕ) → d ≡ 0 → after_mark (codes "!") text ≡ Some rest → factor_at to (suc d) text ≡ None
   too_deep_inverted rest z e =
-      factor_is names d text ∙ not_chosen names (factor_at names d) (rule_at names d) text rest e ∙ ap (λ (r : Read). r >>= λ x. Some (negation x.0, x.1)) (no_factor names d rest z)
+      factor_is to d text ∙ not_chosen to (factor_at to d) (rule_at to d) text rest e ∙ ap (λ (r : Read A). r >>= λ x. Some (negation x.0, x.1)) (no_factor to d rest z)
 
-  pub too_deep_enclosed : (rest : List ℕ) → d ≡ 0 → after_mark (codes "!") text ≡ None → after_mark (codes "(") text ≡ Some rest → factor_at names (suc d) text ≡ None
+  pub too_deep_enclosed : (rest : List ℕ) → d ≡ 0 → after_mark (codes "!") text ≡ None → after_mark (codes "(") text ≡ Some rest → factor_at to (suc d) text ≡ None
   too_deep_enclosed rest z e f =
-      factor_is names d text ∙ open_chosen names (factor_at names d) (rule_at names d) text rest e f ∙ ap (λ (r : Read). r >>= λ x. close x.0 (after_mark (codes ")") x.1)) (no_rule names d rest z)
+      factor_is to d text ∙ open_chosen to (factor_at to d) (rule_at to d) text rest e f ∙ ap (λ (r : Read A). r >>= λ x. close x.0 (after_mark (codes ")") x.1)) (no_rule to d rest z)
 
-  pub factor_word : after_mark (codes "!") text ≡ None → after_mark (codes "(") text ≡ None → factor_at names (suc d) text ≡ word_at names (after_blanks text)
-  factor_word e f = factor_is names d text ∙ word_next names (factor_at names d) (rule_at names d) text e f
+  pub factor_word : after_mark (codes "!") text ≡ None → after_mark (codes "(") text ≡ None → factor_at to (suc d) text ≡ word_at to (after_blanks text)
+  factor_word e f = factor_is to d text ∙ word_next to (factor_at to d) (rule_at to d) text e f
 
-  implication_is : implication_at names (suc d) text ≡ arrow_at (disjunction_with (factor_at names (suc d))) (implication_at names d) (codes "=>") implication text
+  implication_is : implication_at to (suc d) text ≡ arrow_at (disjunction_with (factor_at to (suc d))) (implication_at to d) (codes "=>") implication text
   unfolding implication_at factor_at
   implication_is = refl
 
-  rule_is : rule_at names (suc d) text ≡ arrow_at (implication_at names (suc d)) (rule_at names d) (codes "<=>") equivalence text
+  rule_is : rule_at to (suc d) text ≡ arrow_at (implication_at to (suc d)) (rule_at to d) (codes "<=>") equivalence text
   unfolding rule_at implication_at
   rule_is = refl
 
   -- an implication without its left side, without an arrow, and with one
-  pub implication_fails : disjunction_with (factor_at names (suc d)) text ≡ None → implication_at names (suc d) text ≡ None
-  implication_fails e = implication_is ∙ arrow_fails (disjunction_with (factor_at names (suc d))) (implication_at names d) (codes "=>") implication text e
+  pub implication_fails : disjunction_with (factor_at to (suc d)) text ≡ None → implication_at to (suc d) text ≡ None
+  implication_fails e = implication_is ∙ arrow_fails (disjunction_with (factor_at to (suc d))) (implication_at to d) (codes "=>") implication text e
 
-  pub implication_stops : (x : Constraint × List ℕ) → disjunction_with (factor_at names (suc d)) text ≡ Some x → after_mark (codes "=>") x.1 ≡ None → implication_at names (suc d) text ≡ Some x
-  implication_stops x e f = implication_is ∙ arrow_stops (disjunction_with (factor_at names (suc d))) (implication_at names d) (codes "=>") implication text x e f
+  pub implication_stops : (x : Constraint A × List ℕ) → disjunction_with (factor_at to (suc d)) text ≡ Some x → after_mark (codes "=>") x.1 ≡ None → implication_at to (suc d) text ≡ Some x
+  implication_stops x e f = implication_is ∙ arrow_stops (disjunction_with (factor_at to (suc d))) (implication_at to d) (codes "=>") implication text x e f
 
-  implication_comes : (x : Constraint × List ℕ) (behind : List ℕ) → disjunction_with (factor_at names (suc d)) text ≡ Some x → after_mark (codes "=>") x.1 ≡ Some behind
-      → implication_at names (suc d) text ≡ (implication_at names d behind >>= λ y. Some (implication x.0 y.0, y.1))
-  implication_comes x behind e f = implication_is ∙ arrow_goes (disjunction_with (factor_at names (suc d))) (implication_at names d) (codes "=>") implication text behind x e f
+  implication_comes : (x : Constraint A × List ℕ) (behind : List ℕ) → disjunction_with (factor_at to (suc d)) text ≡ Some x → after_mark (codes "=>") x.1 ≡ Some behind
+      → implication_at to (suc d) text ≡ (implication_at to d behind >>= λ y. Some (implication x.0 y.0, y.1))
+  implication_comes x behind e f = implication_is ∙ arrow_goes (disjunction_with (factor_at to (suc d))) (implication_at to d) (codes "=>") implication text behind x e f
 
-  pub implication_goes : (x : Constraint × List ℕ) (behind : List ℕ) → 0 < d → disjunction_with (factor_at names (suc d)) text ≡ Some x → after_mark (codes "=>") x.1 ≡ Some behind
-      → implication_at names (suc d) text ≡ (implication_at names (suc (d - 1)) behind >>= λ y. Some (implication x.0 y.0, y.1))
-  implication_goes x behind lt e f = implication_comes x behind e f ∙ ap (λ (k : ℕ). implication_at names k behind >>= λ y. Some (implication x.0 y.0, y.1)) (again_deep d lt)
+  pub implication_goes : (x : Constraint A × List ℕ) (behind : List ℕ) → 0 < d → disjunction_with (factor_at to (suc d)) text ≡ Some x → after_mark (codes "=>") x.1 ≡ Some behind
+      → implication_at to (suc d) text ≡ (implication_at to (suc (d - 1)) behind >>= λ y. Some (implication x.0 y.0, y.1))
+  implication_goes x behind lt e f = implication_comes x behind e f ∙ ap (λ (k : ℕ). implication_at to k behind >>= λ y. Some (implication x.0 y.0, y.1)) (again_deep d lt)
 
-  pub too_deep_implication : (x : Constraint × List ℕ) (behind : List ℕ) → d ≡ 0 → disjunction_with (factor_at names (suc d)) text ≡ Some x → after_mark (codes "=>") x.1 ≡ Some behind → implication_at names (suc d) text ≡ None
-  too_deep_implication x behind z e f = implication_comes x behind e f ∙ ap (λ (r : Read). r >>= λ y. Some (implication x.0 y.0, y.1)) (no_implication names d behind z)
+  pub too_deep_implication : (x : Constraint A × List ℕ) (behind : List ℕ) → d ≡ 0 → disjunction_with (factor_at to (suc d)) text ≡ Some x → after_mark (codes "=>") x.1 ≡ Some behind → implication_at to (suc d) text ≡ None
+  too_deep_implication x behind z e f = implication_comes x behind e f ∙ ap (λ (r : Read A). r >>= λ y. Some (implication x.0 y.0, y.1)) (no_implication to d behind z)
 
   -- likewise a rule
-  pub rule_fails : implication_at names (suc d) text ≡ None → rule_at names (suc d) text ≡ None
-  rule_fails e = rule_is ∙ arrow_fails (implication_at names (suc d)) (rule_at names d) (codes "<=>") equivalence text e
+  pub rule_fails : implication_at to (suc d) text ≡ None → rule_at to (suc d) text ≡ None
+  rule_fails e = rule_is ∙ arrow_fails (implication_at to (suc d)) (rule_at to d) (codes "<=>") equivalence text e
 
-  pub rule_stops : (x : Constraint × List ℕ) → implication_at names (suc d) text ≡ Some x → after_mark (codes "<=>") x.1 ≡ None → rule_at names (suc d) text ≡ Some x
-  rule_stops x e f = rule_is ∙ arrow_stops (implication_at names (suc d)) (rule_at names d) (codes "<=>") equivalence text x e f
+  pub rule_stops : (x : Constraint A × List ℕ) → implication_at to (suc d) text ≡ Some x → after_mark (codes "<=>") x.1 ≡ None → rule_at to (suc d) text ≡ Some x
+  rule_stops x e f = rule_is ∙ arrow_stops (implication_at to (suc d)) (rule_at to d) (codes "<=>") equivalence text x e f
 
-  rule_comes : (x : Constraint × List ℕ) (behind : List ℕ) → implication_at names (suc d) text ≡ Some x → after_mark (codes "<=>") x.1 ≡ Some behind
-      → rule_at names (suc d) text ≡ (rule_at names d behind >>= λ y. Some (equivalence x.0 y.0, y.1))
-  rule_comes x behind e f = rule_is ∙ arrow_goes (implication_at names (suc d)) (rule_at names d) (codes "<=>") equivalence text behind x e f
+  rule_comes : (x : Constraint A × List ℕ) (behind : List ℕ) → implication_at to (suc d) text ≡ Some x → after_mark (codes "<=>") x.1 ≡ Some behind
+      → rule_at to (suc d) text ≡ (rule_at to d behind >>= λ y. Some (equivalence x.0 y.0, y.1))
+  rule_comes x behind e f = rule_is ∙ arrow_goes (implication_at to (suc d)) (rule_at to d) (codes "<=>") equivalence text behind x e f
 
-  pub rule_goes : (x : Constraint × List ℕ) (behind : List ℕ) → 0 < d → implication_at names (suc d) text ≡ Some x → after_mark (codes "<=>") x.1 ≡ Some behind
-      → rule_at names (suc d) text ≡ (rule_at names (suc (d - 1)) behind >>= λ y. Some (equivalence x.0 y.0, y.1))
-  rule_goes x behind lt e f = rule_comes x behind e f ∙ ap (λ (k : ℕ). rule_at names k behind >>= λ y. Some (equivalence x.0 y.0, y.1)) (again_deep d lt)
+  pub rule_goes : (x : Constraint A × List ℕ) (behind : List ℕ) → 0 < d → implication_at to (suc d) text ≡ Some x → after_mark (codes "<=>") x.1 ≡ Some behind
+      → rule_at to (suc d) text ≡ (rule_at to (suc (d - 1)) behind >>= λ y. Some (equivalence x.0 y.0, y.1))
+  rule_goes x behind lt e f = rule_comes x behind e f ∙ ap (λ (k : ℕ). rule_at to k behind >>= λ y. Some (equivalence x.0 y.0, y.1)) (again_deep d lt)
 
-  pub too_deep_rule : (x : Constraint × List ℕ) (behind : List ℕ) → d ≡ 0 → implication_at names (suc d) text ≡ Some x → after_mark (codes "<=>") x.1 ≡ Some behind → rule_at names (suc d) text ≡ None
-  too_deep_rule x behind z e f = rule_comes x behind e f ∙ ap (λ (r : Read). r >>= λ y. Some (equivalence x.0 y.0, y.1)) (no_rule names d behind z)
+  pub too_deep_rule : (x : Constraint A × List ℕ) (behind : List ℕ) → d ≡ 0 → implication_at to (suc d) text ≡ Some x → after_mark (codes "<=>") x.1 ≡ Some behind → rule_at to (suc d) text ≡ None
+  too_deep_rule x behind z e f = rule_comes x behind e f ∙ ap (λ (r : Read A). r >>= λ y. Some (equivalence x.0 y.0, y.1)) (no_rule to d behind z)

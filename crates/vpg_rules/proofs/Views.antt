@@ -27,10 +27,10 @@ constraint_of-implies b d = search (rules, the_lemmas)
 pub constraint_of-iff : (b d : Box Rule) → constraint_of (Iff b d) ≡ equivalence (constraint_of b.value) (constraint_of d.value)
 constraint_of-iff b d = search (rules, the_lemmas)
 
-constraint_of-parts_all : (cs : Rules) → constraint_of (All cs) ≡ all (parts_in cs)
+pub constraint_of-parts_all : (cs : Rules) → constraint_of (All cs) ≡ all (parts_in cs)
 constraint_of-parts_all cs = search (rules, the_lemmas)
 
-constraint_of-parts_any : (cs : Rules) → constraint_of (Any cs) ≡ any (parts_in cs)
+pub constraint_of-parts_any : (cs : Rules) → constraint_of (Any cs) ≡ any (parts_in cs)
 constraint_of-parts_any cs = search (rules, the_lemmas)
 
 pub constraint_of-always : constraint_of Always ≡ always
@@ -75,12 +75,12 @@ one_more [] c = refl
 one_more (d ∷ rules) c = ap (part (constraint_of d)) (one_more rules c)
 
 -- a list of another length than one
-pub not_alone : (make : Parts → Constraint) (rules : List Rule) → (length rules ≡ 1 → ⊥) → make (constraints_of rules) ≡ alone_or make (constraints_of rules)
+pub not_alone : (make : Parts ℕ → Constraint ℕ) (rules : List Rule) → (length rules ≡ 1 → ⊥) → make (constraints_of rules) ≡ alone_or make (constraints_of rules)
 not_alone make [] h = refl
 not_alone make (c ∷ []) h = absurd (h refl)
 not_alone make (c ∷ d ∷ rules) h = refl
 
-pub alone : (make : Parts → Constraint) (rules front : List Rule) (c : Rule) → length rules ≡ 1 → rules ≡ front ++ c ∷ [] → constraint_of c ≡ alone_or make (constraints_of rules)
+pub alone : (make : Parts ℕ → Constraint ℕ) (rules front : List Rule) (c : Rule) → length rules ≡ 1 → rules ≡ front ++ c ∷ [] → constraint_of c ≡ alone_or make (constraints_of rules)
 alone make rules [] c one is = ap (λ (r : List Rule). alone_or make (constraints_of r)) (sym is)
 alone make rules (d ∷ []) c one is = absurd (omega (arith, ap length is))
 alone make rules (d ∷ e ∷ front) c one is = absurd (omega (arith, ap length is))

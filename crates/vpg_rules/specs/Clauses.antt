@@ -2,19 +2,19 @@
 -- Arrows are eliminated, negations go inwards, and `|` is distributed over `&`. A literal that would stand twice in a
 -- clause stands once, at its first place. A clause with a feature and its negation stays, so the number of clauses
 -- follows from the rule's operators and constants alone.
-use Rattle.std.specs.Prelude.{◌≡◌, Bool, true, false, not, ◌&&◌, ◌==◌, List, [], ◌∷◌, ◌++◌, map, filter, flat_map, ◌⊎◌, slice_index_or, if◌then◌else◌}
+use Rattle.std.specs.Prelude.{◌≡◌, Bool, true, false, not, ◌&&◌, ◌==◌, List, [], ◌∷◌, ◌++◌, map, filter, flat_map, ◌⊎◌, ℕ, length, if◌then◌else◌}
 use Rattle.std.specs.List.{list_any}
-use Rattle.vpg_rules.specs.Constraint.{Constraint, Parts, always, never, feature, negation, all, any, implication, equivalence, no_parts, part}
+use Rattle.vpg_rules.specs.Constraint.{Constraint, Parts, always, never, feature, negation, all, any, implication, equivalence, no_parts, part, renamed}
 use Rattle.vpg_rules.specs.declared.clause.Literal.{Literal}
 
--- the literal is true in the set of features
-abbrev pub IsTrueIn : List Bool → Literal → Type 0
-IsTrueIn set l = slice_index_or set l.feature false ≡ l.value
+-- the literal is true where the test says which features are in
+abbrev pub IsTrueIn : (ℕ → Bool) → Literal → Type 0
+IsTrueIn chosen l = chosen l.feature ≡ l.value
 
 -- some literal of the clause is true
-abbrev pub MeetsClause : List Bool → List Literal → Type 0
-MeetsClause set [] = ⊥
-MeetsClause set (l ∷ ls) = IsTrueIn set l ⊎ MeetsClause set ls
+abbrev pub MeetsClause : (ℕ → Bool) → List Literal → Type 0
+MeetsClause chosen [] = ⊥
+MeetsClause chosen (l ∷ ls) = IsTrueIn chosen l ⊎ MeetsClause chosen ls
 
 -- whether two literals are the same
 abbrev pub is_same : Literal → Literal → Bool
@@ -38,7 +38,7 @@ no_way = [] ∷ []
 
 -- the clauses that the constraint has this value
 abbrev mutual
-  pub clauses_when : Bool → Constraint → List (List Literal)
+  pub clauses_when : Bool → Constraint ℕ → List (List Literal)
   clauses_when true always = []
   clauses_when false always = no_way
   clauses_when true never = no_way
@@ -57,15 +57,19 @@ abbrev mutual
       crossed (clauses_when true c) (clauses_when true d) ++ crossed (clauses_when false c) (clauses_when false d)
 
   -- the clauses that each part has the value
-  pub each_when : Bool → Parts → List (List Literal)
+  pub each_when : Bool → Parts ℕ → List (List Literal)
   each_when b no_parts = []
   each_when b (part c cs) = clauses_when b c ++ each_when b cs
 
   -- the clauses that some part has the value
-  pub some_when : Bool → Parts → List (List Literal)
+  pub some_when : Bool → Parts ℕ → List (List Literal)
   some_when b no_parts = no_way
   some_when b (part c cs) = crossed (clauses_when b c) (some_when b cs)
 
 -- the clauses of a rule
-abbrev pub clauses_of : Constraint → List (List Literal)
+abbrev pub clauses_of : Constraint ℕ → List (List Literal)
 clauses_of c = clauses_when true c
+
+-- how many clauses a rule has, whichever features it names
+abbrev pub clause_count : {A : Type 0} → Constraint A → ℕ
+clause_count c = length (clauses_of (renamed (λ _. 0) c))

@@ -1,23 +1,55 @@
 -- A rule as a propositional formula over features, without its place in memory, and its truth in a set of features. It
 -- is a cross-tree constraint of a feature model, as Batory (2005) writes them; `=>` and `<=>` are the implication and
 -- the equivalence of propositional logic.
-use Rattle.std.specs.Prelude.{ℕ, ◌<◌, List, Bool, true, false, not, ◌&&◌, ◌||◌, slice_index_or, IsTrue}
+use Rattle.std.specs.Prelude.{ℕ, ◌<◌, List, [], ◌∷◌, ◌++◌, Bool, true, false, not, ◌&&◌, ◌||◌, IsTrue}
 
--- a propositional formula over features
+-- a propositional formula over features, each given by its name or by its index
 mutual
-  pub data Constraint : Type 0 where
-    always : Constraint
-    never : Constraint
-    feature : ℕ → Constraint
-    negation : Constraint → Constraint
-    all : Parts → Constraint
-    any : Parts → Constraint
-    implication : Constraint → Constraint → Constraint
-    equivalence : Constraint → Constraint → Constraint
+  pub data Constraint (A : Type 0) : Type 0 where
+    always : Constraint A
+    never : Constraint A
+    feature : A → Constraint A
+    negation : Constraint A → Constraint A
+    all : Parts A → Constraint A
+    any : Parts A → Constraint A
+    implication : Constraint A → Constraint A → Constraint A
+    equivalence : Constraint A → Constraint A → Constraint A
 
-  pub data Parts : Type 0 where
-    no_parts : Parts
-    part : Constraint → Parts → Parts
+  pub data Parts (A : Type 0) : Type 0 where
+    no_parts : Parts A
+    part : Constraint A → Parts A → Parts A
+
+-- the constraint with another feature in place of each
+abbrev mutual
+  pub renamed : {A B : Type 0} → (A → B) → Constraint A → Constraint B
+  renamed to always = always
+  renamed to never = never
+  renamed to (feature f) = feature (to f)
+  renamed to (negation c) = negation (renamed to c)
+  renamed to (all cs) = all (each_renamed to cs)
+  renamed to (any cs) = any (each_renamed to cs)
+  renamed to (implication c d) = implication (renamed to c) (renamed to d)
+  renamed to (equivalence c d) = equivalence (renamed to c) (renamed to d)
+
+  pub each_renamed : {A B : Type 0} → (A → B) → Parts A → Parts B
+  each_renamed to no_parts = no_parts
+  each_renamed to (part c cs) = part (renamed to c) (each_renamed to cs)
+
+-- the features that the constraint names, in order
+abbrev mutual
+  pub features_in : {A : Type 0} → Constraint A → List A
+  features_in always = []
+  features_in never = []
+  features_in (feature f) = f ∷ []
+  features_in (negation c) = features_in c
+  features_in (all cs) = all_features cs
+  features_in (any cs) = all_features cs
+  features_in (implication c d) = features_in c ++ features_in d
+  features_in (equivalence c d) = features_in c ++ features_in d
+
+  pub all_features : {A : Type 0} → Parts A → List A
+  all_features no_parts = []
+  all_features (part c cs) = features_in c ++ all_features cs
 
 -- the truth table of `=>`
 abbrev pub implies : Bool → Bool → Bool
@@ -33,33 +65,33 @@ equals false true = false
 equals true false = false
 equals true true = true
 
--- the truth in a set of features; the set has feature f if the list has true at f
+-- the truth where the test says which features are in
 abbrev mutual
-  pub truth : List Bool → Constraint → Bool
-  truth set always = true
-  truth set never = false
-  truth set (feature f) = slice_index_or set f false
-  truth set (negation c) = not (truth set c)
-  truth set (all cs) = all_true set cs
-  truth set (any cs) = any_true set cs
-  truth set (implication c d) = implies (truth set c) (truth set d)
-  truth set (equivalence c d) = equals (truth set c) (truth set d)
+  pub truth : (ℕ → Bool) → Constraint ℕ → Bool
+  truth chosen always = true
+  truth chosen never = false
+  truth chosen (feature f) = chosen f
+  truth chosen (negation c) = not (truth chosen c)
+  truth chosen (all cs) = all_true chosen cs
+  truth chosen (any cs) = any_true chosen cs
+  truth chosen (implication c d) = implies (truth chosen c) (truth chosen d)
+  truth chosen (equivalence c d) = equals (truth chosen c) (truth chosen d)
 
-  pub all_true : List Bool → Parts → Bool
-  all_true set no_parts = true
-  all_true set (part c cs) = truth set c && all_true set cs
+  pub all_true : (ℕ → Bool) → Parts ℕ → Bool
+  all_true chosen no_parts = true
+  all_true chosen (part c cs) = truth chosen c && all_true chosen cs
 
-  pub any_true : List Bool → Parts → Bool
-  any_true set no_parts = false
-  any_true set (part c cs) = truth set c || any_true set cs
+  pub any_true : (ℕ → Bool) → Parts ℕ → Bool
+  any_true chosen no_parts = false
+  any_true chosen (part c cs) = truth chosen c || any_true chosen cs
 
--- a set of features meets the constraint
-abbrev pub IsMet : Constraint → List Bool → Type 0
-IsMet c set = IsTrue (truth set c)
+-- the features that are in meet the constraint
+abbrev pub IsMet : Constraint ℕ → (ℕ → Bool) → Type 0
+IsMet c chosen = IsTrue (truth chosen c)
 
 -- each feature named is below n
 abbrev mutual
-  pub IsBelow : ℕ → Constraint → Type 0
+  pub IsBelow : ℕ → Constraint ℕ → Type 0
   IsBelow n always = Unit {0}
   IsBelow n never = Unit {0}
   IsBelow n (feature f) = f < n
@@ -69,6 +101,6 @@ abbrev mutual
   IsBelow n (implication c d) = IsBelow n c × IsBelow n d
   IsBelow n (equivalence c d) = IsBelow n c × IsBelow n d
 
-  pub AreBelow : ℕ → Parts → Type 0
+  pub AreBelow : ℕ → Parts ℕ → Type 0
   AreBelow n no_parts = Unit {0}
   AreBelow n (part c cs) = IsBelow n c × AreBelow n cs

@@ -5,3 +5,4 @@ pub mod Clauses
 pub mod Laws
 pub mod Reading
 pub mod Distributing
+pub mod Coding

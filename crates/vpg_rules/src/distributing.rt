@@ -246,8 +246,8 @@ impl Rule {
     pub fn clauses(&self, alloc: Global) -> Result<Vec<Clause>, ClausesFault>
         ensures clauses { IfOk result (λ clauses. clauses.items ≡ clauses_of (constraint_of self.now)) }
         // A set of features meets the rule exactly if it meets each clause.
-        ensures met { IfOk result (λ clauses. (set : List Bool) →
-            IsMet (constraint_of self.now) set ↔ AllByRecursion (MeetsClause set) clauses.items) }
+        ensures met { IfOk result (λ clauses. (chosen : ℕ → Bool) →
+            IsMet (constraint_of self.now) chosen ↔ AllByRecursion (MeetsClause chosen) clauses.items) }
         // They name the features of the rule.
         ensures below { (n : ℕ) → IsBelow n (constraint_of self.now) → IfOk result
             (λ clauses. AllByRecursion (AllByRecursion (λ l. l.feature < n)) clauses.items) }

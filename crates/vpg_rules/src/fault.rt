@@ -7,9 +7,6 @@ pub enum RuleFault {
     /// The first byte of what cannot stand there, or the length of the text if it ends too early.
     #[error("Syntax {at}")]
     Syntax { at: usize },
-    /// The first byte of a name that no feature has.
-    #[error("UnknownFeature {at}")]
-    UnknownFeature { at: usize },
     /// The first byte of the `(`, `!`, `=>` or `<=>` that would be the 65th open one.
     #[error("TooDeep {at}")]
     TooDeep { at: usize },

@@ -4,15 +4,15 @@ ghost use Rattle.std.specs.List.{prefix_len};
 ghost use Rattle.vpg_features.specs.Names.{is_name_byte};
 ghost use Rattle.vpg_guards.specs.Grammar.{is_blank};
 ghost use Rattle.vpg_guards.specs.Reading.{after_blanks};
-ghost use Rattle.vpg_rules.specs.Constraint.{Constraint, Parts, IsBelow, all, any};
+ghost use Rattle.vpg_rules.specs.Constraint.{renamed, all, any};
 ghost use Rattle.vpg_rules.specs.View.{constraint_of, constraints_of};
-ghost use Rattle.vpg_rules.specs.Grammar.{Spells, alone_or};
-ghost use Rattle.vpg_rules.specs.Reading.{Gives, IsToldAt, after_mark, word_at, factor_at, factor_with, conjunction_with, disjunction_with, implication_at, rule_at, whole_at};
+ghost use Rattle.vpg_rules.specs.Grammar.{NamedRule, Spells, alone_or, index_or_end};
+ghost use Rattle.vpg_rules.specs.Reading.{Gives, is_feature_name, IsToldAt, after_mark, word_at, factor_at, factor_with, conjunction_with, disjunction_with, implication_at, rule_at, whole_at};
 
 use crate::fault::RuleFault;
 use crate::rule::{Rule, Rules};
 use std::alloc::Global;
-use vpg_features::{Names, constant_of, is_name_byte};
+use vpg_features::{Names, constant_of, is_feature_name, is_name_byte};
 
 /// The greatest number of `(`, `!`, `=>` and `<=>` that are open at one place.
 pub const DEEPEST: usize = 64;
@@ -66,10 +66,27 @@ fn split_word(text: &[u8]) -> (&[u8], &[u8])
     text.split_at(word_len(text))
 }
 
+/// Whether a word is a feature's name.
+fn is_name(word: &[u8]) -> bool
+    ensures { result ≡ is_feature_name word.now }
+{
+    is_feature_name(word)
+}
+
+/// Returns the index of a name, or the number of names if it is not among them.
+fn index_or_end(names: &Names, name: &[u8]) -> u16
+    ensures { result ≡ index_or_end names.now name.now }
+{
+    match names.get(name) {
+        Some(f) => f,
+        None => names.len() as u16,
+    }
+}
+
 /// Reads the rule that the word at the front stands for. A word that stands for none is told at its place, `at`.
 #[tactic(auto, unfolding(crate::specs::Reading::word_at))]
 fn word<'t>(names: &Names, text: &'t [u8], at: usize) -> Result<(Rule, &'t [u8]), RuleFault>
-    ensures gives { Gives (λ x. (constraint_of x.0, x.1.now)) result (word_at names.now text.now) }
+    ensures gives { Gives (λ x. (constraint_of x.0, x.1.now)) result (word_at (index_or_end names.now) text.now) }
     ensures place { IfErr result (λ fault. IsToldAt at fault) }
     ensures shorter { IfOk result (λ x. length x.1.now ≤ length text.now) }
 {
@@ -79,13 +96,10 @@ fn word<'t>(names: &Names, text: &'t [u8], at: usize) -> Result<(Rule, &'t [u8])
         Some(false) => return Ok((Rule::Never, rest)),
         None => {}
     }
-    match names.get(word) {
-        Some(f) => Ok((Rule::Feature(f), rest)),
-        None => match word {
-            [] | [b'0'..=b'9', ..] => Err(RuleFault::Syntax { at }),
-            _ => Err(RuleFault::UnknownFeature { at }),
-        },
+    if !is_name(word) {
+        return Err(RuleFault::Syntax { at });
     }
+    Ok((Rule::Feature(index_or_end(names, word)), rest))
 }
 
 /// Returns the rule that is alone, or the `All` of several.
@@ -125,7 +139,8 @@ fn factor<'t>(
     depth: usize,
 ) -> Result<(Rule, &'t [u8]), RuleFault>
     requires { length text.now ≤ whole }
-    ensures gives { Gives (λ x. (constraint_of x.0, x.1.now)) result (factor_at names.now (suc depth) text.now) }
+    ensures gives { Gives (λ x. (constraint_of x.0, x.1.now)) result
+        (factor_at (index_or_end names.now) (suc depth) text.now) }
     ensures shorter { IfOk result (λ x. length x.1.now ≤ length text.now) }
 {
     let word_text = after_blanks(text);
@@ -166,7 +181,7 @@ fn conjunction<'t>(
 ) -> Result<(Rule, &'t [u8]), RuleFault>
     requires { length text.now ≤ whole }
     ensures gives { Gives (λ x. (constraint_of x.0, x.1.now)) result
-        (conjunction_with (factor_at names.now (suc depth)) text.now) }
+        (conjunction_with (factor_at (index_or_end names.now) (suc depth)) text.now) }
     ensures shorter { IfOk result (λ x. length x.1.now ≤ length text.now) }
 {
     let (first, mut rest) = factor(alloc, names, text, whole, depth)?;
@@ -195,7 +210,7 @@ fn disjunction<'t>(
 ) -> Result<(Rule, &'t [u8]), RuleFault>
     requires { length text.now ≤ whole }
     ensures gives { Gives (λ x. (constraint_of x.0, x.1.now)) result
-        (disjunction_with (factor_at names.now (suc depth)) text.now) }
+        (disjunction_with (factor_at (index_or_end names.now) (suc depth)) text.now) }
     ensures shorter { IfOk result (λ x. length x.1.now ≤ length text.now) }
 {
     let (first, mut rest) = conjunction(alloc, names, text, whole, depth)?;
@@ -223,7 +238,8 @@ fn implication<'t>(
     depth: usize,
 ) -> Result<(Rule, &'t [u8]), RuleFault>
     requires { length text.now ≤ whole }
-    ensures gives { Gives (λ x. (constraint_of x.0, x.1.now)) result (implication_at names.now (suc depth) text.now) }
+    ensures gives { Gives (λ x. (constraint_of x.0, x.1.now)) result
+        (implication_at (index_or_end names.now) (suc depth) text.now) }
     ensures shorter { IfOk result (λ x. length x.1.now ≤ length text.now) }
 {
     let (left, rest) = disjunction(alloc, names, text, whole, depth)?;
@@ -255,7 +271,8 @@ fn rule<'t>(
     depth: usize,
 ) -> Result<(Rule, &'t [u8]), RuleFault>
     requires { length text.now ≤ whole }
-    ensures gives { Gives (λ x. (constraint_of x.0, x.1.now)) result (rule_at names.now (suc depth) text.now) }
+    ensures gives { Gives (λ x. (constraint_of x.0, x.1.now)) result
+        (rule_at (index_or_end names.now) (suc depth) text.now) }
     ensures shorter { IfOk result (λ x. length x.1.now ≤ length text.now) }
 {
     let (left, rest) = implication(alloc, names, text, whole, depth)?;
@@ -279,7 +296,7 @@ fn rule<'t>(
 
 /// Reads the rule that a whole text spells.
 fn whole_rule(alloc: Global, names: &Names, text: &[u8]) -> Result<Rule, RuleFault>
-    ensures { Gives (λ rule. constraint_of rule) result (whole_at names.now text.now) }
+    ensures { Gives (λ rule. constraint_of rule) result (whole_at (index_or_end names.now) text.now) }
 {
     let (rule, rest) = rule(alloc, names, text, text.len(), DEEPEST)?;
     let rest = after_blanks(rest);
@@ -291,7 +308,8 @@ fn whole_rule(alloc: Global, names: &Names, text: &[u8]) -> Result<Rule, RuleFau
     Ok(rule)
 }
 
-/// Returns the rule that a text spells.
+/// Returns the rule that a text spells. A name that is not among the names stands as the number of names, which is no
+/// feature's index.
 ///
 /// The operators are `!`, `&`, `|`, `=>` and `<=>`, the closest binding first, around the constants `true` and `false`,
 /// names of features, and rules between `(` and `)`. Both arrows take as much as they can to their right: `a => b => c`
@@ -301,14 +319,13 @@ fn whole_rule(alloc: Global, names: &Names, text: &[u8]) -> Result<Rule, RuleFau
 ///
 /// A refusal other than `Memory` comes only if the text spells no rule; it is the leftmost fault.
 pub fn parse_rule(alloc: Global, text: &[u8], names: &Names) -> Result<Rule, RuleFault>
-    // The rule that is read is spelled by the text.
-    ensures found { IfOk result (λ rule. Spells names.now text.now (constraint_of rule)) }
-    ensures below { IfOk result (λ rule. IsBelow (length names.now) (constraint_of rule)) }
+    // The text spells the rule that is read, over names that stand as their indices.
+    ensures found { IfOk result
+        (λ rule. (c : NamedRule) × Spells text.now c × (constraint_of rule ≡ renamed (index_or_end names.now) c)) }
     // A rule that the text spells is read, unless memory runs out.
-    ensures only { (c : Constraint) → Spells names.now text.now c →
-        MatchResult result (λ rule. constraint_of rule ≡ c) (λ e. e ≡ RuleFault.Memory) }
+    ensures only { (c : NamedRule) → Spells text.now c →
+        MatchResult result (λ rule. constraint_of rule ≡ renamed (index_or_end names.now) c)
+        (λ e. e ≡ RuleFault.Memory) }
 {
-    // The contract of `len` says that the names are feature names, each once.
-    let _count = names.len();
     whole_rule(alloc, names, text)
 }

@@ -36,7 +36,7 @@ explained_diagram:2:11: found `:`; expected the name of a child
         script: "",
         said: "\
 explained_diagram:1:1: found `parity`; expected `root`, `mandatory`, `optional`, `alternative`, `or`, `group`, \
-`requires` or `excludes`
+`requires`, `excludes` or `rule`
   hint: this looks like the other file; GAME comes before DIAGRAM
 ",
     },

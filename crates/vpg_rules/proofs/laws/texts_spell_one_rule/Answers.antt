@@ -4,4 +4,4 @@ use Rattle.vpg_rules.proofs.Marks.{some_is}
 use Rattle.vpg_rules.proofs.laws.texts_spell_one_rule.Goals as goal
 
 pub returns : goal.returns
-returns c names text d e are s t = some_is d e (sym (rule_again names text d are s) ∙ rule_again names text e are t)
+returns c text d e s t = some_is d e (sym (rule_again text d s) ∙ rule_again text e t)
