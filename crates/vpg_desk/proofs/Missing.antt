@@ -3,8 +3,8 @@ use Rattle.std.proofs.Common.{◌≡◌, ℕ, ◌+◌, ◌<◌, Bool, true, fals
 use Rattle.std.proofs.lemmas.Bool.{or_from, or_left, or_right, cond-true, cond-false}
 use Rattle.std.proofs.lemmas.List.{map-append, drop_more}
 use Rattle.std.specs.Bool.{beq}
-use Rattle.vpg_trail.specs.Page.{Literal, Decision, Entry as Step, Decided, literal_of, stands, choices_of}
-use Rattle.vpg_trail.proofs.PageLemmas.{stands-append}
+use Rattle.vpg_trail.specs.Page.{Literal, Decision, Entry as Step, Decided, literal_of, same_literal, stands, choices_of}
+use Rattle.vpg_trail.proofs.PageLemmas.{any-append, stands-append}
 use Rattle.vpg_desk.specs.Book.{first_missing}
 
 -- ---- one choice among entries
@@ -36,6 +36,12 @@ other_feature c made n = or_from _ false (not_first (c.feature == made.feature) 
 
 pub other_value : (c : Literal) (made : Decision) → beq c.value made.value ≡ false → stands (choices_of (Decided made ∷ [])) c ≡ false
 other_value c made n = or_from _ false (not_second (c.feature == made.feature) (beq c.value made.value) n) refl
+
+-- a decision among those that are made makes the choice
+pub stands_here : (c : Literal) (before : List Literal) (l : Literal) (after : List Literal) → c.feature ≡ l.feature → beq c.value l.value ≡ true → stands (before ++ l ∷ after) c ≡ true
+stands_here c before l after f v =
+    any-append (same_literal c) before (l ∷ after)
+    ∙ or_right _ _ (or_left _ _ (both (c.feature == l.feature) (beq c.value l.value) (eq-eqb c.feature l.feature f) v))
 
 -- ---- the first that is missing
 

@@ -18,7 +18,7 @@ use vpg_game::GuardedGame;
 use vpg_guards::Tri;
 use vpg_measure::{Harvest, Order, PageGames};
 use vpg_partial::Decision;
-use vpg_trail::{Assumed, Entry, Trail, lifts};
+use vpg_trail::{Assumed, Entry, Trail, decisions_among, lifts};
 use vpg_verdict::Which;
 
 /// Whether the order is of this game and this diagram.
@@ -26,6 +26,30 @@ fn is_order_of(order: &Order, game: &GuardedGame, diagram: &Diagram) -> bool
     ensures { Decides result ((order.now.game ≡ game.now) × (order.now.diagram ≡ diagram.now)) }
 {
     order.game().is_same(game) && order.diagram().is_same(diagram)
+}
+
+/// Whether a decision among these is on the same feature with the same value.
+fn is_made(made: &[Decision], decision: Decision) -> bool
+    ensures { result ≡ stands (map literal_of made.now) (literal_of decision) }
+{
+    for one in made {
+        if decision.feature == one.feature && decision.value == one.value {
+            return true;
+        }
+    }
+    false
+}
+
+/// Returns the feature of the first decision that isn't among those made with the same value.
+fn first_not_made(made: &[Decision], decisions: &[Decision]) -> Option<u16>
+    ensures { result ≡ missing_among (map literal_of made.now) (map literal_of decisions.now) }
+{
+    for decision in decisions {
+        if !is_made(made, *decision) {
+            return Some(decision.feature);
+        }
+    }
+    None
 }
 
 /// Whether a decision among the entries is on the same feature with the same value.
@@ -42,8 +66,8 @@ fn is_among(entries: &[Entry], decision: Decision) -> bool
     false
 }
 
-/// Returns the feature of the first decision that isn't among the entries with the same value.
-fn first_missing(entries: &[Entry], decisions: &[Decision]) -> Option<u16>
+/// Returns the feature of the first decision that isn't among the entries with the same value, without memory.
+fn first_not_among(entries: &[Entry], decisions: &[Decision]) -> Option<u16>
     ensures { result ≡ missing_among (choices_of (map entry_of entries.now)) (map literal_of decisions.now) }
 {
     for decision in decisions {
@@ -52,6 +76,17 @@ fn first_missing(entries: &[Entry], decisions: &[Decision]) -> Option<u16>
         }
     }
     None
+}
+
+/// Returns the feature of the first decision that isn't among the entries with the same value. One pass finds the
+/// entries' decisions. Without memory for these, each decision has a pass of its own.
+fn first_missing(alloc: Global, entries: &[Entry], decisions: &[Decision]) -> Option<u16>
+    ensures { result ≡ missing_among (choices_of (map entry_of entries.now)) (map literal_of decisions.now) }
+{
+    match decisions_among(alloc, entries) {
+        Ok(made) => first_not_made(&made, decisions),
+        Err(_) => first_not_among(entries, decisions),
+    }
 }
 
 /// Returns the decisions without their serials.
@@ -192,7 +227,7 @@ impl Desk {
         ensures err { OnErr result (self.new ≡ self.old) }
     {
         let order = harvest.order();
-        if let Some(feature) = first_missing(self.trail.entries(), order.decisions()) {
+        if let Some(feature) = first_missing(alloc, self.trail.entries(), order.decisions()) {
             return Err(CommitFault::Outdated { feature });
         }
         let is_noted = settles(self.is_noted, harvest, &self.games);

@@ -4,7 +4,7 @@ use Rattle.vpg_trail.specs.Page.{literal_of, choices_of}
 use Rattle.vpg_trail.specs.Shown.{entry_of}
 use Rattle.vpg_desk.specs.Book.{first_missing}
 use Rattle.vpg_desk.proofs.Missing.{missing_here, missing_more, split_decisions}
-use Rattle.vpg_desk.proofs.commit.first_missing.Goals as goal
+use Rattle.vpg_desk.proofs.commit.first_not_among.Goals as goal
 
 pub returns-then-not-is_among : goal.returns-then-not-is_among
 returns-then-not-is_among c =
