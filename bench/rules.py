@@ -45,6 +45,7 @@ fn main(rt: HostRuntime) -> Result<()> {
     for line in lines {
         match parse_rule(alloc, line, &names) {
             Err(fault) => println!(rt; "{fault}")?,
+            Ok(rule) if !rule.is_below(names.len()) => println!(rt; "UnknownFeature")?,
             Ok(rule) => match rule.clauses(alloc) {
                 Err(fault) => println!(rt; "{fault}")?,
                 Ok(clauses) => {
@@ -78,6 +79,7 @@ class Fault(Exception):
 class Reader:
     def __init__(self, text, names):
         self.text, self.names, self.at = text, names, 0
+        self.is_known = True
 
     def skip(self):
         while self.at < len(self.text) and self.text[self.at] in BLANKS:
@@ -131,9 +133,11 @@ class Reader:
             rule = word == "true"
         elif word in self.names:
             rule = ("name", self.names.index(word))
+        elif re.match("[A-Za-z_]", word) and len(word) <= 64:
+            rule = ("name", len(self.names))
+            self.is_known = False
         else:
-            kind = "UnknownFeature" if re.match("[A-Za-z_]", word) else "Syntax"
-            raise Fault(f"{kind} {self.at}")
+            raise Fault(f"Syntax {self.at}")
         self.at += len(word)
         return rule
 
@@ -144,6 +148,8 @@ def read_rule(text, names):
     reader.skip()
     if reader.at < len(text):
         raise Fault(f"Syntax {reader.at}")
+    if not reader.is_known:
+        raise Fault("UnknownFeature")
     return rule
 
 

@@ -57,6 +57,7 @@ line_of_fault diagram.NoRoot = 1
 line_of_fault (diagram.TwoRoots line) = line
 line_of_fault (diagram.UnknownFeature line) = line
 line_of_fault (diagram.TwoParents line) = line
+line_of_fault (diagram.TooManyClauses line) = line
 line_of_fault (diagram.TooMany line) = line
 line_of_fault (diagram.BadRange line) = line
 line_of_fault diagram.Memory = 1
