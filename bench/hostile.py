@@ -64,7 +64,13 @@ def cases():
     yield "a million repeated successors with guards", check, b"0 0 0 " + b",".join([b"0[f]"] * 1_048_576) + b";", ROOT, b"", done
     yield "65,536 vertices that name one missing vertex last", check, lines(b"%d 0 0 %d;\n", range(65_535)) + b"65535 0 0 70000;", ROOT, b"", told(b"game MissingVertex 70000")
     yield "65,536 vertices of which the last is double", check, lines(b"%d 0 0 %d;\n", range(65_535)) + b"0 0 0 0;", ROOT, b"", told(b"game DoubleVertex 0")
-    yield "a quarter of a million edges with guards at the depth limit", check, edges_at_depth(), ROOT, b"", done
+    deep = edges_at_depth()
+    yield "an eighth of a million edges with guards at the depth limit", check, deep, ROOT, b"", done
+    above = told(b"game TooManySigns %d" % (len(deep) + 11))
+    yield "one sign more", check, deep + b"9999 0 0 0[!f];", ROOT, b"", above
+    parts = b"0 0 0 " + b",".join([b"0[" + b"|".join([b"f&f"] * 32_768) + b"]"] * 128) + b";"
+    yield "eight million signs of short parts", check, parts, ROOT, b"", done
+    yield "a file without an end", ["check", "/dev/zero", "diagram"], GAME, ROOT, b"", told(b"game TooLarge")
     yield "guard of a million parentheses", check, b"0 0 0 0[" + b"(" * million + b"];", ROOT, b"", told(b"game Guard 8 TooDeep 64")
     yield "guard of half a million parts", check, b"0 0 0 0[" + b"|".join([b"f"] * 500_000) + b"];", ROOT, b"", done
 
@@ -101,7 +107,7 @@ def cases():
     yield "16,384 rules that close in a chain, with warnings", lint, GAME, many, b"", done
     repeated = b"0 0 0 " + b",".join([b"0[f]"] * 1_048_576) + b";"
     yield "a picture of a million repeated successors with guards", draw, repeated, ROOT, b"", done
-    yield "a picture of edges with guards at the depth limit", draw, edges_at_depth(), ROOT, b"", done
+    yield "a picture of edges with guards at the depth limit", draw, deep, ROOT, b"", done
     yield "a picture of 16,384 rules", [*draw, "--features"], GAME, many, b"", done
     named = b"".join(b'%d 0 0 %d "%0100d";\n' % (v, v, v) for v in vertices)
     yield "65,536 names of a hundred bytes beside answers", [*run, "--names"], named, ROOT, b"show\n" * 10, done
@@ -113,10 +119,10 @@ def cases():
 
 
 def edges_at_depth():
-    """A game of 4,096 vertices with 64 successors each, of which each guard opens 64 times."""
+    """A game of 2,048 vertices with 64 successors each, of which each guard opens 64 times: the most signs."""
     guard = b"!" * 64 + b"f"
     entry = b",".join(b"%d[%s]" % (w, guard) for w in range(64))
-    return b"".join(b"%d 0 0 %s;\n" % (v, entry) for v in range(4_096))
+    return b"".join(b"%d 0 0 %s;\n" % (v, entry) for v in range(2_048))
 
 
 def run(program, folder, words):

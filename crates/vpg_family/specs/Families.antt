@@ -16,8 +16,10 @@ use Rattle.vpg_checking.specs.Checking.{IsModelOfTexts}
 use Rattle.vpg_checking.specs.Faults.{IsCheckingFault}
 use Rattle.vpg_checking.specs.declared.fault.CheckingFault.TheVariants as of_model
 use Rattle.vpg_hope.specs.Plain.{projection, plain_text}
+use Rattle.vpg_family.specs.Limits.{IsWithin, IsOverLimit}
 use Rattle.vpg_family.specs.declared.files.GamePaths.{GamePaths}
 use Rattle.vpg_family.specs.declared.files.GamePaths.TheVariants as paths
+use Rattle.vpg_family.specs.declared.fault.Input.TheVariants as inputs
 use Rattle.vpg_family.specs.declared.fault.Fault.{Fault}
 use Rattle.vpg_family.specs.declared.fault.Fault.TheVariants as told
 
@@ -122,6 +124,18 @@ IsUnread diagram_text game_text system_text requirements_text told.SystemUnreada
     IsSomeDiagram diagram_text × (game_text ≡ []) × (system_text ≡ []) × (requirements_text ≡ [])
 IsUnread diagram_text game_text system_text requirements_text told.RequirementsUnreadable =
     IsSomeDiagram diagram_text × (game_text ≡ []) × (requirements_text ≡ [])
+IsUnread diagram_text game_text system_text requirements_text (told.TooLarge inputs.Diagram) =
+    (¬ IsWithin diagram_text) × (game_text ≡ []) × (system_text ≡ []) × (requirements_text ≡ [])
+IsUnread diagram_text game_text system_text requirements_text (told.TooLarge inputs.Game) =
+    IsSomeDiagram diagram_text × IsOverLimit game_text (told.TooLarge inputs.Game) × (system_text ≡ []) ×
+    (requirements_text ≡ [])
+IsUnread diagram_text game_text system_text requirements_text (told.TooLarge inputs.System) =
+    IsSomeDiagram diagram_text × (game_text ≡ []) × (¬ IsWithin system_text) × (requirements_text ≡ [])
+IsUnread diagram_text game_text system_text requirements_text (told.TooLarge inputs.Requirements) =
+    IsSomeDiagram diagram_text × (game_text ≡ []) × (¬ IsWithin requirements_text)
+IsUnread diagram_text game_text system_text requirements_text (told.TooManySigns at) =
+    IsSomeDiagram diagram_text × IsOverLimit game_text (told.TooManySigns at) × (system_text ≡ []) ×
+    (requirements_text ≡ [])
 IsUnread diagram_text game_text system_text requirements_text (told.System fault) =
     IsNoModel diagram_text system_text requirements_text (told.System fault)
 IsUnread diagram_text game_text system_text requirements_text (told.Requirements fault) =
@@ -136,6 +150,8 @@ IsUnread diagram_text game_text system_text requirements_text fault = IsFamilyFa
 abbrev pub IsOfGame : Fault → Type 0
 IsOfGame told.SystemUnreadable = ⊥
 IsOfGame told.RequirementsUnreadable = ⊥
+IsOfGame (told.TooLarge inputs.System) = ⊥
+IsOfGame (told.TooLarge inputs.Requirements) = ⊥
 IsOfGame (told.System fault) = ⊥
 IsOfGame (told.Requirements fault) = ⊥
 IsOfGame (told.TooManyParts name) = ⊥
@@ -145,12 +161,17 @@ IsOfGame fault = ⊤
 -- or of a diagram, a system and its requirements
 abbrev pub IsOfModel : Fault → Type 0
 IsOfModel told.GameUnreadable = ⊥
+IsOfModel (told.TooLarge inputs.Game) = ⊥
+IsOfModel (told.TooManySigns at) = ⊥
 IsOfModel fault = ⊤
 
 -- or of a diagram and a system that is drawn
 abbrev pub IsOfSystem : Fault → Type 0
 IsOfSystem told.GameUnreadable = ⊥
 IsOfSystem told.RequirementsUnreadable = ⊥
+IsOfSystem (told.TooLarge inputs.Game) = ⊥
+IsOfSystem (told.TooLarge inputs.Requirements) = ⊥
+IsOfSystem (told.TooManySigns at) = ⊥
 IsOfSystem (told.System fault) = ⊥
 IsOfSystem (told.Requirements fault) = ⊥
 IsOfSystem (told.TooManyParts name) = ⊥

@@ -16,6 +16,8 @@ use Rattle.vpg_model.specs.declared.fault.ModelFault.TheVariants as model
 use Rattle.vpg_script.specs.declared.command.LineFault.{LineFault}
 use Rattle.vpg_script.specs.declared.command.LineFault.TheVariants as stops
 use Rattle.vpg_family.specs.Counts.{labelled}
+use Rattle.vpg_family.specs.declared.fault.Input.{Input}
+use Rattle.vpg_family.specs.declared.fault.Input.TheVariants as inputs
 use Rattle.vpg_family.specs.declared.fault.Fault.{Fault}
 use Rattle.vpg_family.specs.declared.fault.Fault.TheVariants as told
 
@@ -81,6 +83,13 @@ line_text stops.Word = codes "Word"
 line_text stops.Args = codes "Args"
 line_text stops.TooLong = codes "TooLong"
 
+abbrev pub large_text : Input → List ℕ
+large_text inputs.Diagram = codes "diagram TooLarge"
+large_text inputs.Game = codes "game TooLarge"
+large_text inputs.System = codes "system TooLarge"
+large_text inputs.Requirements = codes "requirements TooLarge"
+large_text inputs.Script = codes "script TooLarge"
+
 -- the text of a fault, which has those of the faults of guards, games, diagrams, systems, requirements, models and
 -- lines as parts
 abbrev pub fault_text : Fault → List ℕ
@@ -95,6 +104,8 @@ fault_text (told.Requirements fault) = codes "requirements " ++ requirements_tex
 fault_text (told.TooManyParts name) = codes "requirements TooManyParts " ++ name.items
 fault_text (told.Model fault) = codes "model " ++ model_text fault
 fault_text told.ScriptUnreadable = codes "script unreadable"
+fault_text (told.TooLarge input) = large_text input
+fault_text (told.TooManySigns at) = labelled (codes "game TooManySigns") at
 fault_text told.AtLimit = codes "game AtLimit"
 fault_text (told.Conflict feature) = codes "Conflict " ++ string_bytes feature
 fault_text (told.Line number fault) = labelled (codes "script Line") number ++ 32 ∷ line_text fault

@@ -3,6 +3,7 @@ pub mod Checked
 pub mod Counts
 pub mod Families
 pub mod Faults
+pub mod Limits
 pub mod Made
 pub mod Pages
 pub mod Pictures

@@ -1,7 +1,7 @@
 //! Lines that say where and why the files of a family, a script over it, or words for its features are refused.
 use crate::family::read_diagram;
-use crate::fault::Fault;
-use crate::files::{GamePaths, ModelPaths, Paths, Texts};
+use crate::fault::{Fault, Input};
+use crate::files::{GamePaths, ModelPaths, Paths, Texts, read_script};
 use std::alloc::{AllocError, Global};
 use std::fs;
 use std::rt::Files;
@@ -16,18 +16,26 @@ use vpg_model::ModelFault;
 use vpg_places::{declared_of, line_at, place_of};
 use vpg_system::SystemFault;
 
-/// Returns the text of a file, if it can be read once more. A pipe gives its bytes once.
+/// Returns the text of a file within the limit, if it can be read once more. A pipe gives its bytes once.
 fn text_of<R: Files + AllocGlobal>(rt: &R, path: &str) -> Option<Vec<u8>> {
     match fs::metadata(rt, path) {
-        Ok(it) if it.is_file() => fs::read(rt, path).ok(),
+        Ok(it) if it.is_file() => read_script(rt, path).ok(),
         _ => None,
     }
 }
 
-/// Appends that a file can't be read.
-fn put_unreadable(path: &str, out: &mut Vec<u8>) -> Result<(), AllocError> {
+/// Appends why a file is not read, or not as a whole.
+fn put_unread(path: &str, why: &[u8], out: &mut Vec<u8>) -> Result<(), AllocError> {
     put_text(path.as_bytes(), out)?;
-    out.extend_from_slice(b": there is no such file, or it cannot be read\n")
+    out.extend_from_slice(why)
+}
+
+/// Appends that the file of a game has too many signs, the first of them at a place.
+fn put_signs(path: &str, text: &[u8], at: usize, out: &mut Vec<u8>) -> Result<(), AllocError> {
+    put_place(path, place_of(text, at.min(text.len())), out)?;
+    out.extend_from_slice(
+        b"a game has at most 8,388,608 signs `!`, `&` and `|`, and here is one more\n",
+    )
 }
 
 /// Appends why the text of a diagram is refused.
@@ -235,6 +243,12 @@ fn put_of_game(
         (GamePaths::Game(path), Fault::Game { fault }) => {
             put_game(alloc, path, &texts.game, &texts.diagram, *fault, out)
         }
+        (GamePaths::Game(path), Fault::TooManySigns { at }) => put_signs(
+            path,
+            &texts.game,
+            *at,
+            out,
+        ),
         (GamePaths::Model(files), _) => put_of_model(alloc, files, texts, fault, out),
         (GamePaths::System(path), Fault::System { fault }) => {
             put_system(alloc, path, &texts.system, &texts.diagram, *fault, out)
@@ -243,21 +257,34 @@ fn put_of_game(
     }
 }
 
-/// Returns the path of the file that can't be read, if this is the fault.
-fn unreadable_path<'a>(
-    paths: Paths<'a>,
-    script: Option<&'a str>,
-    fault: &Fault,
-) -> Option<&'a str> {
-    match (fault, paths.game) {
-        (Fault::DiagramUnreadable, _) => Some(paths.diagram),
-        (Fault::ScriptUnreadable, _) => script,
-        (Fault::GameUnreadable, GamePaths::Game(path)) => Some(path),
-        (Fault::SystemUnreadable, GamePaths::Model(files)) => Some(files.system),
-        (Fault::SystemUnreadable, GamePaths::System(path)) => Some(path),
-        (Fault::RequirementsUnreadable, GamePaths::Model(files)) => Some(files.requirements),
+/// Returns the path of a file, if there is one.
+fn path_of<'a>(paths: Paths<'a>, script: Option<&'a str>, input: Input) -> Option<&'a str> {
+    match (input, paths.game) {
+        (Input::Diagram, _) => Some(paths.diagram),
+        (Input::Script, _) => script,
+        (Input::Game, GamePaths::Game(path)) => Some(path),
+        (Input::System, GamePaths::Model(files)) => Some(files.system),
+        (Input::System, GamePaths::System(path)) => Some(path),
+        (Input::Requirements, GamePaths::Model(files)) => Some(files.requirements),
         _ => None,
     }
+}
+
+/// Returns the file that is not read, or not as a whole, if this is the fault, and why.
+fn unread_input(fault: &Fault) -> Option<(Input, &'static [u8])> {
+    let input = match fault {
+        Fault::DiagramUnreadable => Input::Diagram,
+        Fault::ScriptUnreadable => Input::Script,
+        Fault::GameUnreadable => Input::Game,
+        Fault::SystemUnreadable => Input::System,
+        Fault::RequirementsUnreadable => Input::Requirements,
+        Fault::TooLarge { input } => return Some((
+            *input,
+            b": it has more than 268,435,456 bytes\n",
+        )),
+        _ => return None,
+    };
+    Some((input, b": there is no such file, or it cannot be read\n"))
 }
 
 /// Appends why a line of a script is no command, if its file can be read once more.
@@ -313,8 +340,10 @@ pub fn explained<R: Files + AllocGlobal>(
     fault: &Fault,
 ) -> Result<Vec<u8>, AllocError> {
     let mut lines = Vec::new(alloc);
-    if let Some(path) = unreadable_path(paths, script, fault) {
-        put_unreadable(path, &mut lines)?;
+    if let Some((input, why)) = unread_input(fault) {
+        if let Some(path) = path_of(paths, script, input) {
+            put_unread(path, why, &mut lines)?;
+        }
         return Ok(lines);
     }
     match put_explained(rt, alloc, paths, texts, script, fault, &mut lines) {

@@ -12,6 +12,28 @@ use vpg_model::ModelFault;
 use vpg_script::LineFault;
 use vpg_system::SystemFault;
 
+/// A file that is read as a whole.
+#[derive(Clone, Copy, Debug, Drop, PartialEq, Eq)]
+pub enum Input {
+    Diagram,
+    Game,
+    System,
+    Requirements,
+    Script,
+}
+
+impl fmt::Display for Input {
+    fn fmt<W: fmt::Write>(&self, f: &mut fmt::Formatter<W>) -> fmt::Result {
+        f.write_str(match self {
+            Input::Diagram => "diagram",
+            Input::Game => "game",
+            Input::System => "system",
+            Input::Requirements => "requirements",
+            Input::Script => "script",
+        })
+    }
+}
+
 /// Writes that a word names no feature, with `?` for each control character of the word.
 fn put_unknown<W: fmt::Write>(word: &String, f: &mut fmt::Formatter<W>) -> fmt::Result {
     f.write_str("UnknownFeature ")?;
@@ -66,6 +88,12 @@ pub enum Fault {
     Model { fault: ModelFault },
     #[error("script unreadable")]
     ScriptUnreadable,
+    /// The file has more than 268,435,456 bytes.
+    #[error("{input} TooLarge")]
+    TooLarge { input: Input },
+    /// The file of the game has more than 8,388,608 signs `!`, `&` and `|`: the first one above stands here.
+    #[error("game TooManySigns {at}")]
+    TooManySigns { at: usize },
     /// Some priority of the game is 65,536.
     #[error("game AtLimit")]
     AtLimit,

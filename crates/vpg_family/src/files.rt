@@ -5,15 +5,17 @@ ghost use Rattle.std.specs.Prelude.{◌≡◌, ◌⊎◌, [], None, IfOk, IfErr}
 ghost use Rattle.vpg_diagram.specs.DiagramText.{IsTextOf};
 ghost use Rattle.vpg_diagram.specs.FeatureDiagram.{feature_count};
 ghost use Rattle.vpg_formula.specs.EntryCode.{earlier_of};
+ghost use Rattle.vpg_family.specs.Limits.{IsWithin, IsWithinBoth, IsGameWithin, AreWithin};
 ghost use Rattle.vpg_family.specs.Made.{AreTextsMadeOf, IsMadeBy};
 ghost use Rattle.vpg_family.specs.Families.{IsSpelled, IsUnread, IsOfGame, IsOfModel, IsOfSystem, IsOfPaths, IsSomeDiagram, IsModelledBy, AreTextsOf, IsFamilyOf};
 
 use crate::family::{Family, read_diagram};
-use crate::fault::Fault;
+use crate::fault::{Fault, Input};
+use crate::limits::{MOST_BYTES, is_within, over_limit};
 use crate::modelling::{Modelled, model_of};
 use std::alloc::Global;
-use std::fs::{self, File};
-use std::io::{Error, ErrorKind};
+use std::fs::File;
+use std::io::{Error, ErrorKind, Read};
 use std::rt::Files;
 use vpg_checking::Behaviour;
 use vpg_diagram::Diagram;
@@ -56,11 +58,23 @@ fn unreadable(error: Error, fault: Fault) -> Fault
     }
 }
 
-/// Returns the text of a file, or the fault if it cannot be read.
-fn read_file<R: Files + AllocGlobal>(rt: &R, path: &str, fault: Fault) -> Result<Vec<u8>, Fault>
+/// Returns the bytes of a file, at most one more than the limit.
+fn bytes_of<R: Files + AllocGlobal>(rt: &R, path: &str) -> Result<Vec<u8>, Error> {
+    let file = File::open(rt, path)?;
+    let mut bytes = Vec::new(rt.alloc());
+    file.take(MOST_BYTES as u64 + 1).read_to_end(&mut bytes)?;
+    Ok(bytes)
+}
+
+/// Returns the text of a file, at most one byte more than the limit, or the fault if it cannot be read.
+pub(crate) fn read_file<R: Files + AllocGlobal>(
+    rt: &R,
+    path: &str,
+    fault: Fault,
+) -> Result<Vec<u8>, Fault>
     ensures refused { IfErr result (λ told. (told ≡ Fault.Memory) ⊎ (told ≡ fault)) }
 {
-    match fs::read(rt, path) {
+    match bytes_of(rt, path) {
         Ok(text) => Ok(text),
         Err(error) => Err(unreadable(error, fault)),
     }
@@ -110,10 +124,11 @@ fn not_read(
     alloc: Global,
     fault: Fault,
     diagram: Vec<u8>,
+    game: Vec<u8>,
     system: Vec<u8>,
     requirements: Vec<u8>,
 ) -> Unread
-    requires { IsUnread diagram.items [] system.items requirements.items fault }
+    requires { IsUnread diagram.items game.items system.items requirements.items fault }
     ensures unread { IsUnread result.texts.diagram.items result.texts.game.items result.texts.system.items
         result.texts.requirements.items result.fault }
     ensures fault { result.fault ≡ fault }
@@ -122,7 +137,7 @@ fn not_read(
         fault,
         texts: Texts {
             diagram,
-            game: Vec::new(alloc),
+            game,
             entries: Vec::new(alloc),
             vertices: Vec::new(alloc),
             system,
@@ -132,6 +147,39 @@ fn not_read(
     }
 }
 
+/// Returns the fault of a diagram's file, beside its text.
+fn no_diagram(alloc: Global, fault: Fault, text: Vec<u8>) -> Unread
+    requires { IsUnread text.items [] [] [] fault }
+    ensures unread { IsUnread result.texts.diagram.items result.texts.game.items result.texts.system.items
+        result.texts.requirements.items result.fault }
+    ensures fault { result.fault ≡ fault }
+{
+    not_read(
+        alloc,
+        fault,
+        text,
+        Vec::new(alloc),
+        Vec::new(alloc),
+        Vec::new(alloc),
+    )
+}
+
+/// Returns the fault of a system or of its requirements, beside their texts and that of the diagram.
+fn no_model(
+    alloc: Global,
+    fault: Fault,
+    diagram: Vec<u8>,
+    system: Vec<u8>,
+    requirements: Vec<u8>,
+) -> Unread
+    requires { IsUnread diagram.items [] system.items requirements.items fault }
+    ensures unread { IsUnread result.texts.diagram.items result.texts.game.items result.texts.system.items
+        result.texts.requirements.items result.fault }
+    ensures fault { result.fault ≡ fault }
+{
+    not_read(alloc, fault, diagram, Vec::new(alloc), system, requirements)
+}
+
 /// Returns the text of a diagram, and that of a game's file.
 fn game_texts<R: Files + AllocGlobal>(
     rt: &R,
@@ -139,24 +187,32 @@ fn game_texts<R: Files + AllocGlobal>(
     diagram: Vec<u8>,
     path: &str,
 ) -> Result<Texts, Unread>
-    requires { IsSomeDiagram diagram.items }
+    requires diagram { IsSomeDiagram diagram.items }
+    requires within { IsWithin diagram.items }
     ensures none { IfOk result (λ texts. texts.behaviour ≡ None) }
+    ensures within { IfOk result (λ texts. AreWithin texts.diagram.items texts.system.items texts.requirements.items) }
+    ensures game { IfOk result (λ texts. IsWithinBoth texts.game.items) }
     ensures refused { IfErr result (λ unread. IsUnread unread.texts.diagram.items unread.texts.game.items
         unread.texts.system.items unread.texts.requirements.items unread.fault) }
     ensures of_game { IfErr result (λ unread. IsOfGame unread.fault) }
 {
-    match read_file(rt, path, Fault::GameUnreadable) {
-        Ok(game) => Ok(Texts {
-            diagram,
-            game,
-            entries: Vec::new(alloc),
-            vertices: Vec::new(alloc),
-            system: Vec::new(alloc),
-            requirements: Vec::new(alloc),
-            behaviour: None,
-        }),
-        Err(fault) => Err(not_read(alloc, fault, diagram, Vec::new(alloc), Vec::new(alloc))),
+    let game = match read_file(rt, path, Fault::GameUnreadable) {
+        Ok(game) => game,
+        Err(fault) => return Err(no_diagram(alloc, fault, diagram)),
+    };
+    if let Some(fault) = over_limit(&game) {
+        let none = Vec::new(alloc);
+        return Err(not_read(alloc, fault, diagram, game, none, Vec::new(alloc)));
     }
+    Ok(Texts {
+        diagram,
+        game,
+        entries: Vec::new(alloc),
+        vertices: Vec::new(alloc),
+        system: Vec::new(alloc),
+        requirements: Vec::new(alloc),
+        behaviour: None,
+    })
 }
 
 /// Returns the text of a diagram, and that of a system's file. There is no game.
@@ -166,24 +222,33 @@ fn system_texts<R: Files + AllocGlobal>(
     diagram: Vec<u8>,
     path: &str,
 ) -> Result<Texts, Unread>
-    requires { IsSomeDiagram diagram.items }
+    requires diagram { IsSomeDiagram diagram.items }
+    requires within { IsWithin diagram.items }
     ensures none { IfOk result (λ texts. texts.behaviour ≡ None) }
+    ensures within { IfOk result (λ texts. AreWithin texts.diagram.items texts.system.items texts.requirements.items) }
     ensures refused { IfErr result (λ unread. IsUnread unread.texts.diagram.items unread.texts.game.items
         unread.texts.system.items unread.texts.requirements.items unread.fault) }
     ensures of_system { IfErr result (λ unread. IsOfSystem unread.fault) }
 {
-    match read_file(rt, path, Fault::SystemUnreadable) {
-        Ok(system) => Ok(Texts {
-            diagram,
-            game: Vec::new(alloc),
-            entries: Vec::new(alloc),
-            vertices: Vec::new(alloc),
-            system,
-            requirements: Vec::new(alloc),
-            behaviour: None,
-        }),
-        Err(fault) => Err(not_read(alloc, fault, diagram, Vec::new(alloc), Vec::new(alloc))),
+    let system = match read_file(rt, path, Fault::SystemUnreadable) {
+        Ok(system) => system,
+        Err(fault) => return Err(no_diagram(alloc, fault, diagram)),
+    };
+    if !is_within(&system) {
+        let fault = Fault::TooLarge {
+            input: Input::System,
+        };
+        return Err(no_model(alloc, fault, diagram, system, Vec::new(alloc)));
     }
+    Ok(Texts {
+        diagram,
+        game: Vec::new(alloc),
+        entries: Vec::new(alloc),
+        vertices: Vec::new(alloc),
+        system,
+        requirements: Vec::new(alloc),
+        behaviour: None,
+    })
 }
 
 /// Returns the text of a diagram, and that of the game of a system and its requirements over it, by the texts of these.
@@ -194,10 +259,12 @@ fn made_texts(
     system: Vec<u8>,
     requirements: Vec<u8>,
 ) -> Result<Texts, Unread>
-    requires { IsTextOf text.items diagram.now }
+    requires diagram { IsTextOf text.items diagram.now }
+    requires within { AreWithin text.items system.items requirements.items }
     ensures model { IfOk result (λ texts.
         IsModelledBy texts.diagram.items texts.game.items (earlier_of texts.entries.items) texts.vertices.items) }
     ensures made { IfOk result (λ texts. IsMadeBy texts.diagram.items texts.game.items texts.behaviour) }
+    ensures within { IfOk result (λ texts. AreWithin texts.diagram.items texts.system.items texts.requirements.items) }
     ensures refused { IfErr result (λ unread. IsUnread unread.texts.diagram.items unread.texts.game.items
         unread.texts.system.items unread.texts.requirements.items unread.fault) }
     ensures of_model { IfErr result (λ unread. IsOfModel unread.fault) }
@@ -219,7 +286,7 @@ fn made_texts(
             requirements,
             behaviour: Some(behaviour),
         }),
-        Err(fault) => Err(not_read(alloc, fault, text, system, requirements)),
+        Err(fault) => Err(no_model(alloc, fault, text, system, requirements)),
     }
 }
 
@@ -231,28 +298,41 @@ fn model_texts<R: Files + AllocGlobal>(
     diagram: &Diagram,
     files: ModelPaths<'_>,
 ) -> Result<Texts, Unread>
-    requires { IsTextOf text.items diagram.now }
+    requires diagram { IsTextOf text.items diagram.now }
+    requires within { IsWithin text.items }
     ensures model { IfOk result (λ texts.
         IsModelledBy texts.diagram.items texts.game.items (earlier_of texts.entries.items) texts.vertices.items) }
     ensures made { IfOk result (λ texts. IsMadeBy texts.diagram.items texts.game.items texts.behaviour) }
+    ensures within { IfOk result (λ texts. AreWithin texts.diagram.items texts.system.items texts.requirements.items) }
     ensures refused { IfErr result (λ unread. IsUnread unread.texts.diagram.items unread.texts.game.items
         unread.texts.system.items unread.texts.requirements.items unread.fault) }
     ensures of_model { IfErr result (λ unread. IsOfModel unread.fault) }
 {
     let system = match read_file(rt, files.system, Fault::SystemUnreadable) {
         Ok(system) => system,
-        Err(fault) => return Err(not_read(alloc, fault, text, Vec::new(alloc), Vec::new(alloc))),
+        Err(fault) => return Err(no_diagram(alloc, fault, text)),
     };
+    if !is_within(&system) {
+        let fault = Fault::TooLarge {
+            input: Input::System,
+        };
+        return Err(no_model(alloc, fault, text, system, Vec::new(alloc)));
+    }
     let requirements = match read_file(rt, files.requirements, Fault::RequirementsUnreadable) {
         Ok(requirements) => requirements,
-        Err(fault) => return Err(not_read(alloc, fault, text, system, Vec::new(alloc))),
+        Err(fault) => return Err(no_model(alloc, fault, text, system, Vec::new(alloc))),
     };
+    if !is_within(&requirements) {
+        let input = Input::Requirements;
+        return Err(no_model(alloc, Fault::TooLarge { input }, text, system, requirements));
+    }
     made_texts(alloc, text, diagram, system, requirements)
 }
 
 /// Returns the texts of a family's files. That of the diagram is read, and refused, before any other is. If a system
 /// and its requirements stand in place of the game, it is made: they are read, and then the system is refused before
-/// the requirements are. The fault is that of the texts that come back with it.
+/// the requirements are. A file of more than 268,435,456 bytes is refused as one that cannot be read is, and so is that
+/// of a game with more than 8,388,608 signs `!`, `&` and `|`. The fault is that of the texts that come back with it.
 pub fn read_texts<R: Files + AllocGlobal>(
     rt: &R,
     alloc: Global,
@@ -264,6 +344,9 @@ pub fn read_texts<R: Files + AllocGlobal>(
         texts.vertices.items) }
     ensures made { IfOk result (λ texts.
         AreTextsMadeOf paths.entry.game texts.diagram.items texts.game.items texts.behaviour) }
+    // Each file that was read is within the limits.
+    ensures within { IfOk result (λ texts. AreWithin texts.diagram.items texts.system.items texts.requirements.items) }
+    ensures game { IfOk result (λ texts. IsGameWithin paths.entry.game texts.game.items) }
     ensures refused { IfErr result (λ unread. IsUnread unread.texts.diagram.items unread.texts.game.items
         unread.texts.system.items unread.texts.requirements.items unread.fault) }
     // It is one of a file that the paths name.
@@ -271,17 +354,20 @@ pub fn read_texts<R: Files + AllocGlobal>(
 {
     let text = match read_file(rt, paths.diagram, Fault::DiagramUnreadable) {
         Ok(text) => text,
-        Err(fault) => return Err(not_read(
-            alloc,
-            fault,
-            Vec::new(alloc),
-            Vec::new(alloc),
-            Vec::new(alloc),
-        )),
+        Err(fault) => return Err(no_diagram(alloc, fault, Vec::new(alloc))),
     };
+    if !is_within(&text) {
+        return Err(no_diagram(
+            alloc,
+            Fault::TooLarge {
+                input: Input::Diagram,
+            },
+            text,
+        ));
+    }
     let diagram = match read_diagram(alloc, &text) {
         Ok(diagram) => diagram,
-        Err(fault) => return Err(not_read(alloc, fault, text, Vec::new(alloc), Vec::new(alloc))),
+        Err(fault) => return Err(no_diagram(alloc, fault, text)),
     };
     match paths.game {
         GamePaths::Game(path) => game_texts(rt, alloc, text, path),
@@ -336,9 +422,17 @@ pub fn open_script<R: Files>(rt: &R, path: &str) -> Result<R::File, Fault>
     }
 }
 
-/// Returns the text of a script that is read as a whole.
+/// Returns the text of a script that is read as a whole, of at most 268,435,456 bytes.
 pub fn read_script<R: Files + AllocGlobal>(rt: &R, path: &str) -> Result<Vec<u8>, Fault>
-    ensures refused { IfErr result (λ fault. (fault ≡ Fault.Memory) ⊎ (fault ≡ Fault.ScriptUnreadable)) }
+    ensures within { IfOk result (λ text. IsWithin text.items) }
+    ensures refused { IfErr result (λ fault. (fault ≡ Fault.Memory) ⊎
+        ((fault ≡ Fault.ScriptUnreadable) ⊎ (fault ≡ Fault.TooLarge Input.Script))) }
 {
-    read_file(rt, path, Fault::ScriptUnreadable)
+    let text = read_file(rt, path, Fault::ScriptUnreadable)?;
+    if !is_within(&text) {
+        return Err(Fault::TooLarge {
+            input: Input::Script,
+        });
+    }
+    Ok(text)
 }

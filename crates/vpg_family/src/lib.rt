@@ -27,6 +27,7 @@ mod fault;
 mod features;
 mod files;
 mod known;
+mod limits;
 mod linting;
 mod modelling;
 mod moves;
@@ -44,7 +45,7 @@ pub use checking::checked;
 pub use drawing::{Subject, drawn};
 pub use explaining::explained;
 pub use family::{Family, conflict};
-pub use fault::Fault;
+pub use fault::{Fault, Input};
 pub use files::{
     GamePaths, ModelPaths, Paths, Texts, Unread, open_script, read_family, read_script, read_texts,
 };

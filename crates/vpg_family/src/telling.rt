@@ -1,10 +1,10 @@
 //! The line that reports a fault.
 ghost use Rattle.std.specs.Prelude.{◌≡◌, [], ◌∷◌, ◌++◌, map, codes, IfOk, OnOk};
 ghost use Rattle.vpg_family.specs.Counts.{labelled};
-ghost use Rattle.vpg_family.specs.Faults.{shown_byte, guard_text, game_text, diagram_text, system_text, requirements_text, model_text, line_text, fault_text, fault_line};
+ghost use Rattle.vpg_family.specs.Faults.{shown_byte, guard_text, game_text, diagram_text, system_text, requirements_text, model_text, line_text, large_text, fault_text, fault_line};
 
 use crate::counts::put_labelled;
-use crate::fault::Fault;
+use crate::fault::{Fault, Input};
 use std::alloc::{AllocError, Global};
 use vpg_diagram::DiagramFault;
 use vpg_formula::RequirementFault;
@@ -213,6 +213,19 @@ fn put_untraced(answer: &[u8], out: &mut Vec<u8>) -> Result<(), AllocError>
     out.extend_from_slice(answer)
 }
 
+/// Appends that a file is too large.
+fn put_large(input: Input, out: &mut Vec<u8>) -> Result<(), AllocError>
+    ensures { OnOk result (out.new.items ≡ out.old.items ++ large_text input) }
+{
+    match input {
+        Input::Diagram => out.extend_from_slice(b"diagram TooLarge"),
+        Input::Game => out.extend_from_slice(b"game TooLarge"),
+        Input::System => out.extend_from_slice(b"system TooLarge"),
+        Input::Requirements => out.extend_from_slice(b"requirements TooLarge"),
+        Input::Script => out.extend_from_slice(b"script TooLarge"),
+    }
+}
+
 fn put_fault(fault: &Fault, out: &mut Vec<u8>) -> Result<(), AllocError>
     ensures { OnOk result (out.new.items ≡ out.old.items ++ fault_text fault.now) }
 {
@@ -234,6 +247,8 @@ fn put_fault(fault: &Fault, out: &mut Vec<u8>) -> Result<(), AllocError>
         Fault::TooManyParts { name } => put_too_many_parts(name, out),
         Fault::Model { fault } => put_model(*fault, out),
         Fault::ScriptUnreadable => out.extend_from_slice(b"script unreadable"),
+        Fault::TooLarge { input } => put_large(*input, out),
+        Fault::TooManySigns { at } => put_labelled(b"game TooManySigns", *at as u64, out),
         Fault::AtLimit => out.extend_from_slice(b"game AtLimit"),
         Fault::Conflict { feature } => {
             out.extend_from_slice(b"Conflict ")?;

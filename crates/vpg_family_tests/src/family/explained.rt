@@ -4,7 +4,7 @@ use crate::said::Said;
 use std::alloc::Global;
 use std::fs;
 use std::test::*;
-use vpg_family::{Fault, Texts, Unread, explained, read_family};
+use vpg_family::{Fault, Input, Texts, Unread, explained, read_family};
 use vpg_script::LineFault;
 
 const GAME_FILE: &str = "explained_game";
@@ -138,6 +138,8 @@ explained_diagram:1:6: the diagram has no product: its lines contradict each oth
 
 explained_game: there is no such file, or it cannot be read
 
+explained_game: it has more than 268,435,456 bytes
+
 ";
 
 /// Writes the messages about faults of another file, or of a word.
@@ -148,6 +150,9 @@ fn put_beside(rt: &HostRuntime, said: &mut Said) {
     said.put("\n");
     let none = Texts::none(said.alloc);
     put_explained(rt, &none, &Fault::GameUnreadable, said);
+    said.put("\n");
+    let large = Fault::TooLarge { input: Input::Game };
+    put_explained(rt, &none, &large, said);
     said.put("\n");
     put_explained(rt, &none, &Fault::NotAProduct, said);
 }

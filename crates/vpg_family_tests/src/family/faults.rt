@@ -2,11 +2,11 @@
 use crate::said::Said;
 use std::alloc::Global;
 use std::test::*;
-use vpg_family::Fault;
+use vpg_family::{Fault, Input};
 use vpg_script::LineFault;
 
 /// The number of these faults.
-const FAULTS: u32 = 12;
+const FAULTS: u32 = 18;
 
 /// Returns the fault at a place.
 fn fault_at(place: u32) -> Fault {
@@ -25,6 +25,20 @@ fn fault_at(place: u32) -> Fault {
         8 => Fault::Stray,
         9 => Fault::SystemUnreadable,
         10 => Fault::RequirementsUnreadable,
+        11 => Fault::TooLarge {
+            input: Input::Diagram,
+        },
+        12 => Fault::TooLarge { input: Input::Game },
+        13 => Fault::TooLarge {
+            input: Input::System,
+        },
+        14 => Fault::TooLarge {
+            input: Input::Requirements,
+        },
+        15 => Fault::TooLarge {
+            input: Input::Script,
+        },
+        16 => Fault::TooManySigns { at: 8_388_608 },
         _ => Fault::Memory,
     }
 }
@@ -49,6 +63,12 @@ vpgdesk: script LogFull
 vpgdesk: script Stray
 vpgdesk: system unreadable
 vpgdesk: requirements unreadable
+vpgdesk: diagram TooLarge
+vpgdesk: game TooLarge
+vpgdesk: system TooLarge
+vpgdesk: requirements TooLarge
+vpgdesk: script TooLarge
+vpgdesk: game TooManySigns 8388608
 vpgdesk: Memory
 vpgdesk: NoTrace possible 0 unsure
 ";

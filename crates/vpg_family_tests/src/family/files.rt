@@ -6,9 +6,9 @@ use std::fs;
 use std::test::*;
 use vpg_family::{Family, Fault, GamePaths, Paths, Unread, open_script, read_family};
 
-/// The files of a game and a diagram, and the message about them. `none` is missing, `.` is a folder, and `empty` has
-/// no bytes.
-const ROWS: [[&str; 3]; 8] = [
+/// The files of a game and a diagram, and the message about them. `none` is missing, `.` is a folder, `empty` has no
+/// bytes, and `/dev/zero` no end. `full` has as many signs as a game may have, and `fuller` one more.
+const ROWS: [[&str; 3]; 12] = [
     ["none", "none", "vpgdesk: diagram unreadable\n"],
     ["game", ".", "vpgdesk: diagram unreadable\n"],
     ["none", "empty", "vpgdesk: diagram NoRoot\n"],
@@ -16,6 +16,10 @@ const ROWS: [[&str; 3]; 8] = [
     ["none", "diagram", "vpgdesk: game unreadable\n"],
     [".", "diagram", "vpgdesk: game unreadable\n"],
     ["empty", "diagram", "vpgdesk: game Syntax 0\n"],
+    ["none", "/dev/zero", "vpgdesk: diagram TooLarge\n"],
+    ["/dev/zero", "diagram", "vpgdesk: game TooLarge\n"],
+    ["full", "diagram", "vpgdesk: game Syntax 0\n"],
+    ["fuller", "diagram", "vpgdesk: game TooManySigns 8388608\n"],
     ["game", "diagram", "vertices 2 edges 4 features 3 top 2 2\n"],
 ];
 
@@ -56,10 +60,16 @@ fn the_diagram_is_read_before_the_game(rt: HostRuntime) -> Result<(), Fail> {
     fs::write(&rt, "diagram", DIAGRAM)?;
     fs::write(&rt, "game", GAME)?;
     fs::write(&rt, "empty", "")?;
+    let full = vec![in rt.alloc(); b'!'; 8_388_608]?;
+    let fuller = vec![in rt.alloc(); b'!'; 8_388_609]?;
+    fs::write(&rt, "full", full)?;
+    fs::write(&rt, "fuller", fuller)?;
     let wrong = first_wrong(&rt, rt.alloc());
     fs::remove_file(&rt, "diagram")?;
     fs::remove_file(&rt, "game")?;
     fs::remove_file(&rt, "empty")?;
+    fs::remove_file(&rt, "full")?;
+    fs::remove_file(&rt, "fuller")?;
     assert_eq!(rt; wrong, None);
     Ok(())
 }
