@@ -33,13 +33,14 @@ pub struct Board {
 
 impl Model for Board {
     ghost use Rattle.std.specs.Coded.{codes};
+    ghost use Rattle.vpg_diagram.specs.Coding.{rule_code};
     ghost use Rattle.vpg_game.specs.Coding.{game_code};
     ghost use Rattle.vpg_board.specs.Seats.{BoardView};
     ghost use Rattle.vpg_board.specs.BoardFields.{board_of, AreBoardFields};
 
     ghost Value = { BoardView };
 
-    ghost coded = { Prim.hlevel (codes, game_code) };
+    ghost coded = { Prim.hlevel (codes, game_code, rule_code) };
 
     ghost view = { board_of };
 

@@ -26,13 +26,14 @@ pub struct Seat {
 
 impl Model for Seat {
     ghost use Rattle.std.specs.Coded.{codes};
+    ghost use Rattle.vpg_diagram.specs.Coding.{rule_code};
     ghost use Rattle.vpg_game.specs.Coding.{game_code};
     ghost use Rattle.std.specs.Prelude.{◌≡◌, []};
     ghost use Rattle.vpg_board.specs.Seats.{SeatView, IsSeat};
 
     ghost Value = { SeatView };
 
-    ghost coded = { Prim.hlevel (codes, game_code) };
+    ghost coded = { Prim.hlevel (codes, game_code, rule_code) };
 
     ghost view = { λ s. record { board = record { table = s.inner.table_id; order = s.inner.me.0.order }; lifter = s.inner.me.0 } };
 

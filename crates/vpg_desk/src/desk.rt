@@ -104,12 +104,13 @@ impl Drop for Desk {
 
 impl Model for Desk {
     ghost use Rattle.std.specs.Coded.{codes};
+    ghost use Rattle.vpg_diagram.specs.Coding.{rule_code};
     ghost use Rattle.vpg_game.specs.Coding.{game_code};
     ghost use Rattle.vpg_desk.specs.State.{DeskState};
 
     ghost Value = { DeskState };
 
-    ghost coded = { Prim.hlevel (codes, game_code) };
+    ghost coded = { Prim.hlevel (codes, game_code, rule_code) };
 
     ghost use Rattle.vpg_desk.specs.DeskFields.{desk_of, IsDesk};
 

@@ -23,13 +23,14 @@ pub struct Harvest {
 
 impl Model for Harvest {
     ghost use Rattle.std.specs.Coded.{codes};
+    ghost use Rattle.vpg_diagram.specs.Coding.{rule_code};
     ghost use Rattle.vpg_game.specs.Coding.{game_code};
     ghost use Rattle.vpg_measure.specs.Orders.{HarvestView, harvest_of};
     ghost use Rattle.vpg_measure.specs.HarvestFields.{AreHarvestFields};
 
     ghost Value = { HarvestView };
 
-    ghost coded = { Prim.hlevel (codes, game_code) };
+    ghost coded = { Prim.hlevel (codes, game_code, rule_code) };
 
     ghost view = { λ h. harvest_of h.order };
 

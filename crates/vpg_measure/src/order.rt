@@ -63,12 +63,13 @@ impl Drop for Order {
 
 impl Model for Order {
     ghost use Rattle.std.specs.Coded.{codes};
+    ghost use Rattle.vpg_diagram.specs.Coding.{rule_code};
     ghost use Rattle.vpg_game.specs.Coding.{game_code};
     ghost use Rattle.vpg_measure.specs.Orders.{OrderView};
 
     ghost Value = { OrderView };
 
-    ghost coded = { Prim.hlevel (codes, game_code) };
+    ghost coded = { Prim.hlevel (codes, game_code, rule_code) };
 
     ghost use Rattle.vpg_measure.specs.OrderFields.{order_of, AreFields};
 
