@@ -91,7 +91,8 @@ fn grow_on(
 /// and so on. Returns the number of a rule that fails, if one does: the clauses of the diagram have the first numbers,
 /// and then come its counts. No product agrees then with what was known.
 ///
-/// The trail notes the feature, and each that becomes known, and counts the visits of rules. The only error is a lack of memory.
+/// The trail notes the feature, and each that becomes known, and counts the visits of rules. The only error is a lack
+/// of memory.
 pub fn grow(
     diagram: &Diagram,
     known: &mut [Tri],
