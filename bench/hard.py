@@ -1,5 +1,5 @@
 #!/usr/bin/env python3
-"""Writes a game that is hard for some way of settling.
+"""Writes a game that is hard for some way of settling, or a diagram that is hard for searches.
 
     hard.py ladder RUNGS FILE           # Zielonka's recursion is exponential: a game of the kind of the recursive ladder of Friedmann 2011
     hard.py improvement LEVELS FILE     # strategy improvement with all switches is exponential: after Friedmann 2009, rebuilt from memory
@@ -7,6 +7,9 @@
     hard.py climb LEVELS WIDTH FILE     # cycles of WIDTH vertices on each odd priority, which Even leaves for the next level at a price
     hard.py union GAME GAME.. FILE      # games side by side, as written by this script or families.py
     hard.py joined EDGES GAME GAME FILE # two games with so many edges from Odd's vertices of the first to the second, and from Even's of the second back
+    hard.py pigeons HOLES ALTERNATIVES OPTIONAL FILE    # a diagram: one pigeon more than holes under an optional
+                        # feature, which is in no product, or under the root if HOLES is negative; beside it a group
+                        # of alternatives, and optional features
 
 It tells the numbers of vertices and the logarithms of both tops, which may be 62 at most. At that limit: ladder 36, nested 61, improvement 9.
 """
@@ -70,6 +73,20 @@ def climb(levels, width):
     return rows + [(2 * levels, 0, [levels * width])]
 
 
+def pigeons(holes, alternatives, optional):
+    """Each pigeon is in exactly one hole, and no two in the same."""
+    above, holes = ("p" if holes > 0 else "r"), abs(holes)
+    lines = ["root r"]
+    if alternatives:
+        lines.append("alternative r: " + " ".join(f"a{i}" for i in range(alternatives)))
+    lines += [f"optional r o{i}" for i in range(optional)]
+    lines += ["optional r p"] if above == "p" else []
+    lines += [f"mandatory {above} b{i}" for i in range(holes + 1)]
+    lines += [f"alternative b{i}: " + " ".join(f"b{i}h{j}" for j in range(holes)) for i in range(holes + 1)]
+    pairs = [(i, k) for i in range(holes + 1) for k in range(i + 1, holes + 1)]
+    return lines + [f"excludes b{i}h{j} b{k}h{j}" for j in range(holes) for i, k in pairs]
+
+
 def numbered(game):
     """Rows of priority, owner and successors, numbered in the order of the game."""
     number = {v: i for i, v in enumerate(game)}
@@ -103,6 +120,10 @@ def joined(edges, one, other):
 
 def main():
     kind, *words, file = sys.argv[1:] or sys.exit(__doc__)
+    if kind == "pigeons":
+        with open(file, "w") as out:
+            out.write("\n".join(pigeons(*map(int, words))) + "\n")
+        return
     makers = {"ladder": ladder, "improvement": improvement, "nested": nested, "climb": climb}
     if kind in ("union", "joined"):
         rows = union(words) if kind == "union" else joined(int(words[0]), words[1], words[2])

@@ -1,5 +1,5 @@
 //! A guess at a reason: decisions that may alone leave nothing to be found. The search tries it before it trusts it.
-ghost use Rattle.std.specs.Prelude.{◌≡◌, ◌<◌, ◌≤◌, Bool, List, length, IfOk};
+ghost use Rattle.std.specs.Prelude.{◌≡◌, ◌<◌, ◌≤◌, ℕ, Bool, true, false, List, length, slice_index_or, IfOk};
 ghost use Rattle.vpg_guards.specs.Formula.{IsBelow};
 ghost use Rattle.vpg_measure.specs.Games.{ArePageGames};
 ghost use Rattle.vpg_partial.specs.TableLaws.{AreChoicesOf};
@@ -287,18 +287,20 @@ fn mark_until_shown(
     Ok(marks)
 }
 
-// A mark for each of the first decisions, and for each on a marked feature.
-fn decided(
+/// Returns a mark for each of the first decisions, and for each on a marked feature.
+pub(crate) fn decided(
     alloc: Global,
     decisions: &[Decision],
     begun: usize,
     used: &[bool],
 ) -> Result<Vec<bool>, AllocError>
-    ensures { IfOk result (λ marks. length marks.items ≡ length decisions.now) }
+    ensures count { IfOk result (λ marks. length marks.items ≡ length decisions.now) }
+    ensures first { IfOk result (λ marks. (k : ℕ) → k < begun → k < length decisions.now →
+        slice_index_or marks.items k false ≡ true) }
 {
-    let mut marks = vec![in alloc; false; decisions.len()]?;
-    for i in 0..decisions.len() {
-        marks[i] = i < begun || used.get(decisions[i].feature as usize) == Some(&true);
+    let mut marks = vec![in alloc; true; decisions.len()]?;
+    for i in begun..decisions.len() {
+        marks[i] = used.get(decisions[i].feature as usize) == Some(&true);
     }
     Ok(marks)
 }

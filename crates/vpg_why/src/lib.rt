@@ -34,6 +34,7 @@ mod answering;
 mod asking;
 mod easing;
 mod explaining;
+mod features;
 mod forcing;
 mod grounds;
 pub mod laws;

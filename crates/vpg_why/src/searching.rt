@@ -17,6 +17,7 @@ ghost use Rattle.vpg_why.specs.Suffices.{choice, IsAim, IsBarred, MayMeet, AimSe
 
 use crate::asking::{closed, games_with, is_top, with_one};
 use crate::easing::{eased, eased_under};
+use crate::features::search_features;
 use crate::grounds::{grounds, kept_by};
 use crate::question::{Aim, Limits, Question, Shown};
 use crate::seeking::has;
@@ -369,7 +370,7 @@ pub(crate) enum Half {
 }
 
 // What the first half of a split on this value says. Its result has a last mark for the feature.
-fn first_half(count: usize, value: bool, one: Reasoned) -> Half
+pub(crate) fn first_half(count: usize, value: bool, one: Reasoned) -> Half
     requires { HasMarks one (count + 1) }
     ensures found { (game : NamedGame) (diagram : NamedDiagram) (aim : Aim) (chosen : List Literal) (f : ℕ) →
         AgreeBelow diagram chosen f → IsReasoned game diagram aim (chosen ++ choice f value ∷ []) one →
@@ -397,7 +398,7 @@ fn first_half(count: usize, value: bool, one: Reasoned) -> Half
 
 // The result of both halves of a split, on this value first. The first half has a reason, which names the feature, or
 // met a limit. The result of the second has a last mark for the feature.
-fn both(
+pub(crate) fn both(
     alloc: Global,
     count: usize,
     value: bool,
@@ -443,7 +444,7 @@ fn both(
 
 // Some of the decisions that leave nothing, which do so alone: the guess, if it holds, or otherwise all of them. The
 // first ones, which a search begins with, are always among them.
-fn reason(
+pub(crate) fn reason(
     alloc: Global,
     order: &Order,
     aim: Aim,
@@ -470,7 +471,7 @@ fn reason(
 
 // The trials that a first half leaves to the second one, so that a product there is found though the first half takes
 // all that it may.
-fn reserve(trials: u64) -> u64
+pub(crate) fn reserve(trials: u64) -> u64
     ensures { result + result ≤ trials }
 {
     trials / 64
@@ -506,6 +507,12 @@ pub(crate) fn search_with_reasons(
         AimSettles limits.rounds order.now.game order.now.diagram aim (choices decisions.now) →
         IsReasonedExact avoided.now found) }
 {
+    if let Aim::Any = aim {
+        let sought = search_features(
+            alloc, order, decisions, avoided, begun, limits, depth, trials,
+        )?;
+        return Ok(sought);
+    }
     if depth == 0 || *trials == 0 {
         return Ok(Reasoned::Unsettled);
     }

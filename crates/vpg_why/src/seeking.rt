@@ -54,7 +54,7 @@ fn seek_within(
 /// One of several searches of a line, among all products that agree with the decisions, for any that meets the aim.
 ///
 /// A small family has the trials of the limits for each search. Otherwise the line has them for all of its searches,
-/// and each takes a quarter at most of those that are left.
+/// and each takes half at most of those that are left.
 pub(crate) fn seek_in_line(
     alloc: Global,
     order: &Order,
@@ -77,7 +77,7 @@ pub(crate) fn seek_in_line(
         let mut own = limits.trials;
         return seek_within(alloc, order, aim, decisions, avoided, limits, &mut own);
     }
-    let mut own = *trials / 4;
+    let mut own = *trials / 2;
     *trials -= own;
     let found = seek_within(alloc, order, aim, decisions, avoided, limits, &mut own)?;
     *trials += own;

@@ -1,6 +1,9 @@
 use Rattle.std.proofs.lemmas.Grind.{common_steps}
-use Rattle.std.proofs.Common.{arith, ◌∙◌, ◌++◌, ◌∷◌, [], List, false, slice_index_or, refl, sym, ap, subst}
+use Rattle.std.proofs.Common.{arith, ◌<◌, Contains, ◌∙◌, ◌++◌, ◌∷◌, [], List, false, slice_index_or, refl, sym, ap, subst}
 use Rattle.vpg_guards.specs.declared.tri.Tri.{Tri}
+use Rattle.vpg_diagram.specs.FeatureDiagram.{feature_count}
+use Rattle.vpg_diagram.specs.declared.clause.Literal.{Literal}
+use Rattle.vpg_diagram.proofs.Lists.{All-from_contained}
 use Rattle.vpg_measure.specs.Games.{GamesView}
 use Rattle.vpg_partial.specs.TableLaws.{IsKnownTable}
 use Rattle.vpg_why.specs.declared.question.Question.TheVariants as asks
@@ -72,3 +75,13 @@ is_barred-requires-clause-small c has = c.has_trials-is_small.ensures (page_tria
 
 pub returns-clause-left : goal.returns-clause-left
 returns-clause-left c = c.forcing.invariant.2
+
+pub is_barred-requires-clause-named : goal.is_barred-requires-clause-named
+is_barred-requires-clause-named c =
+    let n = feature_count c.args.order.now.diagram.lines in
+    let less : c.forcing.feature < n = grind (arith, common_steps) in
+    All-from_contained (λ (l : Literal). l.feature < n) c.deref-in-Unknown.result.now (λ l h.
+    let b = c.forcing.invariant.0.below l (subst (λ (ls : List Literal). Contains ls l) c.deref-in-Unknown.ensures.value h) in omega (arith, b, less))
+
+pub is_barred-requires-clause-forced : goal.is_barred-requires-clause-forced
+is_barred-requires-clause-forced c l h = c.forcing.invariant.0.forced l (subst (λ (ls : List Literal). Contains ls l) c.deref-in-Unknown.ensures.value h)

@@ -1,6 +1,8 @@
 use Rattle.std.proofs.lemmas.Grind.{common_steps}
-use Rattle.std.proofs.Common.{true, false, ◌-◌, ◌+◌, [], ◌≡◌, ℕ, Bool, List, not, slice_index_or, arith, ap, ◌∙◌}
+use Rattle.std.proofs.Common.{true, false, ◌-◌, ◌+◌, [], ◌≡◌, ℕ, Bool, List, not, slice_index_or, arith, ap, sym, ◌∙◌, subst}
 use Rattle.vpg_why.specs.Explained.{choices}
+use Rattle.vpg_why.specs.Reasons.{IsReasoned}
+use Rattle.vpg_why.specs.declared.question.Aim.{Aim}
 use Rattle.vpg_why.proofs.Eased.{eased_aim, eased_settles, reasoned_eased}
 use Rattle.vpg_why.proofs.First.{found_here}
 use Rattle.vpg_why.proofs.Reasons.{taken_less, taken_left}
@@ -107,3 +109,12 @@ returns-clause-settled t c room settles = c.in_ok-found.ensures.exact c.args.avo
     let s = left_after_half c.args.order.now.diagram (choices c.args.decisions.now) c.in-Open.feature (not c.has-value.result) (rw c.in-Open.is at c.in_ok-seen.ensures.outlook) room.most ((c.args.trials.now - 1) - c.reserve-kept.result) c.search_with_reasons.new.trials room.are_open (rw (c.deref.ensures.value, c.in_ok-more.ensures) at c.in_ok-one.ensures.fewer) in
     let k = c.reserve-kept.ensures in omega (arith, r, s, k)))
     (eased_settles c.args.order.now.game c.args.order.now.diagram (choices c.args.decisions.now) c.args.aim c.in_ok-seen.seen.aim c.args.limits.rounds _ c.in_ok-seen.ensures.eased (child_settles c.args.order.now.diagram (choices c.args.decisions.now) c.in-Open.feature (not (not c.has-value.result)) (rw c.in-Open.is at c.in_ok-seen.ensures.outlook) c.args.limits.rounds c.args.order.now.game c.args.aim settles)))
+
+-- ---- any product
+
+pub returns-in-Any-clause-found : goal.returns-in-Any-clause-found
+returns-in-Any-clause-found t c =
+    subst (λ (a : Aim). IsReasoned c.args.order.now.game c.args.order.now.diagram a (choices c.args.decisions.now) c.in_ok-sought.sought) (sym c.in-Any.is) c.in_ok-sought.ensures.found
+
+pub returns-in-Any-clause-settled : goal.returns-in-Any-clause-settled
+returns-in-Any-clause-settled t c room settles = c.in_ok-sought.ensures.settled room
