@@ -5,10 +5,10 @@
     plain_copy.py measure ZIELONKA VERTICES RUNS COPY..   # beside plain Zielonka: all families, and hard games
     plain_copy.py compare COUNT COPY COPY..               # tables of so many small games of all families
 
-`make` takes the functions of vpg_regions, vpg_values and vpg_guess under ROOT, and of vpg_measure what those use,
-without clauses, and puts `plain_copy.rs` around them. `COPY GAME zeros` raises both tables of a game from zeros;
-`COPY GAME line` does as a line `settle` does, with a sweep first, and settles again after `exclude f`. Each prints
-milliseconds of processor time, whether all is settled, and a number that is the same for the same tables.
+`make` takes the functions of vpg_regions, vpg_tangles, vpg_values and vpg_guess under ROOT, and of vpg_measure what
+those use, without clauses, and puts `plain_copy.rs` around them. `COPY GAME zeros` raises both tables of a game from
+zeros; `COPY GAME line` does as a line `settle` does, with a sweep first, and settles again after `exclude f`. Each
+prints milliseconds of processor time, whether all is settled, and a number that is the same for the same tables.
 
 `measure` prints one line for each game, each figure the least of RUNS runs, in turns: the recursion on both games
 (`zielonka.rs`), and for each COPY zeros, in milliseconds and times the recursion, and for families a line, and again,
@@ -77,7 +77,8 @@ def plain(crate, text):
     lines = [line.replace("///", "//") for line in lines if not line.strip().startswith(left_out)]
     text = "\n".join(lines).replace(", Error)]", ")]")
     text = re.sub(r"\bcrate::", f"crate::{crate}::", text)
-    text = re.sub(r"^use (vpg_regions|vpg_values|vpg_measure|vpg_verdict)::", r"use crate::\1::", text, flags=re.M)
+    copied = r"^use (vpg_regions|vpg_tangles|vpg_values|vpg_measure|vpg_verdict)::"
+    text = re.sub(copied, r"use crate::\1::", text, flags=re.M)
     others = r"^use (vpg_game|vpg_players|vpg_hope(::arena)?|std::(alloc|collections))::"
     text = re.sub(others, "use crate::shim::", text, flags=re.M)
     text = re.sub(r"^use std::marker::Model;", "", text, flags=re.M)
@@ -113,7 +114,8 @@ def passed_on(root, crate):
 def copy(root):
     around = open(f"{HERE}/plain_copy.rs").read()
     head, tail = around.split("// The crates stand here.\n")
-    solvers = {name: crate_text(root, name, None) + passed_on(root, name) for name in ("vpg_regions", "vpg_values")}
+    solvers = ("vpg_regions", "vpg_tangles", "vpg_values")
+    solvers = {name: crate_text(root, name, None) + passed_on(root, name) for name in solvers}
     crates = {
         "vpg_verdict": VERDICT,
         **solvers,

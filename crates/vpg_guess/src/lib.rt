@@ -1,7 +1,7 @@
 //! Guesses that make settling fast: the least progress table of a game, without lifts.
 //!
 //! Lifting alone climbs one step a round to a top that may be near 2^62. Here the least progress table is guessed.
-//! `vpg_regions` guesses the winners, and `vpg_values` the values that are left. Vertices that Odd wins go to the top,
+//! `vpg_tangles` guesses the winners, and `vpg_values` the values that are left. Vertices that Odd wins go to the top,
 //! lifts do most of the rest, and where they don't, strategy improvement gives the values of what still moves. A table
 //! that is not of zeros is guessed at only where it moves, while that is a small part. The only promise of a guess is
 //! that it is safe and ends. Its results count only as far as certificates show them (`vpg_measure::raise_to_bounds`).

@@ -4,7 +4,8 @@ use crate::raising::Raising;
 use std::alloc::{AllocError, Global};
 use vpg_hope::Arena;
 use vpg_players::Player;
-use vpg_regions::{Budget, Choices, Draft, Found, Graph, solve_part};
+use vpg_regions::{Budget, Choices, Draft, Found, Graph};
+use vpg_tangles::solve_part;
 use vpg_values::{Guess, GuessGround, RankedBounds, guess_table, ranked, value_in};
 
 /// Vertices that move, and then the others that they move to, which have no moves here.

@@ -1,7 +1,7 @@
 //! The winners of a game, by Zielonka's recursion (Zielonka 1998) with a stack of its own.
 use crate::budget::Budget;
 use crate::found::Found;
-use crate::solution::Solution;
+use crate::solution::{Solution, player_of};
 use std::alloc::{AllocError, Global};
 use vpg_players::Player;
 
@@ -151,11 +151,7 @@ fn descend(
     }
     budget.spend(game.all.len());
     let greatest = solution.graph.greatest_priority(&game.all);
-    let player = if greatest % 2 == 1 {
-        Player::Odd
-    } else {
-        Player::Even
-    };
+    let player = player_of(greatest);
     let attracted = game.attracted(alloc, solution, greatest, player, budget)?;
     let inner = solution.living(alloc, &game.all)?;
     stack.push(Frame::Inner(game.waiting(attracted, player)))?;

@@ -6,6 +6,15 @@ use crate::per_vertex::{Choices, PerVertex};
 use std::alloc::{AllocError, Global};
 use vpg_players::Player;
 
+/// Returns the player that a priority is of.
+pub fn player_of(priority: u32) -> Player {
+    if priority % 2 == 1 {
+        Player::Odd
+    } else {
+        Player::Even
+    }
+}
+
 /// The vertices that are still played on, and the winners at the others.
 pub struct Solution<'a> {
     pub graph: &'a Graph,

@@ -5,8 +5,8 @@
 //! weighs least, and Even changes its choices while such paths weigh more after the change. If no stop can be reached
 //! in the end, Even wins.
 use crate::budget::Budget;
+use crate::cycles::win_cycles;
 use crate::graph::Graph;
-use crate::odd_cycles::win_odd_cycles;
 use crate::per_vertex::PerVertex;
 use crate::solution::Solution;
 use std::alloc::{AllocError, Global};
@@ -233,7 +233,7 @@ pub fn solve_by_weights(
 ) -> Result<bool, AllocError> {
     budget.spend(solution.graph.vertices() as usize);
     let living = solution.living(alloc, vertices)?;
-    win_odd_cycles(alloc, solution, &living, budget)?;
+    win_cycles(alloc, Player::Odd, solution, &living, budget)?;
     let living = solution.living(alloc, vertices)?;
     let mut paths = PathWeights::of(alloc, solution.graph, living)?;
     for v in &paths.vertices {

@@ -58,7 +58,7 @@ pub swept_of : (lifters : ℕ) (order : OrderView) (harvest : HarvestView) → I
 unfolding IsSweptBy
 swept_of lifters order harvest swept = swept
 
--- Certified guesses, and no sweep, raised the order's tables to the harvest's.
+-- Certified guesses, or lifts if these find no memory, and no sweep, raised the order's tables to the harvest's.
 pub IsGuessed : OrderView → HarvestView → Type 0
 IsGuessed order harvest = IsHarvest harvest × IsSameOrder harvest.order order
 

@@ -2,6 +2,7 @@
 ghost use Rattle.std.specs.Prelude.{◌≡◌, ◌⊎◌, ◌+◌, ◌<◌, ◌≤◌, ℕ, sum, IfOk, IfErr, IfSome, IsTrue, Some};
 ghost use Rattle.vpg_measure.specs.Lifts.{after_rounds};
 ghost use Rattle.vpg_measure.specs.Orders.{IsSameOrder, IsHarvest, IsSettledOrder, IsSettledHarvest, order_table, harvest_table, order_levels, order_arena};
+ghost use Rattle.vpg_board.specs.Alone.{Rises};
 ghost use Rattle.vpg_board.specs.Places.{vertices};
 ghost use Rattle.vpg_settle.specs.Sweeping.{IsSweptOrder, IsSweptTo, IsSweptBy, IsGuessed, IsLeft, AreSweeps, AreSweepsAlone, Leave, Settles, RoundsSettleOrder, EndsBy, HasEnded};
 
@@ -249,6 +250,48 @@ fn by_hints<G: Gate + Sync, T: Threads + Wait + Sync>(
     }
 }
 
+/// Lifts a vertex until it does not rise, or has risen this often. Returns how often others may still rise.
+fn climb_at(harvest: &mut Harvest, which: Which, v: u32, most: u64) -> u64
+    requires harvest { IsHarvest harvest.old }
+    requires vertex { v < vertices harvest.old.order }
+    ensures { Rises harvest.old harvest.new }
+{
+    'climbing: for made in 0..most {
+        if !harvest.raise(which, v) {
+            return most - made;
+        }
+    }
+    0
+}
+
+/// Lifts each vertex of a table until it does not rise, or all have risen this often. Returns how often others may
+/// still rise.
+fn climb_table(harvest: &mut Harvest, which: Which, most: u64) -> u64
+    requires { IsHarvest harvest.old }
+    ensures { Rises harvest.old harvest.new }
+{
+    let mut left = most;
+    let count = harvest.order().game().vertices() as u32;
+    'vertices: for v in 0..count {
+        left = climb_at(harvest, which, v, left);
+    }
+    left
+}
+
+/// Returns the order after lifts of each vertex, while it rises. All rise at most this often together. It takes no
+/// memory.
+fn climb(order: Order, most: u64) -> Harvest
+    ensures order { IsSameOrder result.order order }
+    ensures harvest { IsHarvest result }
+{
+    let _game = order.game();
+    let mut harvest = Harvest::alone(order, 0);
+    let _order = harvest.order();
+    let left = climb_table(&mut harvest, Which::Hopeful, most);
+    climb_table(&mut harvest, Which::Dual, left);
+    harvest
+}
+
 /// Returns the order raised by certified guesses, on two threads, one for each table, if there are several lifters.
 fn raise_tables<T: Threads + Wait + Sync>(
     rt: &T,
@@ -268,25 +311,27 @@ fn raise_tables<T: Threads + Wait + Sync>(
     }
 }
 
-/// Returns the order raised by certified guesses, or the order itself if memory runs out. Only this contract says that
-/// guesses raised it.
+/// Returns the order raised by certified guesses, or by lifts if memory runs out. Only this contract says that guesses
+/// raised it.
 fn guess<T: Threads + Wait + Sync>(
     rt: &T,
     alloc: Global,
     order: Order,
     lifters: u32,
     kept: &mut Groundwork,
-) -> Result<Harvest, Order>
-    ensures order { IfOk result (λ harvest. IsSameOrder harvest.order order) }
-    ensures harvest { IfOk result IsHarvest }
-    ensures guessed { IfOk result (IsGuessed order) }
-    ensures back { IfErr result (λ same. same ≡ order) }
+) -> Harvest
+    ensures order { IsSameOrder result.order order }
+    ensures harvest { IsHarvest result }
+    ensures guessed { IsGuessed order result }
 {
-    raise_tables(rt, alloc, order, lifters, kept)
+    match raise_tables(rt, alloc, order, lifters, kept) {
+        Ok(harvest) => harvest,
+        Err(order) => climb(order, MANY_SWEEPS),
+    }
 }
 
 /// Returns the order raised by guesses, and swept from there if they don't settle it: at most this many times, or up to
-/// the goal. If a guess runs out of memory, the order is only swept.
+/// the goal.
 fn by_guesses<G: Gate + Sync, T: Threads + Wait + Sync>(
     rt: &T,
     alloc: Global,
@@ -303,16 +348,12 @@ fn by_guesses<G: Gate + Sync, T: Threads + Wait + Sync>(
     ensures made { Settles lifters result.sweeps order result.harvest }
     ensures ended { EndsBy goal sweeps result.sweeps result.harvest }
 {
-    match guess(rt, alloc, order, lifters, kept) {
-        Ok(harvest) => {
-            if harvest.check() {
-                let harvest = harvest.noted();
-                return SweptHarvest { harvest, sweeps: 0 };
-            }
-            by_hints(rt, alloc, harvest.again(), sweeps, goal, lifters, gate)
-        }
-        Err(order) => by_hints(rt, alloc, order, sweeps, goal, lifters, gate),
+    let harvest = guess(rt, alloc, order, lifters, kept);
+    if harvest.check() {
+        let harvest = harvest.noted();
+        return SweptHarvest { harvest, sweeps: 0 };
     }
+    by_hints(rt, alloc, harvest.again(), sweeps, goal, lifters, gate)
 }
 
 /// Whether a table has a value above zero. Usually its page was settled before, and only the last change is left to
@@ -326,8 +367,9 @@ fn has_risen(table: &Table) -> bool {
 ///
 /// If there are more than `FEW_SWEEPS`, guesses raise the tables before the sweeps. Tables of zeros are swept once
 /// before a guess, and if this settles them there is no guess. That sweep has no hints: with one lifter it raises what
-/// a round raises. The call never fails: if a board, a hint or a guess lacks memory, the sweeps go on without it.
-/// The lifters call the gate.
+/// a round raises. The call never fails: if a board or a hint lacks memory, the sweeps go on without it. If a
+/// guess lacks it, each vertex is lifted while it rises, and all rise at most 1,000,000 times. The lifters call the
+/// gate.
 ///
 /// A guess has one budget for both tables. When it is spent, all that is known by then is certified and raised. With
 /// two lifters or more each table has a thread and half of the budget. Sweeps follow, up to the number. From

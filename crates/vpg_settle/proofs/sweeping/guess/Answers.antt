@@ -1,12 +1,12 @@
-use Rattle.std.proofs.Common.{Result, Ok, Err}
-use Rattle.std.specs.Prelude.{IfOk}
-use Rattle.vpg_measure.specs.Orders.{OrderView, HarvestView, IsHarvest, IsSameOrder}
+use Rattle.std.proofs.Common.{subst}
+use Rattle.vpg_measure.specs.Orders.{OrderView}
 use Rattle.vpg_settle.specs.Sweeping.{IsGuessed, guessed}
 use Rattle.vpg_settle.proofs.sweeping.guess.Goals as goal
 
-if_guessed : (order : OrderView) (r : Result HarvestView OrderView) → IfOk r IsHarvest → IfOk r (λ (harvest : HarvestView). IsSameOrder harvest.order order) → IfOk r (IsGuessed order)
-if_guessed order (Ok harvest) lawful same = guessed order harvest lawful same
-if_guessed order (Err back) lawful same = tt
+pub returns-in-Ok-clause-guessed : goal.returns-in-Ok-clause-guessed
+returns-in-Ok-clause-guessed g c = guessed c.args.order c.in-Ok.harvest c.in-Ok.ensures.harvest c.in-Ok.ensures.order
 
-pub returns-clause-guessed : goal.returns-clause-guessed
-returns-clause-guessed g c = if_guessed c.args.order c.raise_tables.result c.raise_tables.ensures.harvest c.raise_tables.ensures.order
+pub returns-in-Err-clause-guessed : goal.returns-in-Err-clause-guessed
+returns-in-Err-clause-guessed g c =
+    subst (λ (o : OrderView). IsGuessed o c.climb.result) c.in-Err.ensures.back
+    (guessed c.in-Err.order c.climb.result c.climb.ensures.harvest c.climb.ensures.order)

@@ -1,27 +1,29 @@
-//! Vertices that Odd wins by its own moves alone: cycles of an odd greatest priority over Odd's vertices.
+//! Vertices that a player wins by its own moves alone: cycles over its vertices whose greatest priority is its own.
 use crate::budget::Budget;
 use crate::components::{Components, Moves};
 use crate::found::Found;
 use crate::per_vertex::PerVertex;
-use crate::solution::Solution;
+use crate::solution::{Solution, player_of};
 use std::alloc::{AllocError, Global};
 use vpg_players::Player;
 
-struct OddCycles {
+struct Cycles {
+    player: Player,
     components: Components,
     // the last component with this vertex; one more once it is known to lead to the greatest priority there
     mark: PerVertex<u32>,
     stamp: u32,
     // parts to be searched
     parts: Vec<Vec<u32>>,
-    // the vertices that lead to odd cycles, each with a choice
+    // the vertices that lead to such cycles, each with a choice
     found: Found<u32>,
 }
 
 // Not derived: a derived `drop` would be proved again at each exit that owns such a value.
-impl Drop for OddCycles {
+impl Drop for Cycles {
     fn drop(self) {
-        let OddCycles {
+        let Cycles {
+            player: _,
             components: _,
             mark: _,
             stamp: _,
@@ -31,15 +33,16 @@ impl Drop for OddCycles {
     }
 }
 
-// Odd's vertices among some.
+// A player's vertices among some.
 fn own_vertices(
     alloc: Global,
+    player: Player,
     solution: &Solution<'_>,
     vertices: &[u32],
 ) -> Result<Vec<u32>, AllocError> {
     let mut own = Found::none(alloc);
     for v in vertices {
-        if solution.graph.owner(*v) == Player::Odd {
+        if solution.graph.owner(*v) == player {
             own.add(*v);
         }
     }
@@ -70,9 +73,10 @@ fn lesser(
     rest.list()
 }
 
-impl OddCycles {
-    fn new(alloc: Global, vertices: u32) -> Result<OddCycles, AllocError> {
-        Ok(OddCycles {
+impl Cycles {
+    fn new(alloc: Global, player: Player, vertices: u32) -> Result<Cycles, AllocError> {
+        Ok(Cycles {
+            player,
             components: Components::new(alloc, vertices)?,
             mark: PerVertex::of(alloc, vertices, 0)?,
             stamp: 0,
@@ -100,7 +104,8 @@ impl OddCycles {
     }
 
     fn into_found(self) -> Result<Vec<u32>, AllocError> {
-        let OddCycles {
+        let Cycles {
+            player: _,
             components: _,
             mark: _,
             stamp: _,
@@ -155,7 +160,7 @@ impl OddCycles {
         self.look(alloc, solution, &members)
     }
 
-    // Looks at a component. With an odd greatest priority it is Odd's; with an even one it falls into smaller ones.
+    // Looks at a component. If its greatest priority is the player's, it is won; else it falls into smaller ones.
     fn look(
         &mut self,
         alloc: Global,
@@ -166,7 +171,7 @@ impl OddCycles {
             return Ok(());
         }
         let greatest = solution.graph.greatest_priority(members);
-        if greatest % 2 == 1 {
+        if player_of(greatest) == self.player {
             self.win(solution, members, greatest);
             return Ok(());
         }
@@ -225,17 +230,18 @@ impl OddCycles {
     }
 }
 
-/// Gives Odd the vertices of the present game that it wins by its own moves alone, and those from which it can force
-/// play there.
-pub fn win_odd_cycles(
+/// Gives a player the vertices of the present game that it wins by its own moves alone, and those from which it can
+/// force play there.
+pub fn win_cycles(
     alloc: Global,
+    player: Player,
     solution: &mut Solution<'_>,
     living: &[u32],
     budget: &mut Budget,
 ) -> Result<(), AllocError> {
-    let own = own_vertices(alloc, solution, living)?;
-    let mut cycles = OddCycles::new(alloc, solution.graph.vertices())?;
+    let own = own_vertices(alloc, player, solution, living)?;
+    let mut cycles = Cycles::new(alloc, player, solution.graph.vertices())?;
     cycles.run(alloc, solution, own, budget)?;
-    solution.win(Player::Odd, cycles.into_found()?, budget)?;
+    solution.win(player, cycles.into_found()?, budget)?;
     Ok(())
 }

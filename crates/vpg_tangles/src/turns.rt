@@ -1,0 +1,188 @@
+//! The winners of a game, and their moves, by Zielonka's recursion, by tangles, and by the weights of paths, in turns.
+//! If the recursion's first turn does not end, strongly connected components are solved one by one.
+use crate::learning::solve_by_tangles;
+use std::alloc::{AllocError, Global};
+use vpg_players::Player;
+use vpg_regions::{
+    Budget, Components, Graph, Moves, Regions, Solution, solve_by_recursion, solve_by_weights,
+};
+
+/// The number of times that the recursion may look at a whole game in its first turn, and at a component. At a small
+/// component it may look as often as the others do before their first step.
+const FIRST_PASSES: u64 = 4;
+
+const COMPONENT_PASSES: u64 = 2;
+
+/// The number of times that tangles, and then weights, may look at a component in their first turn, and the least that
+/// they may look at.
+const FIRST_TURN: u64 = 32;
+
+const LEAST_TURN: u64 = 1 << 20;
+
+// How a game is solved.
+#[derive(Clone, Copy)]
+enum Way {
+    Recursion,
+    Tangles,
+    Weights,
+}
+
+// Takes one turn of the recursion or of the weights; returns whether all is solved.
+fn take_turn(
+    alloc: Global,
+    solution: &mut Solution<'_>,
+    way: Way,
+    vertices: &[u32],
+    most: u64,
+    budget: &mut Budget,
+) -> Result<bool, AllocError> {
+    let mut turn = budget.take(most);
+    let solved = match way {
+        Way::Recursion => solve_by_recursion(alloc, solution, vertices, &mut turn),
+        Way::Tangles => solve_by_tangles(alloc, solution, vertices, &mut turn),
+        Way::Weights => solve_by_weights(alloc, solution, vertices, &mut turn),
+    };
+    budget.give_back(turn);
+    solution.reopen(vertices);
+    solved
+}
+
+// The number of some vertices and of their edges.
+fn size_of(graph: &Graph, vertices: &[u32]) -> u64 {
+    let mut size = vertices.len() as u64;
+    for v in vertices {
+        size = size.saturating_add(graph.successors(*v).len() as u64);
+    }
+    size
+}
+
+// Solves the present game, which is of some of these vertices, by turns, each longer than the one before it, until one
+// ends or the budget is spent. Returns whether all is solved.
+fn take_turns(
+    alloc: Global,
+    solution: &mut Solution<'_>,
+    vertices: &[u32],
+    budget: &mut Budget,
+) -> Result<bool, AllocError> {
+    let size = size_of(solution.graph, vertices);
+    let least = u64::from(solution.graph.vertices());
+    let mut passes = size.saturating_mul(COMPONENT_PASSES).max(least);
+    let mut turn = size.saturating_mul(FIRST_TURN).max(LEAST_TURN);
+    for _ in 0..u64::MAX {
+        if take_turn(alloc, solution, Way::Recursion, vertices, passes, budget)?
+            || take_turn(alloc, solution, Way::Tangles, vertices, turn, budget)?
+            || take_turn(alloc, solution, Way::Weights, vertices, turn, budget)?
+        {
+            return Ok(true);
+        }
+        if budget.is_spent() {
+            break;
+        }
+        passes = passes.saturating_mul(8).max(LEAST_TURN / 4);
+        turn = turn.saturating_mul(8);
+    }
+    Ok(false)
+}
+
+// Solves one component, after those that it leads to; returns whether all of it is solved.
+fn solve_component(
+    alloc: Global,
+    solution: &mut Solution<'_>,
+    members: &[u32],
+    budget: &mut Budget,
+) -> Result<bool, AllocError> {
+    solution.revive(members);
+    solution.win_exits(alloc, members, budget)?;
+    let rest = solution.living(alloc, members)?;
+    let solved = rest.is_empty() || take_turns(alloc, solution, &rest, budget)?;
+    solution.leave(members);
+    Ok(solved)
+}
+
+// Solves the present game component by component, until one is not solved. The solved ones are easier than the rest.
+fn solve_apart(
+    alloc: Global,
+    solution: &mut Solution<'_>,
+    vertices: &[u32],
+    budget: &mut Budget,
+) -> Result<(), AllocError> {
+    let living = solution.living(alloc, vertices)?;
+    let components = components_of(alloc, solution, &living, budget)?;
+    solution.leave(&living);
+    let mut from = 0;
+    for to in components.ends.items() {
+        let members = components.between(alloc, from, *to)?;
+        if !solve_component(alloc, solution, &members, budget)? {
+            break;
+        }
+        from = *to;
+    }
+    Ok(())
+}
+
+// The components of some vertices, each after those that it leads to.
+fn components_of(
+    alloc: Global,
+    solution: &Solution<'_>,
+    vertices: &[u32],
+    budget: &mut Budget,
+) -> Result<Components, AllocError> {
+    let moves = Moves {
+        graph: solution.graph,
+        player: None,
+        choice: &solution.choice,
+    };
+    let mut components = Components::new(alloc, solution.graph.vertices())?;
+    components.search(&moves, vertices, budget)?;
+    Ok(components)
+}
+
+/// Returns the winners; vertices that are open on a spent budget have none. Odd is known to win at the lost vertices.
+pub fn solve_regions(
+    alloc: Global,
+    graph: &Graph,
+    lost: Vec<u32>,
+    budget: &mut Budget,
+) -> Result<Regions, AllocError> {
+    let mut solution = Solution::new(alloc, graph)?;
+    solve_whole(alloc, &mut solution, lost, budget)?;
+    let (winner, choice) = solution.finish();
+    Ok(Regions::of(winner, choice))
+}
+
+fn solve_whole(
+    alloc: Global,
+    solution: &mut Solution<'_>,
+    lost: Vec<u32>,
+    budget: &mut Budget,
+) -> Result<(), AllocError> {
+    solution.win(Player::Odd, lost, budget)?;
+    solution.win_dead_ends(alloc, Player::Even, budget)?;
+    solution.win_dead_ends(alloc, Player::Odd, budget)?;
+    let all = solution.all_living(alloc)?;
+    let most = size_of(solution.graph, &all).saturating_mul(FIRST_PASSES);
+    if take_turn(alloc, solution, Way::Recursion, &all, most, budget)? {
+        return Ok(());
+    }
+    solve_apart(alloc, solution, &all, budget)
+}
+
+/// Returns the winners at some vertices. All others are guessed to be lost if they are at the top, and won by Even if
+/// not.
+pub fn solve_part(
+    alloc: Global,
+    graph: &Graph,
+    lost: &[u32],
+    members: &[u32],
+    budget: &mut Budget,
+) -> Result<Regions, AllocError> {
+    let mut solution = Solution::new(alloc, graph)?;
+    let all = solution.all_living(alloc)?;
+    solution.give(Player::Even, &all);
+    solution.give(Player::Odd, lost);
+    solution.leave(&all);
+    solution.forget(members);
+    solve_component(alloc, &mut solution, members, budget)?;
+    let (winner, choice) = solution.finish();
+    Ok(Regions::of(winner, choice))
+}
