@@ -238,7 +238,7 @@ pub static LINES: [Form; 8] = [
 ];
 
 /// The commands of scripts.
-pub static COMMANDS: [Form; 34] = [
+pub static COMMANDS: [Form; 35] = [
     Form {
         word: "select",
         written: "select F",
@@ -473,6 +473,13 @@ pub static COMMANDS: [Form; 34] = [
     Form {
         word: "empty",
         written: "empty",
+        parts: &[],
+        optional: 0,
+        rest: None,
+    },
+    Form {
+        word: "number",
+        written: "number",
         parts: &[],
         optional: 0,
         rest: None,
