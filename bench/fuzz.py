@@ -87,8 +87,9 @@ ANSWERS = re.compile(
     + rb"|conflict [+-]" + NAME + SIGNED + rb"|(?:some )?product(?: " + NAME + rb")*|none|unsettled"
     + rb"|offer [+-]" + NAME + rb" (?:conflict|(?:hopeless|possible|unsettled) (?:sure|unsure|unsettled))"
     + rb"|(?:needs|forced) [+-]" + NAME + rb"|repair [+-]" + NAME + SIGNED + rb"(?: or fewer)?"
-    + rb"|(?:needs|forced|repairs) " + N + rb"(?: or more)?"
-    + rb"|unsettled " + N + SIGNED + rb"|winners " + N + rb" " + N + rb" " + N + rb"(?: or more)?|mixed " + N
+    + rb"|(?:needs|forced|repairs|number) " + N + rb"(?: or more)?"
+    + rb"|(?:won|lost|unsettled) " + N + SIGNED + rb" " + N + rb"(?: or more)?"
+    + rb"|winners " + N + rb" " + N + rb" " + N + rb"(?: or more)?|mixed " + N
     + rb"|(?:in|out|open)(?: " + NAME + rb")*|(?:plan|spoil) " + N + rb" " + N + rb")\n)*)\Z"
 )
 PLAIN = re.compile(rb"\Aparity " + N + rb";\n(?:" + N + rb" " + N + rb" [01](?: " + N + rb"(?:," + N + rb")*)?;\n)+\Z")
@@ -181,7 +182,7 @@ BUILT_IN = (b"parity 1; 0 1 0 1[f],0; 1 2 1 0[g],1;", b"root r\noptional r f\nop
 RICH = (
     b'parity 9; start 1;\n1 1 0 2[a & !(b | c)],3 "one";\n2 4 1 1[!a],3[d],3[!d & true];\n3 3 0 3[(a | b) & (c | d)],1;\n9 0 1;\n',
     b"root r\nmandatory r a\noptional r b\nalternative b: c d\nor a: e f g\ngroup r 1 2: h i j\nrequires c e\nexcludes d h\n",
-    b"2: select b\nsettle 3\nharvest\n64: exclude c\ncommit 1\nlift dual 9\nkeep 1\nplan\ncount\ndraw\nchanged\nforced\nempty\nknown b\nshow 3 1\nassert 1 possible sure\nassert full\nwhy 1\nwhy b\nwhy +a\nexample 1\ncounterexample 0\nlost 1\nwon 0\noffer 3\nneeds 1\nrepair 1\nspoil 3\nplan 1\ndraw 3\ntrace 3\nwinners 3\ndecide 1\nproducts\nretract b\nsettle\nshow\n",
+    b"2: select b\nsettle 3\nharvest\n64: exclude c\ncommit 1\nlift dual 9\nkeep 1\nplan\ncount\ndraw\nchanged\nforced\nempty\nnumber\nknown b\nshow 3 1\nassert 1 possible sure\nassert full\nwhy 1\nwhy b\nwhy +a\nexample 1\ncounterexample 0\nlost 1\nwon 0\noffer 3\nneeds 1\nrepair 1\nspoil 3\nplan 1\ndraw 3\ntrace 3\nwinners 3\ndecide 1\nproducts\nretract b\nsettle\nshow\n",
 )
 
 
@@ -193,8 +194,8 @@ def read(*path):
 def examples():
     for family in sorted(os.listdir(EXAMPLES)):
         folder = os.path.join(EXAMPLES, family)
-        # (the script of `sessions` is long: it is carried out as it stands by the gate)
-        if os.path.isdir(folder) and os.path.getsize(os.path.join(folder, "script")) < 65536:
+        # (the script of `sessions` is long: it is carried out as it stands by the gate; some have a system, and no game)
+        if os.path.isfile(os.path.join(folder, "game")) and os.path.getsize(os.path.join(folder, "script")) < 65536:
             yield tuple(read(folder, name) for name in ("game", "diagram", "script"))
 
 
@@ -213,7 +214,7 @@ DICTIONARY = (
     b"0 1 2 7 00 01 64 65 4096 65535 65536 65537 4294967295 4294967296 1000000000 1000000001 18446744073709551615 18446744073709551616 4611686018427387904 -1 +1 1.5 0x10 "
     b"parity start root mandatory optional alternative or group requires excludes true false select exclude retract undo redo keep forget lift harvest commit settle show trail "
     b"products plan count draw changed forced empty known assert hopeless possible sure unsure full settled why "
-    b"example counterexample lost won offer needs repair spoil trace winners decide help quit hopeful dual "
+    b"number example counterexample lost won offer needs repair spoil trace winners decide help quit hopeful dual "
     b"r f g a b 1: 65: 0: : ; , [ ] ( ) "
     b"! & | # \" \\ { } \xc3\xa9 \xff \x00 \x0b \x1a"
 ).split(b" ") + [b"9" * 40, b"9" * 5000, b"x" * 64, b"x" * 65, b" ", b"\t", b"\n", b"\r", b"\r\n", b""]

@@ -6,6 +6,7 @@ pub mod OneOffers
 pub mod OneParts
 pub mod OneRepairs
 pub mod OneTraces
+pub mod OneNumbers
 pub mod OneWinners
 pub mod Parting
 pub mod Pictures

@@ -34,6 +34,7 @@ use Rattle.vpg_serving.specs.Answer.{Answer}
 use Rattle.vpg_serving.proofs.Given.{done_one}
 use Rattle.vpg_answers.specs.Answers.{MakeSo, IsReason, identifier_of, TellsVerdict, TellsVertex, TellsKnownBy, TellsFeature, TellsChoice, TellsConflict, TellsProduct, TellsExample, TellsLost, TellsOfPage, TellsOfVertex, Tells, HasDoubt, lost_for}
 use Rattle.vpg_answers.specs.Laws.{AnswersAreOne}
+use Rattle.vpg_answers.proofs.OneNumbers.{tells_number_one}
 use Rattle.vpg_answers.proofs.OneMoves.{tells_moves_one}
 use Rattle.vpg_answers.proofs.OneOffers.{offers_one}
 use Rattle.vpg_answers.proofs.OneParts.{tells_part_one}
@@ -215,6 +216,7 @@ module _ (scene : Scene) (limits others : Limits) (decisions : List Decision) (i
   of_page_one : (question : PageQuestion) (one other : List ℕ) → TellsOfPage scene limits question decisions one → TellsOfPage scene others question decisions other → ¬ (HasDoubt one) → ¬ (HasDoubt other) → one ≡ other
   of_page_one whole.Forced one other a b sure also = forced_one scene limits others aims.Any decisions one other a b sure also
   of_page_one whole.Empty one other a b sure also = lost_one aims.Any one other a b sure also
+  of_page_one whole.Number one other a b sure also = tells_number_one scene limits others decisions one other a b sure also
 
   tells_one : (behaviour : Option Behaviour) (query : Query) (hopeful dual : List ℕ) (one other : Answer) → Tells behaviour scene limits query decisions hopeful dual one →
       Tells behaviour scene others query decisions hopeful dual other → ¬ (HasDoubt one.text) → ¬ (HasDoubt other.text) → one ≡ other

@@ -1,5 +1,5 @@
 -- Two lists of what is forced, and two repairs, are one text.
-use Rattle.std.proofs.Common.{◌≡◌, ◌≢◌, ℕ, Bool, true, false, List, [], ◌∷◌, ◌++◌, length, map, refl, sym, ap, ap₂, ◌∙◌, subst, inl, inr, append_assoc}
+use Rattle.std.proofs.Common.{◌≡◌, ◌≢◌, ℕ, Bool, true, false, List, [], ◌∷◌, ◌++◌, length, map, refl, sym, ap, ap₂, ◌∙◌, subst, inl, inr, append-nil, append_assoc}
 use Rattle.std.specs.Prelude.{◌⊎◌, codes, flat_map}
 use Rattle.vpg_diagram.specs.FeatureDiagram.{IsDiagram}
 use Rattle.vpg_diagram.specs.declared.clause.Literal.{Literal}
@@ -32,7 +32,7 @@ ends_more f w b m n = simp append_assoc
 no_more : (front word : List ℕ) (lines : ℕ) (exact : Bool) (text : List ℕ) → text ≡ front ++ total_line word lines exact → ¬ (HasDoubt text) → exact ≡ true
 no_more front word lines true text is sure = refl
 no_more front word lines false text is sure =
-    absurd (sure (inr (inr (inr (inr (inl (front ++ (word ++ blank_number lines), is ∙ ends_more front word (blank_number lines) (codes " or more") (codes "\n"))))))))
+    absurd (sure (inr (inr (inr (inr (inl (front ++ (word ++ blank_number lines), [], is ∙ ends_more front word (blank_number lines) (codes " or more") (codes "\n") ∙ sym (append-nil ((front ++ (word ++ blank_number lines)) ++ codes " or more\n")))))))))
 
 fewer_in : (r c d n t : List ℕ) → (r ++ ((c ++ d) ++ n)) ++ t ≡ ((r ++ c) ++ (d ++ n)) ++ t
 fewer_in r c d n t = simp append_assoc

@@ -1,10 +1,12 @@
 -- Two answers on who wins are one text.
-use Rattle.std.proofs.Common.{◌≡◌, ◌≢◌, ℕ, Bool, true, false, List, [], ◌∷◌, ◌++◌, refl, sym, ap, ap₂, ◌∙◌, inl, inr, append_assoc}
-use Rattle.std.specs.Prelude.{codes, count_by, flat_map, length}
-use Rattle.std.specs.List.{list_all}
+use Rattle.std.proofs.Common.{◌≡◌, ◌≢◌, ℕ, Bool, true, false, List, [], ◌∷◌, ◌++◌, refl, sym, ap₂, ◌∙◌, subst, inl, inr, append-nil, append_assoc}
+use Rattle.std.specs.Prelude.{codes, count_by, length}
+use Rattle.std.specs.List.{AllByRecursion, list_all}
 use Rattle.std.proofs.lemmas.Bool.{and_parts, false≢true}
 use Rattle.vpg_players.specs.declared.player.Player.TheVariants.{Even, Odd}
 use Rattle.vpg_guards.specs.Formula.{truth}
+use Rattle.vpg_number.specs.Counted.{IsExact}
+use Rattle.vpg_number.specs.declared.counted.Count.{Count}
 use Rattle.vpg_hope.specs.Hope.{product_game}
 use Rattle.vpg_hope.proofs.Both.{not_both}
 use Rattle.vpg_verdict.specs.declared.which.Which.TheVariants.{Hopeful, Dual}
@@ -22,7 +24,9 @@ use Rattle.vpg_winners.specs.declared.parts.Winner.{Winner}
 use Rattle.vpg_winners.specs.declared.parts.Winner.TheVariants as winners
 use Rattle.vpg_winners.proofs.One.{winners_one as parts_are_one}
 use Rattle.vpg_answers.specs.Answers.{HasDoubt, TellsDecided, TellsMixed, TellsWinners, identifier_of}
-use Rattle.vpg_answers.specs.Texts.{is_lost, is_told, is_won, mixed_text, more_text, names_in, part_line, product_word, winners_text}
+use Rattle.vpg_answers.specs.Texts.{is_lost, is_told, is_won, mixed_text, more_text, names_in, part_lines, product_word, winners_line, winners_text}
+use Rattle.vpg_answers.specs.Numbers.{AreAmounts, looks_each}
+use Rattle.vpg_answers.proofs.OneNumbers.{counts_exact, counts_one}
 
 -- ---- doubts
 
@@ -33,7 +37,7 @@ ends f l m n = simp append_assoc
 all_told : (front line : List ℕ) (told : Bool) (text : List ℕ) → text ≡ front ++ ((line ++ more_text told) ++ codes "\n") → ¬ (HasDoubt text) → told ≡ true
 all_told front line true text is sure = refl
 all_told front line false text is sure =
-    absurd (sure (inr (inr (inr (inr (inl (front ++ line, is ∙ ends front line (codes " or more") (codes "\n"))))))))
+    absurd (sure (inr (inr (inr (inr (inl (front ++ line, [], is ∙ ends front line (codes " or more") (codes "\n") ∙ sym (append-nil ((front ++ line) ++ codes " or more\n")))))))))
 
 is_settled : (w : Winner) → is_told w ≡ true → w ≢ winners.Unsettled
 is_settled winners.Won told = λ e. cc e
@@ -79,21 +83,31 @@ module _ (names : List (List ℕ)) (identifier : ℕ) (won lost : List Bool) whe
 -- ---- one page
 
 module _ (scene : Scene) (limits others : Limits) (vertex : ℕ) (decisions : List Decision) where
-  module _ (parts : List PartView) (text : List ℕ) (is : text ≡ winners_text scene.names (identifier_of scene vertex) parts) (sure : ¬ (HasDoubt text)) where
+  module _ (parts : List PartView) (counts : List Count) (text : List ℕ) (is : text ≡ winners_text scene.names (identifier_of scene vertex) parts counts) (sure : ¬ (HasDoubt text)) where
     pub told_settled : AreSettled parts
     told_settled =
         let id : ℕ = identifier_of scene vertex in
         are_settled parts
-        (all_told (flat_map (part_line scene.names id) parts)
+        (all_told (part_lines scene.names id parts counts)
         (((codes "winners" ++ blank_number id) ++ blank_number (count_by (λ p. is_won p.winner) parts)) ++ blank_number (count_by (λ p. is_lost p.winner) parts))
         (list_all (λ p. is_told p.winner) parts) text is sure)
 
+    -- each number is exact
+    told_exact : (looks : ℕ) → AreAmounts scene looks (choices decisions) parts counts → AllByRecursion IsExact counts
+    told_exact looks are =
+        let id : ℕ = identifier_of scene vertex in
+        counts_exact scene (choices decisions) scene.names id looks parts counts are []
+        (winners_line id (count_by (λ p. is_won p.winner) parts) (count_by (λ p. is_lost p.winner) parts) (list_all (λ p. is_told p.winner) parts)) text is sure
+
   pub tells_winners_one : (one other : List ℕ) → TellsWinners scene limits vertex decisions one → TellsWinners scene others vertex decisions other → ¬ (HasDoubt one) → ¬ (HasDoubt other) → one ≡ other
   tells_winners_one one other a b sure also =
-      a.2
-      ∙ ap (winners_text scene.names (identifier_of scene vertex))
-      (parts_are_one scene.game scene.lines vertex a.1.rule (told_settled a.0 one a.2 sure) b.0 b.1.rule (told_settled b.0 other b.2 also))
-      ∙ sym b.2
+      let parts : a.0 ≡ b.0 = parts_are_one scene.game scene.lines vertex a.2.rule (told_settled a.0 a.1 one a.4 sure) b.0 b.2.rule (told_settled b.0 b.1 other b.4 also) in
+      let own : ℕ = looks_each limits.trials (length a.0) in
+      let its : ℕ = looks_each others.trials (length b.0) in
+      let counts : a.1 ≡ b.1 = counts_one scene (choices decisions) own its b.0 a.1 b.1
+      (subst (λ (ps : List PartView). AreAmounts scene own (choices decisions) ps a.1) parts a.3) b.3
+      (told_exact a.0 a.1 one a.4 sure own a.3) (told_exact b.0 b.1 other b.4 also its b.3) in
+      a.4 ∙ ap₂ (winners_text scene.names (identifier_of scene vertex)) parts counts ∙ sym b.4
 
   -- both players don't win one product
   both_win : (set : List Bool) → WinsProduct scene.game Even vertex set → WinsProduct scene.game Odd vertex set → ⊥

@@ -1,11 +1,18 @@
 -- What is told of who wins in the products left.
-use Rattle.std.proofs.Common.{◌≡◌, ℕ, zero, suc, ◌+◌, ◌<◌, Bool, List, [], ◌∷◌, ◌++◌, refl, ap, ap₂, ◌∙◌, subst, inl, inr, append_assoc, arith}
-use Rattle.std.specs.Prelude.{All, IsTrue, ◌&&◌, cond, count_by, flat_map, slice_index}
+use Rattle.std.proofs.Common.{◌≡◌, ℕ, zero, suc, ◌+◌, ◌<◌, ◌≤◌, Bool, List, [], ◌∷◌, ◌++◌, length, refl, sym, ap, ap₂, ◌∙◌, subst, inl, inr, append-nil, append_assoc, arith}
+use Rattle.std.specs.Prelude.{All, IsTrue, ◌&&◌, ◌^◌, cond, count_by, slice_index}
 use Rattle.std.specs.List.{AllByRecursion, fold, list_all}
+use Rattle.std.proofs.lemmas.List.{length-map, map_push}
+use Rattle.vpg_guards.specs.declared.tri.Tri.{Tri}
+use Rattle.vpg_diagram.specs.DiagramText.{NamedDiagram}
 use Rattle.vpg_diagram.specs.FeatureDiagram.{Line, feature_count}
+use Rattle.vpg_diagram.proofs.Lists.{All-append}
 use Rattle.vpg_diagram.specs.declared.clause.Literal.{Literal}
 use Rattle.vpg_game.specs.Game.{graph_of, vertex_ids}
 use Rattle.vpg_measure.specs.Orders.{OrderView}
+use Rattle.vpg_number.specs.Counted.{IsCount, IsExact, unknown_features}
+use Rattle.vpg_number.specs.declared.counted.Count.{Count}
+use Rattle.vpg_partial.specs.TableLaws.{AreChoicesOf, IsKnownTable}
 use Rattle.vpg_partial.specs.declared.decision.Decision.{Decision}
 use Rattle.vpg_verdict.specs.declared.which.Which.TheVariants.{Hopeful, Dual}
 use Rattle.vpg_texts.specs.Scene.{Scene, scene_of}
@@ -21,24 +28,19 @@ use Rattle.vpg_winners.specs.Winners.{AreJoined, ArePartition, AreSettled, AreSp
 use Rattle.vpg_winners.specs.declared.deciding.Decided.{Decided}
 use Rattle.vpg_winners.specs.declared.deciding.Decided.TheVariants as decides
 use Rattle.vpg_winners.specs.declared.parts.Part.{Part}
-use Rattle.vpg_answers.specs.Answers.{Appends, TellsDecided, TellsWinners, identifier_of}
+use Rattle.vpg_answers.specs.Answers.{Appends, TellsDecided, TellsNumber, TellsPartLine, TellsPartLines, TellsWinners, identifier_of}
+use Rattle.vpg_answers.specs.Numbers.{AreAmounts, IsAmount, looks_each}
 use Rattle.vpg_answers.specs.Room.{BothSearchesEnd, SplitEnds}
-use Rattle.vpg_answers.specs.Texts.{empty_line, fact_line, is_lost, is_told, is_won, mixed_text, part_line, unsettled_line, winners_line, winners_text}
+use Rattle.vpg_answers.specs.Texts.{empty_line, fact_line, is_lost, is_told, is_won, mixed_text, number_line, part_line, part_lines, unsettled_line, winners_line, winners_text}
 use Rattle.vpg_answers.specs.Winners.{AreWinners}
-use Rattle.vpg_answers.proofs.Repairing.{literals_below}
 
 -- ---- parts, as the code has them
 
 -- their literals name features
-pub parts_below : (lines : List Line) (chosen : List Literal) (n : ℕ) (parts : List Part) → n ≡ feature_count lines → AllByRecursion (IsCutOut lines chosen) (views parts) →
-    All (λ p. All (λ l. l.feature < n) p.literals.items) parts
-parts_below lines chosen n [] is cut k d less = absurd (omega (arith, less))
-parts_below lines chosen n (p ∷ rest) is cut zero d less = literals_below n (feature_count lines) p.literals.items is cut.0.named
-parts_below lines chosen n (p ∷ rest) is cut (suc k) d less = parts_below lines chosen n rest is cut.1 k d (omega (arith, less))
-
-lines_of : (names : List (List ℕ)) (identifier : ℕ) (parts : List Part) → flat_map (λ p. part_line names identifier (view_of p)) parts ≡ flat_map (part_line names identifier) (views parts)
-lines_of names identifier [] = refl
-lines_of names identifier (p ∷ parts) = ap (λ (rest : List ℕ). part_line names identifier (view_of p) ++ rest) (lines_of names identifier parts)
+pub parts_named : (lines : List Line) (chosen : List Literal) (parts : List Part) → AllByRecursion (IsCutOut lines chosen) (views parts) → All (λ p. AreChoicesOf lines p.literals.items) parts
+parts_named lines chosen [] cut k d less = absurd (omega (arith, less))
+parts_named lines chosen (p ∷ rest) cut zero d less = cut.0.named
+parts_named lines chosen (p ∷ rest) cut (suc k) d less = parts_named lines chosen rest cut.1 k d (omega (arith, less))
 
 counted : (is : PartView → Bool) (n : ℕ) (parts : List Part) → fold (λ (a : ℕ) (p : Part). a + cond (is (view_of p)) 1 0) n parts ≡ fold (λ (a : ℕ) (p : PartView). a + cond (is p) 1 0) n (views parts)
 counted is n [] = refl
@@ -48,20 +50,89 @@ all_of : (is : PartView → Bool) (parts : List Part) → list_all (λ p. is (vi
 all_of is [] = refl
 all_of is (p ∷ parts) = ap (λ (rest : Bool). is (view_of p) && rest) (all_of is parts)
 
--- their lines, and then the last line
-pub told_parts : (names : List (List ℕ)) (identifier : ℕ) (parts : List Part) (before between after : List ℕ) (won lost : ℕ) (told : Bool) →
-    between ≡ before ++ flat_map (λ p. part_line names identifier (view_of p)) parts → won ≡ count_by (λ p. is_won p.winner) parts → lost ≡ count_by (λ p. is_lost p.winner) parts →
-    told ≡ list_all (λ p. is_told p.winner) parts → after ≡ between ++ winners_line identifier won lost told → after ≡ before ++ winners_text names identifier (views parts)
-told_parts names identifier parts before between after won lost told first won_is lost_is told_is then =
-    let each : List ℕ = flat_map (λ p. part_line names identifier (view_of p)) parts in
-    then
-    ∙ ap (λ (t : List ℕ). t ++ winners_line identifier won lost told) first
-    ∙ append_assoc before each (winners_line identifier won lost told)
-    ∙ ap (λ (t : List ℕ). before ++ (t ++ winners_line identifier won lost told)) (lines_of names identifier parts)
-    ∙ ap (λ (n : ℕ). before ++ (flat_map (part_line names identifier) (views parts) ++ winners_line identifier n lost told)) (won_is ∙ counted (λ p. is_won p.winner) 0 parts)
-    ∙ ap (λ (n : ℕ). before ++ (flat_map (part_line names identifier) (views parts) ++ winners_line identifier (count_by (λ p. is_won p.winner) (views parts)) n told)) (lost_is ∙ counted (λ p. is_lost p.winner) 0 parts)
-    ∙ ap (λ (b : Bool). before ++ (flat_map (part_line names identifier) (views parts) ++ winners_line identifier (count_by (λ p. is_won p.winner) (views parts)) (count_by (λ p. is_lost p.winner) (views parts)) b))
-    (told_is ∙ all_of (λ p. is_told p.winner) parts)
+-- the last line
+totals_of : (identifier : ℕ) (parts : List Part) → winners_line identifier (count_by (λ p. is_won p.winner) parts) (count_by (λ p. is_lost p.winner) parts) (list_all (λ p. is_told p.winner) parts)
+    ≡ winners_line identifier (count_by (λ p. is_won p.winner) (views parts)) (count_by (λ p. is_lost p.winner) (views parts)) (list_all (λ p. is_told p.winner) (views parts))
+totals_of identifier parts =
+    ap (λ (n : ℕ). winners_line identifier n (count_by (λ p. is_lost p.winner) parts) (list_all (λ p. is_told p.winner) parts)) (counted (λ p. is_won p.winner) 0 parts)
+    ∙ ap (λ (n : ℕ). winners_line identifier (count_by (λ p. is_won p.winner) (views parts)) n (list_all (λ p. is_told p.winner) parts)) (counted (λ p. is_lost p.winner) 0 parts)
+    ∙ ap (λ (b : Bool). winners_line identifier (count_by (λ p. is_won p.winner) (views parts)) (count_by (λ p. is_lost p.winner) (views parts)) b) (all_of (λ p. is_told p.winner) parts)
+
+-- ---- lines with numbers
+
+one_more : (scene : Scene) (looks : ℕ) (chosen : List Literal) (part : PartView) (count : Count) → IsAmount scene looks (chosen ++ part.literals) count → (parts : List PartView) (counts : List Count) →
+    AreAmounts scene looks chosen parts counts → AreAmounts scene looks chosen (parts ++ part ∷ []) (counts ++ count ∷ [])
+one_more scene looks chosen part count is [] [] are = (is, tt)
+one_more scene looks chosen part count is [] (c ∷ counts) are = absurd are
+one_more scene looks chosen part count is (p ∷ parts) [] are = absurd are
+one_more scene looks chosen part count is (p ∷ parts) (c ∷ counts) are = (are.0, one_more scene looks chosen part count is parts counts are.1)
+
+lines_more : (scene : Scene) (looks : ℕ) (chosen : List Literal) (names : List (List ℕ)) (identifier : ℕ) (part : PartView) (count : Count) (parts : List PartView) (counts : List Count) →
+    AreAmounts scene looks chosen parts counts → part_lines names identifier (parts ++ part ∷ []) (counts ++ count ∷ []) ≡ part_lines names identifier parts counts ++ part_line names identifier part count
+lines_more scene looks chosen names identifier part count [] [] are = append-nil (part_line names identifier part count)
+lines_more scene looks chosen names identifier part count [] (c ∷ counts) are = absurd are
+lines_more scene looks chosen names identifier part count (p ∷ parts) [] are = absurd are
+lines_more scene looks chosen names identifier part count (p ∷ parts) (c ∷ counts) are =
+    ap (λ (rest : List ℕ). part_line names identifier p c ++ rest) (lines_more scene looks chosen names identifier part count parts counts are.1)
+    ∙ sym (append_assoc (part_line names identifier p c) (part_lines names identifier parts counts) (part_line names identifier part count))
+
+-- no lines, and one line more
+pub told_no_lines : (scene : Scene) (looks identifier : ℕ) (chosen : List Literal) (before : List ℕ) → Appends (TellsPartLines scene looks identifier chosen []) before before
+told_no_lines scene looks identifier chosen before = ([], (([], tt, refl), sym (append-nil before)))
+
+pub told_line : (scene : Scene) (looks identifier : ℕ) (chosen : List Literal) (done all : List Part) (part : Part) (before between after : List ℕ) → all ≡ done ++ part ∷ [] →
+    Appends (TellsPartLines scene looks identifier chosen (views done)) before between → Appends (TellsPartLine scene looks identifier chosen (view_of part)) between after →
+    Appends (TellsPartLines scene looks identifier chosen (views all)) before after
+told_line scene looks identifier chosen done all part before between after is so one =
+    let counts : List Count = so.1.0.0 ++ one.1.0.0 ∷ [] in
+    let more : views all ≡ views done ++ view_of part ∷ [] = ap views is ∙ map_push view_of done part in (
+      so.0 ++ one.0,
+      (
+        (
+          counts,
+          subst (λ (ps : List PartView). AreAmounts scene looks chosen ps counts) (sym more)
+              (one_more scene looks chosen (view_of part) one.1.0.0 one.1.0.1 (views done) so.1.0.0 so.1.0.1),
+          ap₂ (λ (s t : List ℕ). s ++ t) so.1.0.2 one.1.0.2
+              ∙ sym (lines_more scene looks chosen scene.names identifier (view_of part) one.1.0.0 (views done) so.1.0.0 so.1.0.1)
+              ∙ ap (λ (ps : List PartView). part_lines scene.names identifier ps counts) (sym more),
+        ),
+        one.1.1 ∙ ap (λ (t : List ℕ). t ++ one.0) so.1.1 ∙ append_assoc before so.0 one.0,
+      ),
+    )
+
+-- ---- numbers
+
+-- the decisions, and those that the literals make
+pub with_all_is : (more items given decisions : List Decision) (lent literals : List Literal) → more ≡ items → choices items ≡ choices given ++ lent → given ≡ decisions → lent ≡ literals →
+    choices more ≡ choices decisions ++ literals
+with_all_is more items given decisions lent literals is made given_is lent_is =
+    ap choices is ∙ made ∙ ap₂ (λ (ds : List Decision) (ls : List Literal). choices ds ++ ls) given_is lent_is
+
+pub more_named : (lines : List Line) (more chosen literals : List Literal) → more ≡ chosen ++ literals → AreChoicesOf lines chosen → AreChoicesOf lines literals → AreChoicesOf lines more
+more_named lines more chosen literals is named also =
+    subst (AreChoicesOf lines) (sym is) (All-append (λ c. c.feature < feature_count lines) chosen literals named also)
+
+module _ (order : OrderView) where
+  abbrev shown : Scene
+  shown = scene_of order.game order.diagram
+
+  -- the number of the products that agree with some decisions
+  pub amount_is : (found : NamedDiagram) (looks : ℕ) (given : List Decision) (chosen : List Literal) (count : Count) → found ≡ order.diagram → choices given ≡ chosen →
+      IsCount found.lines (choices given) count → ((known : List Tri) → IsKnownTable found.lines (choices given) known → 2 ^ (unknown_features known + 1) ≤ looks + 1 → IsExact count) →
+      IsAmount shown looks chosen count
+  amount_is found looks given chosen count found_is same number settled =
+      subst (λ (d : NamedDiagram). IsAmount (scene_of order.game d) looks chosen count) found_is
+      (subst (λ (cs : List Literal). IsAmount (scene_of order.game found) looks cs count) same (record { number = number; settled = λ ends. settled ends.0 ends.1 ends.2 }))
+
+  pub told_number : (limits : Limits) (count : Count) (before after : List ℕ) → IsAmount shown limits.trials (choices order.decisions) count → after ≡ before ++ number_line count →
+      Appends (TellsNumber shown limits order.decisions) before after
+  told_number limits count before after is appended = (number_line count, ((count, is, refl), appended))
+
+  pub told_part : (looks identifier : ℕ) (names : List (List ℕ)) (part : PartView) (count : Count) (before after : List ℕ) → names ≡ order.diagram.names →
+      IsAmount shown looks (choices order.decisions ++ part.literals) count → after ≡ before ++ part_line names identifier part count →
+      Appends (TellsPartLine shown looks identifier (choices order.decisions) part) before after
+  told_part looks identifier names part count before after names_is is appended =
+      (part_line order.diagram.names identifier part count, ((count, is, refl), appended ∙ ap (λ (ns : List (List ℕ)). before ++ part_line ns identifier part count) names_is))
 
 -- ---- an order's page
 
@@ -89,18 +160,34 @@ module _ (order : OrderView) (limits : Limits) (vertex : ℕ) (given : List Deci
       } in
       subst (λ (ds : List Decision). AreWinners page limits vertex (choices ds) parts) given_is so
 
-  module _ (names : List (List ℕ)) (names_is : names ≡ order.diagram.names) (identifier : ℕ) (identifier_is : identifier ≡ slice_index (vertex_ids order.game.vertices) vertex) (before after : List ℕ) where
-    pub told_winners : (lent parts : List Part) → lent ≡ parts → AreWinners page limits vertex (choices order.decisions) (views parts) → after ≡ before ++ winners_text names identifier (views lent) →
-        Appends (TellsWinners page limits vertex order.decisions) before after
-    told_winners lent parts same are appended = (
-      winners_text order.diagram.names (identifier_of page vertex) (views parts),
-      (
-        (views parts, are, refl),
-        appended ∙ ap₂ (λ (ns : List (List ℕ)) (n : ℕ). before ++ winners_text ns n (views lent)) names_is identifier_is
-            ∙ ap (λ (ps : List Part). before ++ winners_text order.diagram.names (identifier_of page vertex) (views ps)) same,
-      ),
-    )
+  pub told_winners : (looks n identifier : ℕ) (parts lent given : List Part) (before between after : List ℕ) → looks ≡ looks_each limits.trials n → n ≡ length parts →
+      identifier ≡ slice_index (vertex_ids order.game.vertices) vertex → lent ≡ parts → given ≡ parts → AreWinners page limits vertex (choices order.decisions) (views parts) →
+      Appends (TellsPartLines page looks identifier (choices order.decisions) (views lent)) before between →
+      after ≡ between ++ winners_line identifier (count_by (λ p. is_won p.winner) given) (count_by (λ p. is_lost p.winner) given) (list_all (λ p. is_told p.winner) given) →
+      Appends (TellsWinners page limits vertex order.decisions) before after
+  told_winners looks n identifier parts lent given before between after looks_is n_is identifier_is lent_is given_is are each then =
+      let id : ℕ = identifier_of page vertex in
+      let ps : List PartView = views parts in
+      let share : looks ≡ looks_each limits.trials (length ps) = looks_is ∙ ap (looks_each limits.trials) (n_is ∙ sym (length-map parts view_of)) in
+      let lines : Appends (TellsPartLines page (looks_each limits.trials (length ps)) id (choices order.decisions) ps) before between =
+      subst (λ (l : ℕ). Appends (TellsPartLines page l id (choices order.decisions) ps) before between) share
+      (subst (λ (i : ℕ). Appends (TellsPartLines page looks i (choices order.decisions) ps) before between) identifier_is
+      (subst (λ (qs : List Part). Appends (TellsPartLines page looks identifier (choices order.decisions) (views qs)) before between) lent_is each)) in
+      let last : List ℕ = winners_line id (count_by (λ p. is_won p.winner) ps) (count_by (λ p. is_lost p.winner) ps) (list_all (λ p. is_told p.winner) ps) in
+      let counts : List Count = lines.1.0.0 in (
+        winners_text order.diagram.names id ps counts,
+        (
+          (ps, counts, are, lines.1.0.1, refl),
+          then
+              ∙ ap (λ (qs : List Part). between ++ winners_line identifier (count_by (λ p. is_won p.winner) qs) (count_by (λ p. is_lost p.winner) qs) (list_all (λ p. is_told p.winner) qs)) given_is
+              ∙ ap (λ (t : List ℕ). between ++ t) (totals_of identifier parts)
+              ∙ ap (λ (i : ℕ). between ++ winners_line i (count_by (λ p. is_won p.winner) ps) (count_by (λ p. is_lost p.winner) ps) (list_all (λ p. is_told p.winner) ps)) identifier_is
+              ∙ ap (λ (t : List ℕ). t ++ last) (lines.1.1 ∙ ap (λ (t : List ℕ). before ++ t) lines.1.0.2)
+              ∙ append_assoc before (part_lines order.diagram.names id ps counts) last,
+        ),
+      )
 
+  module _ (names : List (List ℕ)) (names_is : names ≡ order.diagram.names) (identifier : ℕ) (identifier_is : identifier ≡ slice_index (vertex_ids order.game.vertices) vertex) (before after : List ℕ) where
     abbrev IsDecided : List Decision → Decided → Type 0
     IsDecided ds d = IsDecidedAs (graph_of order.game) order.diagram.lines (choices ds) vertex d
 

@@ -29,12 +29,14 @@ use Rattle.vpg_why.specs.declared.question.Aim.TheVariants as aims
 use Rattle.vpg_why.specs.declared.question.Limits.{Limits}
 use Rattle.vpg_why.specs.declared.question.Question.{Question}
 use Rattle.vpg_why.specs.declared.question.Question.TheVariants as asks
+use Rattle.vpg_number.specs.declared.counted.Count.{Count}
 use Rattle.vpg_winners.specs.Decided.{HasRemaining, NoneRemains, WinsEach}
 use Rattle.vpg_winners.specs.Joined.{PartView}
 use Rattle.vpg_answers.specs.declared.offers.Offered.{Offered}
 use Rattle.vpg_answers.specs.declared.query.Query.{Query}
 use Rattle.vpg_answers.specs.declared.query.Query.TheVariants as queries
-use Rattle.vpg_answers.specs.Texts.{verdict_line, other_line, lost_head, lost_line, known_line, not_known, conflict_line, no_conflict, product_line, none_line, unsettled_line, offers_text, forced_text, singles_text, several_text, moves_word, moves_text, winners_text, fact_line, mixed_text, empty_line}
+use Rattle.vpg_answers.specs.Texts.{verdict_line, other_line, lost_head, lost_line, known_line, not_known, conflict_line, no_conflict, product_line, none_line, unsettled_line, number_line, part_line, part_lines, offers_text, forced_text, singles_text, several_text, moves_word, moves_text, winners_text, fact_line, mixed_text, empty_line}
+use Rattle.vpg_answers.specs.Numbers.{AreAmounts, IsAmount, looks_each}
 use Rattle.vpg_answers.specs.Offers.{AreOffers}
 use Rattle.vpg_answers.specs.Parts.{TellsPart}
 use Rattle.vpg_answers.specs.Repairs.{AreSingles}
@@ -241,11 +243,24 @@ TellsTraced (Some behaviour) scene limits vertex decisions hopeful dual text =
 
 -- ---- who wins
 
--- the products left, in parts by the winner at the vertex
+-- a part, with the number of products that agree with the choices and with its literals
+abbrev pub TellsPartLine : Scene → (looks identifier : ℕ) → List Literal → PartView → (text : List ℕ) → Type 0
+TellsPartLine scene looks identifier choices part text =
+    (count : Count) × IsAmount scene looks (choices ++ part.literals) count
+    × (text ≡ part_line scene.names identifier part count)
+
+abbrev pub TellsPartLines : Scene → (looks identifier : ℕ) → List Literal → List PartView → (text : List ℕ) → Type 0
+TellsPartLines scene looks identifier choices parts text =
+    (counts : List Count) × AreAmounts scene looks choices parts counts
+    × (text ≡ part_lines scene.names identifier parts counts)
+
+-- The products left, in parts by the winner at the vertex. Each line has the number of products that agree with it, or
+-- a lower bound.
 abbrev pub TellsWinners : Scene → Limits → (vertex : ℕ) → List Decision → (text : List ℕ) → Type 0
 TellsWinners scene limits vertex decisions text =
-    (parts : List PartView) × AreWinners scene limits vertex (choices decisions) parts
-    × (text ≡ winners_text scene.names (identifier_of scene vertex) parts)
+    (parts : List PartView) × (counts : List Count) × AreWinners scene limits vertex (choices decisions) parts
+    × AreAmounts scene (looks_each limits.trials (length parts)) (choices decisions) parts counts
+    × (text ≡ winners_text scene.names (identifier_of scene vertex) parts counts)
 
 -- a product left that Even wins, and one that Odd wins, the first ones if the limits leave room
 abbrev pub TellsMixed : Scene → Limits → (vertex : ℕ) → List Decision → (text : List ℕ) → Type 0
@@ -267,6 +282,13 @@ TellsDecided scene limits vertex decisions text =
     ⊎ TellsMixed scene limits vertex decisions text
     ⊎ (NoneRemains scene.lines (choices decisions) × (text ≡ empty_line))
     ⊎ (¬ (BothSearchesEnd scene limits vertex (choices decisions)) × (text ≡ unsettled_line))
+
+-- ---- how many
+
+-- the number of products left, or a lower bound if a limit was met
+abbrev pub TellsNumber : Scene → Limits → List Decision → (text : List ℕ) → Type 0
+TellsNumber scene limits decisions text =
+    (count : Count) × IsAmount scene limits.trials (choices decisions) count × (text ≡ number_line count)
 
 -- ---- any
 
@@ -296,11 +318,12 @@ TellsOfVertex behaviour scene limits questions.Winners vertex decisions hopeful 
 TellsOfVertex behaviour scene limits questions.Decide vertex decisions hopeful dual text =
     TellsDecided scene limits vertex decisions text
 
--- the answer to a question about the page as a whole: the features that all products left have or lack, or the
--- decisions that leave none
+-- the answer to a question about the page as a whole: the features that all products left have or lack, the decisions
+-- that leave none, or how many there are
 abbrev pub TellsOfPage : Scene → Limits → PageQuestion → List Decision → (text : List ℕ) → Type 0
 TellsOfPage scene limits whole.Forced decisions text = TellsForced scene limits aims.Any decisions text
 TellsOfPage scene limits whole.Empty decisions text = TellsLost scene limits aims.Any decisions text
+TellsOfPage scene limits whole.Number decisions text = TellsNumber scene limits decisions text
 
 -- what answers a query
 abbrev pub Tells : Option Behaviour → Scene → Limits → Query → List Decision → (hopeful dual : List ℕ) → Answer → Type 0
@@ -343,14 +366,14 @@ IsWithin behaviour vertices features (queries.OfFeature feature) = feature < fea
 IsWithin behaviour vertices features (queries.OfChoice feature value) = feature < features
 IsWithin behaviour vertices features (queries.OfPage question) = ⊤
 
--- A limit was met. Some line says that fewer decisions may do, or the text's end says that there may be more lines. Or
--- the text gives some product, or only says that it is unsettled; or it is unsettled what some decision would change.
--- Or a product of a mixed vertex need not be the first.
+-- A limit was met. Some line says that fewer decisions may do, or that there may be more lines or products. Or the text
+-- gives some product, or only says that it is unsettled; or it is unsettled what some decision would change. Or a
+-- product of a mixed vertex need not be the first.
 abbrev pub HasDoubt : List ℕ → Type 0
 HasDoubt text =
     ((before : List ℕ) × (behind : List ℕ) × (text ≡ before ++ codes " or fewer\n" ++ behind))
     ⊎ ((behind : List ℕ) × (text ≡ codes "some product" ++ behind))
     ⊎ (text ≡ unsettled_line)
     ⊎ ((before : List ℕ) × (behind : List ℕ) × (text ≡ codes "offer" ++ before ++ codes " unsettled" ++ behind))
-    ⊎ ((before : List ℕ) × (text ≡ before ++ codes " or more\n"))
+    ⊎ ((before : List ℕ) × (behind : List ℕ) × (text ≡ before ++ codes " or more\n" ++ behind))
     ⊎ ((before : List ℕ) × (behind : List ℕ) × (text ≡ codes "mixed" ++ before ++ codes "\nsome product" ++ behind))

@@ -1,5 +1,6 @@
 pub mod Answers
 pub mod Laws
+pub mod Numbers
 pub mod Offers
 pub mod Parts
 pub mod Repairs

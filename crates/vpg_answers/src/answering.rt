@@ -7,7 +7,8 @@ ghost use Rattle.vpg_texts.specs.Scene.{scene_of};
 
 use crate::query::Query;
 use crate::{
-    deciding, drawing, examples, losses, needs, offers, reasons, repairs, traces, winners, winning,
+    deciding, drawing, examples, losses, needs, numbers, offers, reasons, repairs, traces, winners,
+    winning,
 };
 use std::alloc::{AllocError, Global};
 use vpg_checking::Behaviour;
@@ -70,6 +71,7 @@ fn of_page(
     match question {
         PageQuestion::Forced => needs::forced(alloc, order, Aim::Any, limits, out),
         PageQuestion::Empty => losses::loss(alloc, order, Aim::Any, limits, out),
+        PageQuestion::Number => numbers::left(alloc, order, limits, out),
     }
 }
 

@@ -7,18 +7,18 @@
 //! by which moves Odd (or Even) wins from it in all of them. It asks for a picture of all that can be reached from it,
 //! by such moves if there are some. Or it asks for a trace of its verdict, as steps of the system that the game was
 //! made of. Or it asks who wins from it in the products left, and in which of them. A `PageQuestion` asks for features
-//! that all products left have or lack, or for decisions that leave none. The crate of scripts has these questions,
-//! since its lines spell them. This one asks the crates of reasons and of moves below, and appends the lines. The layer
-//! above answers lines of scripts by it; it changes nothing.
+//! that all products left have or lack, for decisions that leave none, or how many are left. The crate of scripts has
+//! these questions, since its lines spell them. This one asks the crates of reasons, of moves and of numbers below, and
+//! appends the lines. The layer above answers lines of scripts by it; it changes nothing.
 //!
 //! An answer is a function of the page if no limit was met (`laws::answers_are_one`), and none is met if the limits
 //! leave room. If one was, the text says so. ` or fewer` marks decisions that suffice, some perhaps needlessly; ` or
-//! more` lines to which others may belong; `some product` one that need not be the first; `unsettled` a fact that was
-//! not shown.
+//! more` lines to which others may belong, or a number that may be greater; `some product` one that need not be the
+//! first; `unsettled` a fact that was not shown.
 //!
 //! The texts are defined in `specs/Texts`, their meaning for a page in `specs/Answers`, `specs/Offers`,
-//! `specs/Repairs`, `specs/Parts` and `specs/Winners`, and the room of limits in `specs/Room`. All are this project's
-//! own.
+//! `specs/Repairs`, `specs/Parts`, `specs/Numbers` and `specs/Winners`, and the room of limits in `specs/Room`. All are
+//! this project's own.
 #![tactic(auto)]
 
 mod answering;
@@ -29,6 +29,7 @@ pub mod laws;
 mod lines;
 mod losses;
 mod needs;
+mod numbers;
 mod offers;
 mod query;
 mod reasons;

@@ -1,18 +1,23 @@
 //! Which of the products left are won at a vertex.
 ghost use Rattle.std.specs.List.{list_all};
-ghost use Rattle.std.specs.Prelude.{◌≡◌, ◌<◌, ◌++◌, All, OnOk, count_by, flat_map, length};
-ghost use Rattle.vpg_answers.specs.Answers.{Appends, TellsWinners};
-ghost use Rattle.vpg_answers.specs.Texts.{is_lost, is_told, is_won, part_line, winner_word, winners_line, winners_text};
+ghost use Rattle.std.specs.Prelude.{◌≡◌, ◌<◌, ◌++◌, All, IfOk, OnOk, count_by, length};
+ghost use Rattle.vpg_answers.specs.Answers.{Appends, TellsPartLine, TellsPartLines, TellsWinners};
+ghost use Rattle.vpg_answers.specs.Numbers.{looks_each};
+ghost use Rattle.vpg_answers.specs.Texts.{is_lost, is_told, is_won, part_line, winner_word, winners_line};
+ghost use Rattle.vpg_partial.specs.TableLaws.{AreChoicesOf};
 ghost use Rattle.vpg_texts.specs.Scene.{scene_of};
 ghost use Rattle.vpg_texts.specs.Text.{choices_text};
+ghost use Rattle.vpg_why.specs.Explained.{choices};
 ghost use Rattle.vpg_winners.specs.Winners.{view_of, views};
 
-use crate::lines;
 use crate::reasons::{identifier, names};
+use crate::{lines, numbers};
 use std::alloc::{AllocError, Global};
 use vpg_diagram::Literal;
 use vpg_guards::Names;
 use vpg_measure::Order;
+use vpg_number::{Count, number};
+use vpg_partial::Decision;
 use vpg_texts::blank_number;
 use vpg_why::Limits;
 use vpg_winners::{Part, Winner, winners};
@@ -40,33 +45,92 @@ fn literals(names: &Names, listed: &[Literal], out: &mut Vec<u8>) -> Result<(), 
     Ok(())
 }
 
-/// Appends a part.
+/// Appends a part, and how many products it has.
 fn part_line(
+    alloc: Global,
     names: &Names,
     identifier: u32,
     part: &Part,
+    count: &Count,
     out: &mut Vec<u8>,
 ) -> Result<(), AllocError>
     requires { All (λ l. l.feature < length names.now) part.now.literals.items }
-    ensures { OnOk result
-        (out.new.items ≡ out.old.items ++ part_line names.now identifier (view_of part.now)) }
+    ensures { OnOk result (out.new.items ≡
+        out.old.items ++ part_line names.now identifier (view_of part.now) count.now) }
 {
     winner_word(part.winner, out)?;
     blank_number(identifier as u64, out)?;
     literals(names, &part.literals, out)?;
+    numbers::amount(alloc, count, out)?;
     out.extend_from_slice(b"\n")
 }
 
+/// Returns the decisions, and one for each of the literals.
+fn with_all(
+    alloc: Global,
+    decisions: &[Decision],
+    literals: &[Literal],
+) -> Result<Vec<Decision>, AllocError>
+    ensures { IfOk result (λ more. choices more.items ≡ choices decisions.now ++ literals.now) }
+{
+    let mut more = Vec::new(alloc);
+    more.extend_from_slice(decisions)?;
+    for l in literals {
+        more.push(Decision {
+            serial: 0,
+            session: 0,
+            feature: l.feature,
+            value: l.value,
+        })?;
+    }
+    Ok(more)
+}
+
+/// Appends a part, and the number of products in it.
+fn counted(
+    alloc: Global,
+    order: &Order,
+    identifier: u32,
+    part: &Part,
+    looks: u64,
+    out: &mut Vec<u8>,
+) -> Result<(), AllocError>
+    requires { AreChoicesOf order.now.diagram.lines part.now.literals.items }
+    ensures { OnOk result (Appends
+        (TellsPartLine (scene_of order.now.game order.now.diagram) looks identifier (choices order.now.decisions)
+        (view_of part.now)) out.old.items out.new.items) }
+{
+    let names = names(order);
+    let more = with_all(alloc, order.decisions(), &part.literals)?;
+    let count = number(alloc, order.diagram(), &more, looks)?;
+    part_line(alloc, names, identifier, part, &count, out)
+}
+
 /// Appends each of the parts.
-fn each(names: &Names, identifier: u32, parts: &[Part], out: &mut Vec<u8>) -> Result<(), AllocError>
-    requires { All (λ p. All (λ l. l.feature < length names.now) p.literals.items) parts.now }
-    ensures { OnOk result (out.new.items ≡
-        out.old.items ++ flat_map (λ p. part_line names.now identifier (view_of p)) parts.now) }
+fn each(
+    alloc: Global,
+    order: &Order,
+    identifier: u32,
+    parts: &[Part],
+    looks: u64,
+    out: &mut Vec<u8>,
+) -> Result<(), AllocError>
+    requires { All (λ p. AreChoicesOf order.now.diagram.lines p.literals.items) parts.now }
+    ensures { OnOk result (Appends
+        (TellsPartLines (scene_of order.now.game order.now.diagram) looks identifier (choices order.now.decisions)
+        (views parts.now)) out.old.items out.new.items) }
 {
     for part in parts {
-        part_line(names, identifier, part, out)?;
+        counted(alloc, order, identifier, part, looks, out)?;
     }
     Ok(())
+}
+
+/// Returns how many looks the number of each part may take.
+fn looks_each(looks: u64, parts: usize) -> u64
+    ensures { result ≡ looks_each looks parts }
+{
+    looks / (parts as u64 / 100 + 1)
 }
 
 fn is_won(part: &Part) -> bool
@@ -132,18 +196,17 @@ fn total(
     out.extend_from_slice(b"\n")
 }
 
-/// Appends the parts, and their numbers.
-fn tell(names: &Names, identifier: u32, parts: &[Part], out: &mut Vec<u8>) -> Result<(), AllocError>
-    requires { All (λ p. All (λ l. l.feature < length names.now) p.literals.items) parts.now }
-    ensures { OnOk result
-        (out.new.items ≡ out.old.items ++ winners_text names.now identifier (views parts.now)) }
+/// Appends the numbers of the parts won and lost, and whether there may be others.
+fn totals(identifier: u32, parts: &[Part], out: &mut Vec<u8>) -> Result<(), AllocError>
+    ensures { OnOk result (out.new.items ≡ out.old.items ++ winners_line identifier
+        (count_by (λ p. is_won p.winner) parts.now) (count_by (λ p. is_lost p.winner) parts.now)
+        (list_all (λ p. is_told p.winner) parts.now)) }
 {
-    each(names, identifier, parts, out)?;
     let told = are_told(parts);
     total(identifier, count_won(parts), count_lost(parts), told, out)
 }
 
-/// Appends the products left, in parts by the winner at the vertex.
+/// Appends the products left, in parts by the winner at the vertex, with the number of products in each part.
 pub(crate) fn partition(
     alloc: Global,
     order: &Order,
@@ -156,8 +219,9 @@ pub(crate) fn partition(
         (TellsWinners (scene_of order.now.game order.now.diagram) limits vertex order.now.decisions)
         out.old.items out.new.items) }
 {
-    let names = names(order);
     let identifier = identifier(order, vertex);
     let parts = winners(alloc, order, vertex, order.decisions(), limits)?;
-    tell(names, identifier, &parts, out)
+    let looks = looks_each(limits.trials, parts.len());
+    each(alloc, order, identifier, &parts, looks, out)?;
+    totals(identifier, &parts, out)
 }

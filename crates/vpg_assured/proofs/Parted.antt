@@ -53,9 +53,10 @@ module _ (game : NamedGame) (diagram : NamedDiagram) (system_text requirements_t
     parts_products : (text : List ℕ) → TellsWinners scene answer_limits root (decisions_of page) text → PartsProducts scene page root Holds text
     parts_products text so = record {
       parts = so.0;
-      partition = so.1.partition;
-      true_of = parts_true so.0 so.1.exact;
-      text_is = so.2;
+      counts = so.1;
+      partition = so.2.partition;
+      true_of = parts_true so.0 so.2.exact;
+      text_is = so.4;
     }
 
   speaks : (behaviour : Option Behaviour) (book : Book) (named : script.Vertex) (answer : Answer) (n : ℕ) (below : n < length made.entries) →

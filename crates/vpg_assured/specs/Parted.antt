@@ -20,6 +20,7 @@ use Rattle.vpg_serving.specs.Answer.{Answer, IsDone}
 use Rattle.vpg_serving.specs.Output.{Machine, Answered}
 use Rattle.vpg_texts.specs.Scene.{Scene, scene_of}
 use Rattle.vpg_answers.specs.Texts.{winners_text}
+use Rattle.vpg_number.specs.declared.counted.Count.{Count}
 use Rattle.vpg_report.specs.Answers.{vertex_of}
 use Rattle.vpg_report.specs.Run.{Between, begun, answering, as_meant}
 use Rattle.vpg_report.specs.Winners.{IsRefusal}
@@ -31,14 +32,15 @@ IsPartTrueOf scene page Holds part =
     (set : List Bool) → IsRemaining scene.lines (choices_of page) set → IsTrue (is_in set part) →
     (part.winner ≡ Won → Holds set) × (part.winner ≡ Lost → Holds set → ⊥)
 
--- The text has a line for each of some parts. Each product left is in exactly one of them, and each is true of the
--- requirement.
+-- The text has a line for each of some parts, with a number of products. Each product left is in exactly one of them,
+-- and each is true of the requirement.
 pub record PartsProducts (scene : Scene) (page : List Entry) (vertex : ℕ) (Holds : List Bool → Type 0)
     (text : List ℕ) : Type 0 where
   pub parts : List PartView
+  pub counts : List Count
   pub partition : ArePartition scene.lines (choices_of page) parts
   pub true_of : AllByRecursion (IsPartTrueOf scene page Holds) parts
-  pub text_is : text ≡ winners_text scene.names (slice_index scene.identifiers vertex) parts
+  pub text_is : text ≡ winners_text scene.names (slice_index scene.identifiers vertex) parts counts
 
 -- the command `winners V`
 abbrev pub winners_of : script.Vertex → script.Command

@@ -249,7 +249,7 @@ pub static LINES: [Form; 9] = [
 ];
 
 /// The commands of scripts.
-pub static COMMANDS: [Form; 34] = [
+pub static COMMANDS: [Form; 35] = [
     Form {
         word: "select",
         written: "select F",
@@ -484,6 +484,13 @@ pub static COMMANDS: [Form; 34] = [
     Form {
         word: "empty",
         written: "empty",
+        parts: &[],
+        optional: 0,
+        rest: None,
+    },
+    Form {
+        word: "number",
+        written: "number",
         parts: &[],
         optional: 0,
         rest: None,

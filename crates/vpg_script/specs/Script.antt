@@ -161,6 +161,7 @@ verb_of_question w =
     else if bytes_eq w (codes "trace") then Some verbs.Trace
     else if bytes_eq w (codes "winners") then Some verbs.Winners
     else if bytes_eq w (codes "decide") then Some verbs.Decide
+    else if bytes_eq w (codes "number") then Some verbs.Number
     else None
 
 -- the command that a word names, if it is a lookup or such a question
@@ -208,6 +209,7 @@ bare_command verbs.Draw = Some (Look Draw)
 bare_command verbs.Changed = Some Changed
 bare_command verbs.Forced = Some (Ask (OfPage whole.Forced))
 bare_command verbs.Empty = Some (Ask (OfPage whole.Empty))
+bare_command verbs.Number = Some (Ask (OfPage whole.Number))
 bare_command _ = None
 
 abbrev pub if_name : (List ℕ → Command) → List ℕ → Option Command

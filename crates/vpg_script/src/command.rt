@@ -62,6 +62,7 @@ pub enum Verb {
     Trace,
     Winners,
     Decide,
+    Number,
 }
 
 /// A question about a vertex.
@@ -98,6 +99,8 @@ pub enum PageQuestion {
     Forced,
     /// Whether no product is left.
     Empty,
+    /// How many products are left.
+    Number,
 }
 
 /// A vertex, as a line names it. A name stands in the line that was read.
@@ -345,6 +348,8 @@ fn verb_of_question_named(word: &[u8]) -> Option<Verb>
         Some(Verb::Winners)
     } else if same(word, b"decide") {
         Some(Verb::Decide)
+    } else if same(word, b"number") {
+        Some(Verb::Number)
     } else {
         None
     }
@@ -368,6 +373,7 @@ fn bare_command<'t>(verb: Verb) -> Option<Command<'t>>
         Verb::Changed => Some(Command::Changed),
         Verb::Forced => Some(Command::Ask(Inquiry::OfPage(PageQuestion::Forced))),
         Verb::Empty => Some(Command::Ask(Inquiry::OfPage(PageQuestion::Empty))),
+        Verb::Number => Some(Command::Ask(Inquiry::OfPage(PageQuestion::Number))),
         Verb::Select
         | Verb::Exclude
         | Verb::Retract

@@ -67,6 +67,7 @@ number, N a number):
   decide V               who wins at V in the products that are left, exactly
   forced                 what every product has that is left
   empty                  decisions that leave no product; else the first left
+  number                 how many products are left
   # ..                   a comment
   N: COMMAND             session N (1 to 64) gives the command
 

@@ -14,7 +14,7 @@ const SCRIPT: &[u8] = b"\
     retract f\nundo\nredo\nkeep 3\nkeep 1\nselect f\nselect g\nsettle\nshow\nshow 1\ntrail\nproducts\n\
     known f\nplan\ncount\nassert 0 possible\nassert full\nretract g\nexclude f\nwhy 0\nwhy r\nwhy +f\n\
     example 0\ncounterexample 1\noffer 0\nneeds 0\nretract f\nexclude f\nsettle\nwhy 0\nrepair 0\n\
-    winners 1\ndecide 1\n";
+    winners 1\ndecide 1\nnumber\n";
 
 /// Its answers.
 const ANSWERS: &[u8] = b"\
@@ -25,8 +25,8 @@ const ANSWERS: &[u8] = b"\
     plan 0 1\nplans 1\nhopeless 0\npossible 2\nsure 2\nunsure 0\nsettled yes\nfull yes\nholds\nholds\n\
     done 6\nrefused AlreadyDecided 4\npossible 0\nunsure 0\nin r\nrefused NoConflict\nproduct r f g\n\
     none\noffer +g possible sure\noffer -g possible sure\noffers 2\nneeds 0\ndone 7\ndone 8\nsettled 2\n\
-    hopeless 0 -f\nunsure 0\nrepair -f\nrepairs 1\nlost 1 +g\nwon 1 -g\nwinners 1 1 1\nmixed 1\nproduct r\n\
-    product r g\n";
+    hopeless 0 -f\nunsure 0\nrepair -f\nrepairs 1\nlost 1 +g 1\nwon 1 -g 1\nwinners 1 1 1\nmixed 1\n\
+    product r\nproduct r g\nnumber 2\n";
 
 /// More than the answers have bytes.
 pub(crate) const MOST_BYTES: usize = 8192;

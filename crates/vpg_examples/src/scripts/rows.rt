@@ -523,10 +523,11 @@ static PRODUCTS_LEFT: [Row; 2] = [
         diagram: "root r\noptional r a\nor a : b c\noptional r d\nrequires b d\nrequires c d\n",
         game: DOT,
         script: "\
-            forced / empty / select a / forced / known d / empty / select c / exclude b / forced",
+            forced / empty / number / select a / forced / number / known d / empty / select c / exclude b / forced / \
+            number",
         answers: "\
-            forced 0 / product r a b c d / done 1 / forced +d / forced 1 / open d / product r a b c d / done 2 \
-            / done 3 / forced 0",
+            forced 0 / product r a b c d / number 5 / done 1 / forced +d / forced 1 / number 3 / open d / \
+            product r a b c d / done 2 / done 3 / forced 0 / number 1",
     },
     // No product has b, and no decision conflicts.
     Row {
@@ -535,12 +536,12 @@ static PRODUCTS_LEFT: [Row; 2] = [
             requires d q\n",
         game: "parity 1; 0 1 0 1[b],0; 1 2 1 0[p],1;",
         script: "\
-            forced / empty / winners 0 / select b / forced / empty / example 0 / winners 0 / decide 0 / select p / \
-            empty / retract b / empty / forced",
+            forced / empty / winners 0 / number / select b / forced / empty / number / example 0 / winners 0 / \
+            decide 0 / select p / empty / retract b / empty / forced",
         answers: "\
-            forced -b / forced -c / forced -d / forced 3 / product r p / lost 0 / winners 0 0 1 / done 1 / none / \
-            empty +b / none / winners 0 0 0 / empty / refused Conflict p / empty +b / done 2 / product r p / \
-            forced -b / forced -c / forced -d / forced 3",
+            forced -b / forced -c / forced -d / forced 3 / product r p / lost 0 2 / winners 0 0 1 / number 2 / \
+            done 1 / none / empty +b / number 0 / none / winners 0 0 0 / empty / refused Conflict p / empty +b / \
+            done 2 / product r p / forced -b / forced -c / forced -d / forced 3",
     },
 ];
 
@@ -670,17 +671,17 @@ static EXAMPLES: [Row; 4] = [
             winners 0 / decide 0 / winners 1 / decide 1 / exclude f / winners 0 / decide 0 / winners 1 / 2: select g / \
             winners 1 / winners 7 / decide 7",
         answers: "\
-            won 0 +f / lost 0 -f / winners 0 1 1 / mixed 0 / product r f g / product r g / won 1 +f / lost 1 -f +g / \
-            won 1 -f -g / winners 1 2 1 / mixed 1 / product r f g / product r g / done 1 / lost 0 / winners 0 0 1 / \
-            lost 0 / lost 1 +g / won 1 -g / winners 1 1 1 / done 2 / lost 1 / winners 1 0 1 / refused NoVertex / \
-            refused NoVertex",
+            won 0 +f 2 / lost 0 -f 2 / winners 0 1 1 / mixed 0 / product r f g / product r g / won 1 +f 2 / \
+            lost 1 -f +g 1 / won 1 -f -g 1 / winners 1 2 1 / mixed 1 / product r f g / product r g / done 1 / \
+            lost 0 2 / winners 0 0 1 / lost 0 / lost 1 +g 1 / won 1 -g 1 / winners 1 1 1 / done 2 / lost 1 1 / \
+            winners 1 0 1 / refused NoVertex / refused NoVertex",
     },
     // Parts with a and without it are joined.
     Row {
         diagram: "root r\noptional r a\noptional r b\n",
         game: "0 0 0 0[b];",
         script: "winners 0 / decide 0",
-        answers: "won 0 +b / lost 0 -b / winners 0 1 1 / mixed 0 / product r a b / product r a",
+        answers: "won 0 +b 2 / lost 0 -b 2 / winners 0 1 1 / mixed 0 / product r a b / product r a",
     },
 ];
 

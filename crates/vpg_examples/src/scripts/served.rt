@@ -92,7 +92,7 @@ pub(super) fn answers_lines<T: Threads + Wait + Sync>(rt: &T, alloc: Global) -> 
 }
 
 /// Lines with words that their command doesn't take.
-static ARGS: [&str; 39] = [
+static ARGS: [&str; 40] = [
     "settle 1000000001",
     "lift hopeful 4294967296",
     "keep 18446744073709551616",
@@ -113,6 +113,7 @@ static ARGS: [&str; 39] = [
     "changed 1",
     "forced f",
     "empty 0",
+    "number 1",
     "known",
     "known +f",
     "why",

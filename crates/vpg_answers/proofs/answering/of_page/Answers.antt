@@ -5,3 +5,6 @@ returns-in-Empty c = rw c.in-Empty.is c.loss.ensures
 
 pub returns-in-Forced : goal.returns-in-Forced
 returns-in-Forced c = rw c.in-Forced.is c.forced.ensures
+
+pub returns-in-Number : goal.returns-in-Number
+returns-in-Number c = rw c.in-Number.is c.left.ensures

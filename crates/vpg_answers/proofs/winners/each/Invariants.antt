@@ -1,8 +1,10 @@
-use Rattle.std.proofs.Common.{◌≡◌, ◌++◌, take}
-use Rattle.std.specs.Prelude.{flat_map}
-use Rattle.vpg_winners.specs.Winners.{view_of}
-use Rattle.vpg_answers.specs.Texts.{part_line}
+use Rattle.std.proofs.Common.{take}
+use Rattle.vpg_texts.specs.Scene.{scene_of}
+use Rattle.vpg_why.specs.Explained.{choices}
+use Rattle.vpg_winners.specs.Winners.{views}
+use Rattle.vpg_answers.specs.Answers.{Appends, TellsPartLines}
 use Rattle.vpg_answers.proofs.winners.each.Given as goal
 
 abbrev pub invariant-loop-part : goal.invariant-loop-part
-invariant-loop-part l = l.out.items ≡ l.fn.out.items ++ flat_map (λ p. part_line l.names l.identifier (view_of p)) (take l.part-index l.parts)
+invariant-loop-part l =
+    Appends (TellsPartLines (scene_of l.order.game l.order.diagram) l.looks l.identifier (choices l.order.decisions) (views (take l.part-index l.parts))) l.fn.out.items l.out.items
