@@ -45,7 +45,8 @@ SIGNED = rb"(?: [+-]" + NAME + rb")*"
 FAULTS = {
     "unreadable": rb"(?:game|diagram|script) unreadable",
     "too large": rb"(?:game|diagram|script) TooLarge|game TooManySigns " + N,
-    "diagram refused": rb"diagram (?:NoRoot|(?:Syntax|TwoRoots|UnknownFeature|TwoParents|TooMany|BadRange) " + N + rb")",
+    "diagram refused": rb"diagram (?:NoRoot|(?:Syntax|TwoRoots|UnknownFeature|TwoParents|TooManyClauses|TooMany"
+    + rb"|BadRange) " + N + rb")",
     "game refused": rb"game (?:(?:Syntax|BadOwner|PriorityTooLarge|TooMany|DoubleVertex|MissingVertex) " + N + rb"|Guard " + N
     + rb" (?:Syntax|UnknownFeature|TooDeep) " + N + rb"|TooWide)",
     "opening refused": rb"Conflict " + NAME,
