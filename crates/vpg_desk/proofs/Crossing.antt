@@ -2,7 +2,7 @@
 use denote.Param.Send.{IsSend, IsSync, sendable}
 use Rattle.std.proofs.Crossing.{crosses}
 use Rattle.vpg_guards.proofs.guard.Guard.TheLaws.TheKnot.{send-Guard, sync-Guard}
-use Rattle.vpg_diagram.proofs.diagram.Diagram.TheSendSync.{the_send as diagram_send, the_sync as diagram_sync}
+use Rattle.vpg_diagram.proofs.Crossing.{diagram_send, diagram_sync}
 use Rattle.vpg_game.specs.contracts.game.GuardedGame as Game
 use Rattle.vpg_measure.proofs.games.PageGames.TheSendSync.{the_send as games_send, the_sync as games_sync}
 use Rattle.vpg_trail.proofs.trail.Trail.TheSendSync.{the_send as trail_send}

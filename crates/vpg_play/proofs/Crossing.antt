@@ -6,7 +6,7 @@ use Rattle.std.proofs.Crossing.{crosses}
 use Rattle.std.proofs.sync.ledger.Share.TheSendSync.{the_send as share_send}
 use Rattle.std.specs.declared.sync.ledger.Ledger as ledger
 use Rattle.vpg_desk.proofs.Crossing.{game_send, game_sync}
-use Rattle.vpg_diagram.proofs.diagram.Diagram.TheSendSync.{the_send as diagram_send, the_sync as diagram_sync}
+use Rattle.vpg_diagram.proofs.Crossing.{diagram_send, diagram_sync}
 use Rattle.vpg_measure.proofs.games.PageGames.TheSendSync.{the_send as games_send, the_sync as games_sync}
 use Rattle.vpg_measure.specs.contracts.harvest.Harvest as Harvest
 use Rattle.vpg_measure.specs.contracts.order.Order as Order
