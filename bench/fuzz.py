@@ -195,7 +195,8 @@ def read(*path):
 def examples():
     for family in sorted(os.listdir(EXAMPLES)):
         folder = os.path.join(EXAMPLES, family)
-        # (the script of `sessions` is long: it is carried out as it stands by the gate; some have a system, and no game)
+        # (the script of `sessions` is long: it is carried out as it stands by the gate)
+        # (some have a system, and no game)
         if os.path.isfile(os.path.join(folder, "game")) and os.path.getsize(os.path.join(folder, "script")) < 65536:
             yield tuple(read(folder, name) for name in ("game", "diagram", "script"))
 
