@@ -1,5 +1,5 @@
 -- The picture of a family on the page that a script leaves. This project's own.
-use Rattle.std.specs.Prelude.{◌≡◌, ℕ, ◌<◌, ◌≤◌, Bool, true, false, if◌then◌else◌, nat_eq, IsTrue, Option, Some, None, List, [], ◌++◌, All, length, map, take, codes}
+use Rattle.std.specs.Prelude.{◌≡◌, ◌⊎◌, ℕ, ◌<◌, ◌≤◌, Bool, true, false, if◌then◌else◌, nat_eq, IsTrue, Option, Some, None, List, [], ◌++◌, All, length, map, take, codes}
 use Rattle.std.specs.List.{starts_with}
 use Rattle.std.specs.Str.{bytes_eq}
 use Rattle.vpg_guards.specs.declared.tri.Tri.{Tri}
@@ -19,6 +19,8 @@ use Rattle.vpg_draw.specs.PartDrawing.{part_drawing}
 use Rattle.vpg_family.specs.Pictures.{TellsNames}
 use Rattle.vpg_family.specs.declared.drawing.Subject.{Subject}
 use Rattle.vpg_family.specs.declared.drawing.Subject.TheVariants.{Game, Features}
+use Rattle.vpg_family.specs.declared.fault.Fault.{Fault}
+use Rattle.vpg_family.specs.declared.fault.Fault.TheVariants.{LogFull, Memory}
 
 -- the parts of a page that are drawn: its decisions, the features that they make known, and the verdicts of the
 -- vertices
@@ -75,6 +77,10 @@ pub record IsRedrawn (subject : Subject) (diagram : NamedDiagram) (game : NamedG
   pub earlier : List ℕ
   pub written_is : written ≡ earlier ++ sight_drawing diagram game sight []
   pub drawn : IsSightDrawn subject diagram game sight diagram_text game_text picture
+
+-- Why no page is drawn anew: the written text doesn't end in its picture, since the log was full, or memory ran out.
+abbrev pub IsUnseen : Fault → Type 0
+IsUnseen fault = (fault ≡ LogFull) ⊎ (fault ≡ Memory)
 
 -- ---- parts
 

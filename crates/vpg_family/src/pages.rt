@@ -3,12 +3,12 @@
 //! A run keeps no names of vertices, and writes no picture of a diagram. But its line `draw` shows all parts of a page
 //! that are drawn. So decisions and verdicts are read from that picture. Then it is made once more from them and
 //! compared: if the two differ in a byte nothing is drawn.
-ghost use Rattle.std.specs.Prelude.{◌≡◌, ◌↔◌, ◌<◌, ◌≤◌, ◌++◌, [], All, IsTrue, length, map, take, IfOk, IfSome};
+ghost use Rattle.std.specs.Prelude.{◌≡◌, ◌↔◌, ◌<◌, ◌≤◌, ◌++◌, [], All, IsTrue, length, map, take, IfErr, IfOk, IfSome};
 ghost use Rattle.std.specs.Str.{bytes_eq};
 ghost use Rattle.vpg_diagram.specs.FeatureDiagram.{feature_count};
 ghost use Rattle.vpg_draw.specs.FeatureDrawing.{feature_drawing};
 ghost use Rattle.vpg_draw.specs.GameDrawing.{game_drawing};
-ghost use Rattle.vpg_family.specs.Pages.{sight_of, IsSight, IsNamed, IsGameSeen, IsSightDrawn, IsRedrawn};
+ghost use Rattle.vpg_family.specs.Pages.{sight_of, IsSight, IsNamed, IsGameSeen, IsSightDrawn, IsRedrawn, IsUnseen};
 ghost use Rattle.vpg_partial.specs.Known.{literal_of};
 ghost use Rattle.vpg_partial.specs.TableLaws.{IsKnownTable};
 
@@ -149,7 +149,8 @@ pub(crate) fn known_of(
     decisions: &[Decision],
 ) -> Result<Partial, Fault>
     requires { All (λ d. d.feature < feature_count diagram.now.lines) decisions.now }
-    ensures { IfOk result (IsKnownTable diagram.now.lines (map literal_of decisions.now)) }
+    ensures known { IfOk result (IsKnownTable diagram.now.lines (map literal_of decisions.now)) }
+    ensures refused { IfErr result IsUnseen }
 {
     match known_under(alloc, diagram, decisions) {
         Ok(known) => Ok(known),
@@ -243,6 +244,7 @@ fn begin_of(
     ensures within { IfOk result (λ at. at ≤ length written.now) }
     ensures end { IfOk result (λ at. written.now ≡ take at written.now ++ game_drawing diagram.now.names known.now
         (map literal_of shown.now.decisions.items) [] shown.now.verdicts.items game.now) }
+    ensures refused { IfErr result IsUnseen }
 {
     let none = VertexNames::none(alloc);
     let (decisions, verdicts) = (shown.decisions.as_slice(), shown.verdicts.as_slice());
@@ -253,7 +255,7 @@ fn begin_of(
 }
 
 /// Returns the parts of the page that are drawn, if the written text ends in the picture of its game without names.
-/// `LogFull` comes if it has another end.
+/// `LogFull` comes if it has another end; any other fault is want of memory.
 pub fn sight_in(
     alloc: Global,
     diagram: &Diagram,
@@ -261,8 +263,9 @@ pub fn sight_in(
     written: &[u8],
 ) -> Result<Seen, Fault>
     requires { game.now.features ≡ feature_count diagram.now.lines }
-    ensures { IfOk result (λ it. IsSight diagram.now game.now written.now it.begins it.known it.decisions.items
+    ensures seen { IfOk result (λ it. IsSight diagram.now game.now written.now it.begins it.known it.decisions.items
         it.verdicts.items) }
+    ensures refused { IfErr result IsUnseen }
 {
     let shown = last_shown(alloc, diagram.names(), game.vertices(), written)?;
     let are_of_page = shown.verdicts.len() == game.vertices();
@@ -400,7 +403,8 @@ fn sight_drawn(
 }
 
 /// Returns the picture of the page that a script left, of a family with these texts, from the text that the script
-/// wrote. Its last answer is the picture of the page's game without names. `LogFull` comes if it is none.
+/// wrote. Its last answer is the picture of the page's game without names. `LogFull` comes if it is none; any other
+/// fault is want of memory.
 #[tactic(auto, using(crate::proofs::Sights::redrawn))]
 pub fn redrawn(
     alloc: Global,
@@ -411,8 +415,9 @@ pub fn redrawn(
     written: &[u8],
 ) -> Result<Vec<u8>, Fault>
     requires { game.now.features ≡ feature_count diagram.now.lines }
-    ensures { IfOk result (λ picture. IsRedrawn subject diagram.now game.now texts.now.diagram.items
+    ensures redrawn { IfOk result (λ picture. IsRedrawn subject diagram.now game.now texts.now.diagram.items
         texts.now.game.items written.now picture.items) }
+    ensures refused { IfErr result IsUnseen }
 {
     let seen = sight_in(alloc, diagram, game, written)?;
     match sight_drawn(alloc, subject, diagram, game, &seen, texts) {
