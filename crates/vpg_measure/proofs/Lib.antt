@@ -35,3 +35,4 @@ pub mod Supported
 pub mod TwoGames
 pub mod Verdicts
 pub mod Winning
+pub mod Crossing

@@ -1,6 +1,6 @@
 use denote.Param.Send.{sendable}
 use Rattle.std.proofs.Crossing.{crosses}
-use Rattle.vpg_guess.proofs.Crossing.{order_sync}
+use Rattle.vpg_measure.proofs.Crossing.{order_sync}
 use Rattle.vpg_guess.proofs.at_once.each_raised.Goals as goal
 
 -- what the order may do stands beside the goal, since a search through all of it takes too many steps
