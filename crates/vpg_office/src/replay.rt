@@ -48,12 +48,13 @@ impl Drop for Replay {
 
 impl Model for Replay {
     ghost use Rattle.std.specs.Coded.{codes};
+    ghost use Rattle.vpg_diagram.specs.Coding.{rule_code};
     ghost use Rattle.vpg_game.specs.Coding.{game_code};
     ghost use Rattle.vpg_desk.specs.State.{DeskState};
 
     ghost Value = { DeskState };
 
-    ghost coded = { Prim.hlevel (codes, game_code) };
+    ghost coded = { Prim.hlevel (codes, game_code, rule_code) };
 
     ghost use Rattle.std.specs.Arc.{arc_value};
     ghost use Rattle.std.specs.Prelude.{IfSome};

@@ -30,12 +30,13 @@ pub struct Client<L: Terms> {
 
 impl<L: Terms> Model for Client<L> {
     ghost use Rattle.std.specs.Coded.{codes};
+    ghost use Rattle.vpg_diagram.specs.Coding.{rule_code};
     ghost use Rattle.vpg_game.specs.Coding.{game_code};
     ghost use Rattle.vpg_report.specs.Client.{ClientState};
 
     ghost Value = { ClientState };
 
-    ghost coded = { Prim.hlevel (codes, game_code) };
+    ghost coded = { Prim.hlevel (codes, game_code, rule_code) };
 
     ghost use Rattle.vpg_report.specs.Client.{client_after};
 

@@ -63,12 +63,13 @@ pub struct Engine<L: Terms> {
 
 impl<L: Terms> Model for Engine<L> {
     ghost use Rattle.std.specs.Coded.{codes};
+    ghost use Rattle.vpg_diagram.specs.Coding.{rule_code};
     ghost use Rattle.vpg_game.specs.Coding.{game_code};
     ghost use Rattle.vpg_report.specs.Engine.{EngineState};
 
     ghost Value = { EngineState };
 
-    ghost coded = { Prim.hlevel (codes, game_code) };
+    ghost coded = { Prim.hlevel (codes, game_code, rule_code) };
 
     ghost use Rattle.std.specs.Arc.{arc_value};
     ghost use Rattle.vpg_report.specs.EngineFields.{engine_in, IsEngine};
