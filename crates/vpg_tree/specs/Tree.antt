@@ -1,6 +1,6 @@
 -- Feature trees with cross-tree constraints, and their configurations. The kinds of groups are those of Kang et al.
 -- (FODA, 1990), with the cardinalities of Schobbens et al. (2007); the constraints are those of Batory (2005).
-use Rattle.std.specs.Prelude.{ℕ, suc, ◌+◌, ◌<◌, ◌≤◌, ◌≡◌, Bool, false, ◌==◌, if◌then◌else◌, List, [], ◌∷◌, length, Option, Some, None, slice_index_or, slice_get, IsTrue, IfSome, count_by, ⊤}
+use Rattle.std.specs.Prelude.{ℕ, suc, ◌+◌, ◌<◌, ◌≤◌, ◌≡◌, Bool, false, ◌==◌, if◌then◌else◌, List, [], ◌∷◌, length, Option, Some, None, slice_index_or, slice_get, IsTrue, IfSome, IsSomeAnd, count_by, ⊤}
 use Rattle.std.specs.List.{AllByRecursion}
 use Rattle.vpg_features.specs.Names.{AreNames}
 use Rattle.vpg_rules.specs.Constraint.{Constraint, IsMet, IsBelow}
@@ -32,8 +32,7 @@ members tree group = members_from 1 tree.places group
 abbrev pub ArePlaced : List Group → ℕ → List ℕ → Type 0
 ArePlaced groups first [] = ⊤
 ArePlaced groups first (place ∷ places) =
-    IfSome (slice_get groups place) (λ group. group.parent < first) × (place < length groups)
-    × ArePlaced groups (suc first) places
+    IsSomeAnd (slice_get groups place) (λ group. group.parent < first) × ArePlaced groups (suc first) places
 
 -- a tree with a root: names, each once; each group below a feature, and each feature but the root in a group whose
 -- parent comes before it; constraints over its features

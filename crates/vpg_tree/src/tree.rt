@@ -43,11 +43,19 @@ impl Model for Tree {
 
     ghost coded = { Prim.hlevel (codes, constraint_code) };
 
-    ghost view = { λ t. record { names = t.names; groups = t.groups.items; places = t.places.items;
-        constraints = map constraint_of t.constraints.items } };
+    ghost view = { λ t. record {
+      names = t.names;
+      groups = t.groups.items;
+      places = t.places.items;
+      constraints = map constraint_of t.constraints.items;
+    } };
 
-    ghost invariant = { λ t. IsTree (record { names = t.names; groups = t.groups.items; places = t.places.items;
-        constraints = map constraint_of t.constraints.items }) };
+    ghost invariant = { λ t. IsTree (record {
+      names = t.names;
+      groups = t.groups.items;
+      places = t.places.items;
+      constraints = map constraint_of t.constraints.items;
+    }) };
 }
 
 impl Tree {
@@ -56,7 +64,7 @@ impl Tree {
     pub fn new(alloc: Global, root: &[u8]) -> Result<Tree, NameFault>
         ensures tree { IfOk result
             (λ tree. tree ≡ record { names = root.now ∷ []; groups = []; places = []; constraints = [] }) }
-        ensures refused { IfErr result (IsRefused [] root.now) }
+        ensures refused { IfErr result (λ fault. fault ≢ NameFault.Memory → IsRefused [] root.now fault) }
     {
         let mut names = match Names::new(alloc) {
             Ok(names) => names,
@@ -117,12 +125,19 @@ impl Tree {
 
     /// Adds a feature as the last member of a group, and returns its index. A refusal changes nothing; it is the first
     /// reason that holds, in the order of `NameFault`.
-    pub fn add_feature(&mut self, alloc: Global, group: usize, name: &[u8]) -> Result<u16, NameFault>
+    pub fn add_feature(
+        &mut self,
+        alloc: Global,
+        group: usize,
+        name: &[u8],
+    ) -> Result<u16, NameFault>
         requires { group < length self.old.groups }
         ensures index { IfOk result (λ index. index ≡ length self.old.names) }
         ensures ok { OnOk result
-            (self.new ≡ record self.old { names = self.old.names ++ name.now ∷ [];
-                places = self.old.places ++ group ∷ [] }) }
+            (self.new ≡ record self.old {
+              names = self.old.names ++ name.now ∷ [];
+              places = self.old.places ++ group ∷ [];
+            }) }
         ensures added { OnOk result (IsNew self.old.names name.now × (length self.old.names < 512)) }
         ensures refused { IfErr result
             (λ fault. fault ≢ NameFault.Memory → IsRefused self.old.names name.now fault) }

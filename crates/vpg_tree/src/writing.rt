@@ -164,7 +164,12 @@ fn put_named_group(
 }
 
 /// Writes the lines of a group with these members.
-fn put_group(group: Group, members: &[u16], names: &Names, out: &mut Vec<u8>) -> Result<(), AllocError>
+fn put_group(
+    group: Group,
+    members: &[u16],
+    names: &Names,
+    out: &mut Vec<u8>,
+) -> Result<(), AllocError>
     requires parent { group.parent < length names.now }
     requires members { AllByRecursion (λ f. f < length names.now) members.now }
     ensures { OnOk result (out.new.items ≡ out.old.items

@@ -94,5 +94,5 @@ IsFaultBehind names behind (Refused reason line column) = IsConstraintFault name
 -- The first fault of a text: that of the rows up to `constraints`, or else that of the first faulty row after it.
 abbrev pub IsFirstFault : List ℕ → UvlFault → Type 0
 IsFirstFault text fault =
-    (fault ≡ Memory) ⊎ (features_after (rows text) ≡ Err fault) ⊎
-    ((read : Features) × (features_after (rows text) ≡ Ok read) × IsFaultBehind read.tree.names read.behind fault)
+    (fault ≡ Memory) ⊎ ((features_after (rows text) ≡ Err fault) ⊎
+    ((read : Features) × (features_after (rows text) ≡ Ok read) × IsFaultBehind read.tree.names read.behind fault))

@@ -73,8 +73,10 @@ IsNumberedBy tree number false = number < length tree.names
 abbrev pub IsNumbered : Tree → Open → Type 0
 IsNumbered tree row = IsNumberedBy tree row.number row.is_group
 
-abbrev pub AreNumbered : Growth → Type 0
-AreNumbered g = AllByRecursion (IsNumbered g.tree) g.open_rows
+-- the open rows are those of groups and features of a tree without constraints
+pub record AreNumbered (g : Growth) : Type 0 where
+  pub each : AllByRecursion (IsNumbered g.tree) g.open_rows
+  pub none : g.tree.constraints ≡ []
 
 abbrev pub features_in : code_features.Features → Features
 features_in f = record { tree = f.tree; behind = rows_left f.behind }

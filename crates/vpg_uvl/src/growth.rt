@@ -88,6 +88,7 @@ fn place_group(
 ) -> Result<(), AllocError>
     requires parent { parent < length growth.old.tree.names }
     requires parents { AllByRecursion (IsNumbered growth.old.tree) (opens_of parents.items) }
+    requires none { growth.old.tree.constraints ≡ [] }
     ensures grown { OnOk result (growth_of growth.new
         ≡ with_group (growth_of growth.old) indent (opens_of parents.items) parent kind) }
     ensures numbered { OnOk result (AreNumbered (growth_of growth.new)) }
@@ -113,6 +114,7 @@ fn place_feature(
 ) -> Result<(), NameFault>
     requires group { group < length growth.old.tree.groups }
     requires parents { AllByRecursion (IsNumbered growth.old.tree) (opens_of parents.items) }
+    requires none { growth.old.tree.constraints ≡ [] }
     ensures grown { OnOk result (growth_of growth.new
         ≡ with_feature (growth_of growth.old) indent (opens_of parents.items) group name.now) }
     ensures numbered { OnOk result (AreNumbered (growth_of growth.new)) }
@@ -142,6 +144,7 @@ fn place<'t>(
     item: Item<'t>,
 ) -> Result<(), RowError<'t>>
     requires parents { AllByRecursion (IsNumbered growth.old.tree) (opens_of parents.items) }
+    requires none { growth.old.tree.constraints ≡ [] }
     requires name { IsItem (item_in item.entry) }
     ensures grown { IfOk result (λ _. placed_below (growth_of growth.old) indent body.now (opens_of parents.items)
         (last_of (opens_of parents.items)) (item_in item.entry) ≡ Ok (growth_of growth.new)) }

@@ -38,6 +38,7 @@ fn finished(growth: Growth, behind: Cursor, fault: UvlFault) -> Result<Features,
     ensures features { IfOk result
         (λ f. finished (growth_of growth) (rows_left behind.entry) fault ≡ Ok (features_in f)) }
     ensures same { IfOk result (λ f. f.behind ≡ behind.entry) }
+    ensures tree { IfOk result (λ f. f.tree ≡ growth.tree) }
     ensures refused { IfErr result
         (IsReadingFault (finished (growth_of growth) (rows_left behind.entry) fault)) }
 {
@@ -55,6 +56,7 @@ fn features_from(alloc: Global, mut growth: Growth, cursor: Cursor) -> Result<Fe
     ensures features { IfOk result
         (λ f. features_from (growth_of growth) (rows_left cursor.entry) ≡ Ok (features_in f)) }
     ensures room { IfOk result (λ f. f.behind.number + length f.behind.rest.now < 2 ^ 64) }
+    ensures none { IfOk result (λ f. f.tree.constraints ≡ []) }
     ensures refused { IfErr result
         (IsReadingFault (features_from (growth_of growth) (rows_left cursor.entry))) }
 {
@@ -84,6 +86,7 @@ fn features_of(alloc: Global, cursor: Cursor) -> Result<Features, UvlFault>
     requires { cursor.number + length cursor.rest.now < 2 ^ 64 }
     ensures features { IfOk result (λ f. features_of (rows_left cursor.entry) ≡ Ok (features_in f)) }
     ensures room { IfOk result (λ f. f.behind.number + length f.behind.rest.now < 2 ^ 64) }
+    ensures none { IfOk result (λ f. f.tree.constraints ≡ []) }
     ensures refused { IfErr result (IsReadingFault (features_of (rows_left cursor.entry))) }
 {
     let Some(next) = next_row(cursor) else {
@@ -102,6 +105,7 @@ fn features_after(alloc: Global, cursor: Cursor) -> Result<Features, UvlFault>
     requires { cursor.number + length cursor.rest.now < 2 ^ 64 }
     ensures features { IfOk result (λ f. features_after (rows_left cursor.entry) ≡ Ok (features_in f)) }
     ensures room { IfOk result (λ f. f.behind.number + length f.behind.rest.now < 2 ^ 64) }
+    ensures none { IfOk result (λ f. f.tree.constraints ≡ []) }
     ensures refused { IfErr result (IsReadingFault (features_after (rows_left cursor.entry))) }
 {
     let mut left = cursor;
