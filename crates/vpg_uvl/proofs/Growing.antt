@@ -2,17 +2,19 @@
 use Rattle.std.proofs.Common.{◌≡◌, ℕ, zero, suc, ◌+◌, ◌-◌, ◌<◌, ◌≤◌, Bool, true, false, cond, List, [], ◌∷◌, ◌++◌, length, filter, map, Option, Some, None, refl, sym, ap, subst, ◌∙◌, arith, length-append}
 use Rattle.std.specs.Prelude.{slice_get}
 use Rattle.std.specs.List.{AllByRecursion}
-use Rattle.vpg_tree.specs.Tree.{Tree, Kind, Group}
+use Rattle.vpg_tree.specs.Tree.{Tree}
+use Rattle.vpg_tree.specs.declared.group.Kind.{Kind}
+use Rattle.vpg_tree.specs.declared.group.Group.{Group}
 use Rattle.vpg_uvl.specs.Nesting.{Open, Growth, narrower, last_of, with_group, with_feature, seed}
 use Rattle.vpg_uvl.specs.Views.{IsNumberedBy, IsNumbered, AreNumbered}
 
+all_either : {X : Type 0} (P : X → Type 0) (x : X) (xs : List X) (t : Bool) → P x → AllByRecursion P xs → AllByRecursion P (cond t (x ∷ xs) xs)
+all_either P x xs true h k = (h, k)
+all_either P x xs false h k = k
+
 all_filter : {X : Type 0} (P : X → Type 0) (p : X → Bool) (xs : List X) → AllByRecursion P xs → AllByRecursion P (filter p xs)
 all_filter P p [] h = tt
-all_filter P p (x ∷ xs) h = go (p x)
-  where
-    go : (t : Bool) → AllByRecursion P (cond t (x ∷ filter p xs) (filter p xs))
-    go true = (h.0, all_filter P p xs h.1)
-    go false = all_filter P p xs h.1
+all_filter P p (x ∷ xs) h = all_either P x (filter p xs) (p x) h.0 (all_filter P p xs h.1)
 
 all_append : {X : Type 0} (P : X → Type 0) (xs ys : List X) → AllByRecursion P xs → AllByRecursion P ys → AllByRecursion P (xs ++ ys)
 all_append P [] ys h k = k

@@ -50,7 +50,7 @@ model_found text bare tree behind read none reads = record {
   constraints = subst (λ (t : Tree). AllZip (SpellsConstraint t.names) behind tree.constraints) (sym reads.same) reads.constraints;
 }
 
-tree_of : {E : Type 0} → Features → Result Features E → Features
+abbrev tree_of : {E : Type 0} → Features → Result Features E → Features
 tree_of f (Ok g) = g
 tree_of f (Err e) = f
 
@@ -63,8 +63,8 @@ model_only text bare tree other behind read are reads spells =
     let bare_is : bare ≡ record other { constraints = [] } = ap (λ (f : Features). f.tree) both in
     let behind_is : behind ≡ spells.behind = ap (λ (f : Features). f.behind) both in
     let here : AllZip (SpellsConstraint bare.names) behind other.constraints =
-        subst (λ (rs : List Row). AllZip (SpellsConstraint bare.names) rs other.constraints) (sym behind_is)
-        (subst (λ (t : Tree). AllZip (SpellsConstraint t.names) spells.behind other.constraints) (sym bare_is) spells.constraints) in
+    subst (λ (rs : List Row). AllZip (SpellsConstraint bare.names) rs other.constraints) (sym behind_is)
+    (subst (λ (t : Tree). AllZip (SpellsConstraint t.names) spells.behind other.constraints) (sym bare_is) spells.constraints) in
     let constraints_are : tree.constraints ≡ other.constraints = same_constraints bare.names are behind tree.constraints other.constraints reads.constraints here in
     reads.same ∙ ap (λ (t : Tree). record t { constraints = tree.constraints }) bare_is ∙ ap (λ (cs : List Constraint). record other { constraints = cs }) constraints_are
 
@@ -85,8 +85,8 @@ no_fault_behind text bare tree behind (Refused reason line column) read spells h
     let bare_is : bare ≡ record tree { constraints = [] } = ap (λ (f : Features). f.tree) both in
     let behind_is : spells.behind ≡ h.before ++ h.row ∷ h.after = sym (ap (λ (f : Features). f.behind) both) ∙ h.parts in
     let here : AllZip (SpellsConstraint bare.names) (h.before ++ h.row ∷ h.after) tree.constraints =
-        subst (λ (rs : List Row). AllZip (SpellsConstraint bare.names) rs tree.constraints) behind_is
-        (subst (λ (t : Tree). AllZip (SpellsConstraint t.names) spells.behind tree.constraints) (sym bare_is) spells.constraints) in
+    subst (λ (rs : List Row). AllZip (SpellsConstraint bare.names) rs tree.constraints) behind_is
+    (subst (λ (t : Tree). AllZip (SpellsConstraint t.names) spells.behind tree.constraints) (sym bare_is) spells.constraints) in
     let one = one_of_zip (SpellsConstraint bare.names) h.before h.row h.after tree.constraints here in
     absurd (h.faulty one.0 one.1)
 

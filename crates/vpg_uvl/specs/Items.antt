@@ -5,10 +5,11 @@ use Rattle.std.specs.List.{list_all, list_any, prefix_len, slice_split}
 use Rattle.std.specs.Char.{is_ascii_digit}
 use Rattle.std.specs.Str.Parse.{digits_value}
 use Rattle.vpg_features.specs.Names.{starts_as_name, is_name_byte, constant_of}
-use Rattle.vpg_tree.specs.Tree.{Kind, Mandatory, Optional, Alternative, Or, Cardinality}
+use Rattle.vpg_tree.specs.declared.group.Kind.{Kind}
+use Rattle.vpg_tree.specs.declared.group.Kind.TheVariants.{Mandatory, Optional, Alternative, Or, Cardinality}
 use Rattle.vpg_uvl.specs.Rows.{is_blank, after_blanks, word_at, behind_word, is_nothing}
 pub use Rattle.vpg_uvl.specs.declared.fault.Reason.{Reason}
-pub use Rattle.vpg_uvl.specs.declared.fault.Reason.TheVariants.{Syntax, Indentation, Import, Level, Type, FeatureCardinality, Attributes, AttributeConstraint, Quotes, Name, Range, Twice, TooMany, NoMember, UnknownFeature, Attribute, Arithmetic, Comparison, Text, Aggregate, TooDeep}
+pub use Rattle.vpg_uvl.specs.declared.fault.Reason.TheVariants.{Syntax, Indentation, Import, Level, Typed, FeatureCardinality, Attributes, AttributeConstraint, Quotes, Name, Range, Twice, TooMany, NoMember, UnknownFeature, Attribute, Arithmetic, Comparison, Text, Aggregate, TooDeep}
 
 -- the head of a group, or a feature
 pub data Item : Type 0 where
@@ -124,7 +125,7 @@ abbrev pub feature_behind : List ℕ → List ℕ → List ℕ → Result Item S
 feature_behind body name behind =
     if is_nothing name then stopped (if first_byte body == 34 then Quotes else Syntax) body
     else (if is_nothing behind then (if is_feature_name name then Ok (named name) else stopped Name body)
-    else (if is_type name then stopped Type body
+    else (if is_type name then stopped Typed body
     else (if not (is_feature_name name) then stopped Name body
     else (if first_byte behind == 123 then with_attributes name behind
     else stopped (if bytes_eq (name_at behind) (codes "cardinality") then FeatureCardinality else Syntax) behind))))

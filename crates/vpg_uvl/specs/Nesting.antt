@@ -4,15 +4,11 @@
 use Rattle.std.specs.Prelude.{ℕ, ◌-◌, Bool, true, false, not, ◌&&◌, ◌||◌, ◌==◌, if◌then◌else◌, nat_lt, nat_le, List, [], ◌∷◌, ◌++◌, length, filter, Option, Some, None, Result, Ok, Err, slice_get, is_some, bytes_eq, codes}
 use Rattle.std.specs.List.{list_all, list_any}
 use Rattle.vpg_features.specs.Names.{index_of}
-use Rattle.vpg_tree.specs.Tree.{Tree, Kind}
+use Rattle.vpg_tree.specs.Tree.{Tree}
+use Rattle.vpg_tree.specs.declared.group.Kind.{Kind}
+pub use Rattle.vpg_uvl.specs.declared.growth.Open.{Open}
 use Rattle.vpg_uvl.specs.Rows.{Row, after_blanks, indentation, word_at, behind_word, is_nothing, is_head}
 use Rattle.vpg_uvl.specs.Items.{Item, head, named, Stop, stopped, Reason, Syntax, Indentation, Import, Level, Name, Twice, TooMany, NoMember, item_of}
-
--- an open row: its indentation, and the number of its group or feature
-pub record Open : Type 0 where
-  pub indent : ℕ
-  pub is_group : Bool
-  pub number : ℕ
 
 -- a tree, and the open rows, the root's first
 pub record Growth : Type 0 where
@@ -75,11 +71,18 @@ placed_item g indent body (Err stop) = Err stop
 placed_item g indent body (Ok item) =
     placed_below g indent body (narrower indent g.open_rows) (last_of (narrower indent g.open_rows)) item
 
+-- why a row with this indentation cannot come next, if it cannot
+abbrev pub early_stop : ℕ → List Open → Option Reason
+early_stop indent rows =
+    if lacks_member indent rows then Some NoMember
+    else (if is_aligned indent rows then None else Some Indentation)
+
+abbrev pub grown_by : Growth → ℕ → List ℕ → Option Reason → Result Growth Stop
+grown_by g indent body None = placed_item g indent body (item_of body)
+grown_by g indent body (Some reason) = stopped reason body
+
 abbrev pub grown_at : Growth → ℕ → List ℕ → Result Growth Stop
-grown_at g indent body =
-    if lacks_member indent g.open_rows then stopped NoMember body
-    else (if is_aligned indent g.open_rows then placed_item g indent body (item_of body)
-    else stopped Indentation body)
+grown_at g indent body = grown_by g indent body (early_stop indent g.open_rows)
 
 -- the tree after one more row
 abbrev pub grown : Growth → List ℕ → Result Growth Stop

@@ -16,7 +16,6 @@ use Rattle.vpg_uvl.specs.declared.row.Row as code_row
 use Rattle.vpg_uvl.specs.declared.row.Cursor as code_cursor
 use Rattle.vpg_uvl.specs.declared.item.Item as code_item
 use Rattle.vpg_uvl.specs.declared.item.Stop as code_stop
-use Rattle.vpg_uvl.specs.declared.growth.Open as code_open
 use Rattle.vpg_uvl.specs.declared.growth.Growth as code_growth
 use Rattle.vpg_uvl.specs.declared.growth.RowError as errors
 use Rattle.vpg_uvl.specs.declared.reading.Features as code_features
@@ -51,14 +50,8 @@ abbrev pub GivesItem : Result code_item.Item code_stop.Stop → Result Item Stop
 GivesItem (Ok item) read = read ≡ Ok (item_in item)
 GivesItem (Err stop) read = read ≡ Err (stop_of stop)
 
-abbrev pub open_of : code_open.Open → Open
-open_of row = record { indent = row.indent; is_group = row.is_group; number = row.number }
-
-abbrev pub opens_of : List code_open.Open → List Open
-opens_of rows = map open_of rows
-
 abbrev pub growth_of : code_growth.Growth → Growth
-growth_of g = record { tree = g.tree; open_rows = opens_of g.open_rows.items }
+growth_of g = record { tree = g.tree; open_rows = g.open_rows.items }
 
 -- why a row does not grow the tree
 abbrev pub IsRowError : Result Growth Stop → errors.RowError → Type 0

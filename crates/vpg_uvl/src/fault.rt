@@ -14,7 +14,7 @@ pub enum Reason {
     /// A language level other than `Boolean`, `Boolean.*` and `Boolean.group-cardinality`.
     Level,
     /// A feature with a type.
-    Type,
+    Typed,
     /// A feature with a cardinality.
     FeatureCardinality,
     /// Attributes that do not end in a `}` at the row's end.

@@ -1,10 +1,10 @@
 //! A tree that grows row by row.
 ghost use Rattle.std.specs.Prelude.{◌≡◌, ◌<◌, ◌++◌, ◌∷◌, [], ◌==◌, ◌||◌, nat_lt, not, length, map, filter, IfOk, IfErr, Ok, Err, option_map, Some, OnOk, ◌≢◌};
 ghost use Rattle.std.specs.List.{list_all, list_any};
-ghost use Rattle.vpg_uvl.specs.Nesting.{Open as OpenRow, narrower, last_of, is_aligned, ends_in_head, lacks_member, placed, placed_below, with_group, with_feature, grown, rooted, front_stop, is_level};
+ghost use Rattle.vpg_uvl.specs.Nesting.{narrower, seed, last_of, is_aligned, ends_in_head, early_stop, placed_below, with_group, with_feature, grown, rooted, front_stop, is_level};
 ghost use Rattle.std.specs.List.{AllByRecursion};
 ghost use Rattle.vpg_features.specs.Names.{IsNew, IsRefused};
-ghost use Rattle.vpg_uvl.specs.Views.{IsItem, item_in, stop_in, stop_of, row_of, open_of, opens_of, growth_of, IsRowError, IsNumbered, AreNumbered};
+ghost use Rattle.vpg_uvl.specs.Views.{IsItem, item_in, stop_in, growth_of, IsRowError, IsNumbered, AreNumbered};
 
 use crate::fault::Reason;
 use crate::item::{Item, Stop, item_of};
@@ -37,7 +37,7 @@ pub(crate) enum RowError<'t> {
 
 /// Returns the open rows that are indented less.
 fn narrower(alloc: Global, rows: &[Open], indent: u64) -> Result<Vec<Open>, AllocError>
-    ensures { IfOk result (λ parents. opens_of parents.items ≡ narrower indent (opens_of rows.now)) }
+    ensures { IfOk result (λ parents. parents.items ≡ narrower indent rows.now) }
 {
     rows.iter()
         .filter(|row| row.indent < indent)
@@ -47,34 +47,47 @@ fn narrower(alloc: Global, rows: &[Open], indent: u64) -> Result<Vec<Open>, Allo
 
 /// Whether all open rows are indented less.
 fn are_narrower(rows: &[Open], indent: u64) -> bool
-    ensures { result ≡ list_all (λ row. nat_lt row.indent indent) (opens_of rows.now) }
+    ensures { result ≡ list_all (λ row. nat_lt row.indent indent) rows.now }
 {
     rows.iter().all(|row| row.indent < indent)
 }
 
 /// Whether an open row is indented as far.
 fn is_beside(rows: &[Open], indent: u64) -> bool
-    ensures { result ≡ list_any (λ row. row.indent == indent) (opens_of rows.now) }
+    ensures { result ≡ list_any (λ row. row.indent == indent) rows.now }
 {
     rows.iter().any(|row| row.indent == indent)
 }
 
 /// Returns the last of the open rows.
 fn last_of(rows: &[Open]) -> Option<Open>
-    ensures { option_map open_of result ≡ last_of (opens_of rows.now) }
+    ensures { result ≡ last_of rows.now }
 {
     rows.last().copied()
 }
 
-impl Growth {
-    /// Whether the row above is the head of a group.
-    pub(crate) fn ends_in_head(&self) -> bool
-        ensures { result ≡ ends_in_head (last_of (opens_of self.now.open_rows.items)) }
-    {
-        match last_of(&self.open_rows) {
-            Some(row) => row.is_group,
-            None => false,
-        }
+/// Whether the row above is the head of a group.
+pub(crate) fn ends_in_head(rows: &[Open]) -> bool
+    ensures { result ≡ ends_in_head (last_of rows.now) }
+{
+    match last_of(rows) {
+        Some(row) => row.is_group,
+        None => false,
+    }
+}
+
+/// Returns why a row with this indentation cannot come next, if it cannot.
+fn early_stop(rows: &[Open], indent: u64) -> Option<Reason>
+    ensures { result ≡ early_stop indent rows.now }
+{
+    let is_inside = are_narrower(rows, indent);
+    if ends_in_head(rows) && !is_inside {
+        return Some(Reason::NoMember);
+    }
+    if is_inside || is_beside(rows, indent) {
+        None
+    } else {
+        Some(Reason::Indentation)
     }
 }
 
@@ -87,10 +100,10 @@ fn place_group(
     kind: Kind,
 ) -> Result<(), AllocError>
     requires parent { parent < length growth.old.tree.names }
-    requires parents { AllByRecursion (IsNumbered growth.old.tree) (opens_of parents.items) }
+    requires parents { AllByRecursion (IsNumbered growth.old.tree) parents.items }
     requires none { growth.old.tree.constraints ≡ [] }
     ensures grown { OnOk result (growth_of growth.new
-        ≡ with_group (growth_of growth.old) indent (opens_of parents.items) parent kind) }
+        ≡ with_group (growth_of growth.old) indent parents.items parent kind) }
     ensures numbered { OnOk result (AreNumbered (growth_of growth.new)) }
 {
     let number = growth.tree.add_group(parent, kind)?;
@@ -113,10 +126,10 @@ fn place_feature(
     name: &[u8],
 ) -> Result<(), NameFault>
     requires group { group < length growth.old.tree.groups }
-    requires parents { AllByRecursion (IsNumbered growth.old.tree) (opens_of parents.items) }
+    requires parents { AllByRecursion (IsNumbered growth.old.tree) parents.items }
     requires none { growth.old.tree.constraints ≡ [] }
     ensures grown { OnOk result (growth_of growth.new
-        ≡ with_feature (growth_of growth.old) indent (opens_of parents.items) group name.now) }
+        ≡ with_feature (growth_of growth.old) indent parents.items group name.now) }
     ensures numbered { OnOk result (AreNumbered (growth_of growth.new)) }
     ensures added { OnOk result (IsNew growth.old.tree.names name.now × (length growth.old.tree.names < 512)) }
     ensures refused { IfErr result
@@ -143,15 +156,17 @@ fn place<'t>(
     parents: Vec<Open>,
     item: Item<'t>,
 ) -> Result<(), RowError<'t>>
-    requires parents { AllByRecursion (IsNumbered growth.old.tree) (opens_of parents.items) }
+    requires parents { AllByRecursion (IsNumbered growth.old.tree) parents.items }
     requires none { growth.old.tree.constraints ≡ [] }
-    requires name { IsItem (item_in item.entry) }
-    ensures grown { IfOk result (λ _. placed_below (growth_of growth.old) indent body.now (opens_of parents.items)
-        (last_of (opens_of parents.items)) (item_in item.entry) ≡ Ok (growth_of growth.new)) }
+    requires name { IsItem (item_in item) }
+    ensures grown { IfOk result (λ _. placed_below (growth_of growth.old) indent body.now parents.items
+        (last_of parents.items) (item_in item.entry) ≡ Ok (growth_of growth.new)) }
     ensures numbered { OnOk result (AreNumbered (growth_of growth.new)) }
     ensures refused { IfErr result (IsRowError (placed_below (growth_of growth.old) indent body.now
-        (opens_of parents.items) (last_of (opens_of parents.items)) (item_in item.entry))) }
+        parents.items (last_of parents.items) (item_in item.entry))) }
 {
+    // The contract of `names` says that there are 512 at most, each once.
+    let _names = growth.tree.names();
     let Some(parent) = last_of(&parents) else {
         return Err(RowError::Refused(Stop {
             reason: Reason::Syntax,
@@ -211,18 +226,8 @@ pub(crate) fn grow<'t>(
 {
     let indent = indentation(bytes);
     let body = after_blanks(bytes);
-    let is_inside = are_narrower(&growth.open_rows, indent);
-    if growth.ends_in_head() && !is_inside {
-        return Err(RowError::Refused(Stop {
-            reason: Reason::NoMember,
-            left: body,
-        }));
-    }
-    if !is_inside && !is_beside(&growth.open_rows, indent) {
-        return Err(RowError::Refused(Stop {
-            reason: Reason::Indentation,
-            left: body,
-        }));
+    if let Some(reason) = early_stop(&growth.open_rows, indent) {
+        return Err(RowError::Refused(Stop { reason, left: body }));
     }
     let item = match item_of(body) {
         Ok(item) => item,
@@ -236,8 +241,7 @@ pub(crate) fn grow<'t>(
 
 /// Returns the tree of a root.
 fn seed(alloc: Global, indent: u64, name: &[u8]) -> Result<Growth, NameFault>
-    ensures seed { IfOk result (λ g. growth_of g ≡ seed indent name.now) }
-    ensures refused { IfErr result (IsRefused [] name.now) }
+    ensures { IfOk result (λ g. growth_of g ≡ seed indent name.now) }
 {
     let tree = Tree::new(alloc, name)?;
     let mut open_rows = Vec::new(alloc);

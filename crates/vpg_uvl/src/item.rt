@@ -245,7 +245,7 @@ fn feature_behind<'t>(
     }
     if is_type(name) {
         return Err(Stop {
-            reason: Reason::Type,
+            reason: Reason::Typed,
             left: body,
         });
     }

@@ -1,5 +1,6 @@
 //! Reading a feature model.
 ghost use Rattle.std.specs.Prelude.{◌≡◌, ◌+◌, ◌<◌, ◌^◌, [], length, IfOk, IfErr, OnOk, MatchResult, Ok};
+ghost use Rattle.vpg_features.specs.Names.{AreNames};
 ghost use Rattle.vpg_tree.specs.Tree.{Tree as FeatureTree};
 ghost use Rattle.vpg_uvl.specs.Items.{Stop as StopOfRow};
 ghost use Rattle.vpg_uvl.specs.Model.{Spells, IsFirstFault, IsFaultBehind, fault_at, finished, features_from, features_of, features_after, ReadsBehind};
@@ -7,7 +8,7 @@ ghost use Rattle.vpg_uvl.specs.Views.{row_of, rows_left, stop_of, growth_of, Are
 
 use crate::constraint::constraint;
 use crate::fault::{Reason, UvlFault};
-use crate::growth::{Growth, RowError, front_stop, grow, rooted};
+use crate::growth::{Growth, RowError, ends_in_head, front_stop, grow, rooted};
 use crate::item::Stop;
 use crate::row::{Cursor, Row, next_row};
 use crate::words::is_head;
@@ -42,7 +43,7 @@ fn finished(growth: Growth, behind: Cursor, fault: UvlFault) -> Result<Features,
     ensures refused { IfErr result
         (IsReadingFault (finished (growth_of growth) (rows_left behind.entry) fault)) }
 {
-    if growth.ends_in_head() {
+    if ends_in_head(&growth.open_rows) {
         return Err(fault);
     }
     let Growth { tree, open_rows: _ } = growth;
@@ -132,12 +133,35 @@ fn read_constraints(alloc: Global, tree: &mut Tree, cursor: Cursor) -> Result<()
     let mut left = cursor;
     while let Some(next) = next_row(left) {
         left = next.behind;
-        let rule = constraint(alloc, tree.names(), next.row)?;
+        let rule = match constraint(alloc, tree.names(), next.row) {
+            Ok(rule) => rule,
+            Err(fault) => return Err(fault),
+        };
         let Ok(_) = tree.add_constraint(rule) else {
             return Err(UvlFault::Memory);
         };
     }
     Ok(())
+}
+
+/// Returns the tree of the features with the constraints behind them.
+fn with_constraints(alloc: Global, features: Features) -> Result<Tree, UvlFault>
+    requires room { features.behind.number + length features.behind.rest.now < 2 ^ 64 }
+    requires none { features.tree.constraints ≡ [] }
+    ensures read { IfOk result (ReadsBehind features.entry.tree (rows_left features.entry.behind)) }
+    ensures names { IfOk result (λ tree. AreNames tree.names) }
+    ensures refused { IfErr result
+        (IsFaultBehind features.entry.tree.names (rows_left features.entry.behind)) }
+{
+    let Features { mut tree, behind } = features;
+    match read_constraints(alloc, &mut tree, behind) {
+        Ok(()) => {
+            // The contract of `names` says that they are feature names, each once.
+            let _names = tree.names();
+            Ok(tree)
+        }
+        Err(fault) => Err(fault),
+    }
 }
 
 /// Returns the feature tree that a text in UVL spells.
@@ -158,9 +182,12 @@ pub fn read(alloc: Global, text: &[u8]) -> Result<Tree, UvlFault>
         rest: text,
         number: 0,
     };
-    let Features { mut tree, behind } = features_after(alloc, start)?;
-    match read_constraints(alloc, &mut tree, behind) {
-        Ok(()) => Ok(tree),
+    let features = match features_after(alloc, start) {
+        Ok(features) => features,
+        Err(fault) => return Err(fault),
+    };
+    match with_constraints(alloc, features) {
+        Ok(tree) => Ok(tree),
         Err(fault) => Err(fault),
     }
 }
