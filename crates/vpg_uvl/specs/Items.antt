@@ -9,7 +9,7 @@ use Rattle.vpg_tree.specs.declared.group.Kind.{Kind}
 use Rattle.vpg_tree.specs.declared.group.Kind.TheVariants.{Mandatory, Optional, Alternative, Or, Cardinality}
 use Rattle.vpg_uvl.specs.Rows.{is_blank, after_blanks, word_at, behind_word, is_nothing}
 pub use Rattle.vpg_uvl.specs.declared.fault.Reason.{Reason}
-pub use Rattle.vpg_uvl.specs.declared.fault.Reason.TheVariants.{Syntax, Indentation, Import, Level, Typed, FeatureCardinality, Attributes, AttributeConstraint, Quotes, Name, Range, Twice, TooMany, NoMember, UnknownFeature, Attribute, Arithmetic, Comparison, Text, Aggregate, TooDeep}
+pub use Rattle.vpg_uvl.specs.declared.fault.Reason.TheVariants.{Syntax, Indentation, Import, Level, Typed, FeatureCardinality, Attributes, AttributeConstraint, Quotes, Name, Range, Twice, TooMany, NoMember, UnknownFeature, Attribute, Arithmetic, Comparison, Text, Aggregate, Chain, TooDeep}
 
 -- the head of a group, or a feature
 pub data Item : Type 0 where
