@@ -1,5 +1,5 @@
--- Chains of `=>` without parentheses. The grammar of the Universal Variability Language does not say how they group, and
--- its parser takes the left pair first, where rules here take the right one. So they are refused.
+-- Chains of `=>` without parentheses. The Universal Variability Language does not say how they group. The parser that
+-- its grammar yields takes the left pair first, and rules here the right one. So they are refused.
 use Rattle.std.specs.Prelude.{ℕ, ◌+◌, ◌-◌, Bool, true, false, not, ◌&&◌, ◌||◌, ◌==◌, if◌then◌else◌, List, [], ◌∷◌}
 
 -- Whether a `=>` comes before the end of the parentheses around a text and before the next `<=>` in them. The number is

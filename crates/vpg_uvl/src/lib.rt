@@ -11,8 +11,8 @@
 //! texts, aggregates and chains of `=>` in constraints are refused.
 //!
 //! Definitions stand in `specs/`: `Model` (which tree a text spells, and its first fault), over `Rows` (lines without
-//! comments), `Items` (heads of groups, and features) `Nesting` (the tree that rows spell by their indentation) and `Arrows` (chains).
-//! `Views` has the code's values as those of the definitions, for private contracts.
+//! comments), `Items` (heads of groups, and features), `Nesting` (the tree that rows spell by their indentation) and
+//! `Arrows` (chains). `Views` has the code's values as those of the definitions, for private contracts.
 #![tactic(auto)]
 
 mod arrows;
