@@ -1,6 +1,6 @@
 -- Chains of `=>` without parentheses. The Universal Variability Language does not say how they group. The parser that
 -- its grammar yields takes the left pair first, and rules here the right one. So they are refused.
-use Rattle.std.specs.Prelude.{ℕ, ◌+◌, ◌-◌, Bool, true, false, not, ◌&&◌, ◌||◌, ◌==◌, if◌then◌else◌, List, [], ◌∷◌}
+use Rattle.std.specs.Prelude.{ℕ, ◌+◌, ◌-◌, Bool, false, not, ◌&&◌, ◌||◌, ◌==◌, if◌then◌else◌, List, [], ◌∷◌}
 
 -- Whether a `=>` comes before the end of the parentheses around a text and before the next `<=>` in them. The number is
 -- that of the parentheses that are open within, and the byte the one before the text.

@@ -1,6 +1,6 @@
 -- The rows below `features`: the head of a group, or a feature. Words and attributes are those of the Universal
 -- Variability Language; names are those of features here.
-use Rattle.std.specs.Prelude.{ℕ, ◌^◌, Bool, true, false, not, ◌&&◌, ◌||◌, ◌==◌, if◌then◌else◌, nat_le, List, [], ◌∷◌, length, take, drop, min, Option, Some, None, Result, Ok, Err, bytes_eq, codes, is_none}
+use Rattle.std.specs.Prelude.{ℕ, ◌^◌, Bool, true, not, ◌&&◌, ◌||◌, ◌==◌, if◌then◌else◌, nat_le, List, [], ◌∷◌, length, take, drop, min, Option, Some, None, Result, Ok, Err, bytes_eq, codes, is_none}
 use Rattle.std.specs.List.{list_all, list_any, prefix_len, slice_split}
 use Rattle.std.specs.Char.{is_ascii_digit}
 use Rattle.std.specs.Str.Parse.{digits_value}

@@ -1,15 +1,15 @@
 -- Which feature tree a text in the Universal Variability Language (UVL) spells, and its first fault. The profile:
 -- features with names of this project, groups, attributes that say nothing of constraints, and constraints over
 -- features.
-use Rattle.std.specs.Prelude.{ℕ, ◌+◌, ◌-◌, ◌<◌, ◌≤◌, ◌≡◌, ◌≢◌, Bool, false, if◌then◌else◌, List, [], ◌∷◌, ◌++◌, length, Option, Some, None, Result, Ok, Err, slice_get, take, codes, ◌⊎◌, ⊤}
-use Rattle.std.specs.List.{AllByRecursion, AllZip}
+use Rattle.std.specs.Prelude.{ℕ, ◌+◌, ◌-◌, ◌<◌, ◌≤◌, ◌≡◌, false, if◌then◌else◌, List, [], ◌∷◌, ◌++◌, length, Option, Some, None, Result, Ok, Err, codes, ◌⊎◌, ⊤}
+use Rattle.std.specs.List.{AllZip}
 use Rattle.vpg_rules.specs.Constraint.{Constraint}
 use Rattle.vpg_rules.specs.Grammar as rules
 use Rattle.vpg_tree.specs.Tree.{Tree}
 use Rattle.vpg_uvl.specs.Rows.{Row, rows, is_head, indentation}
 use Rattle.vpg_uvl.specs.Arrows.{is_chained}
-use Rattle.vpg_uvl.specs.Items.{Stop, Reason, NoMember, Indentation}
-use Rattle.vpg_uvl.specs.Nesting.{Growth, Open, last_of, ends_in_head, grown, rooted, front_stop}
+use Rattle.vpg_uvl.specs.Items.{Stop, NoMember}
+use Rattle.vpg_uvl.specs.Nesting.{Growth, last_of, ends_in_head, grown, rooted, front_stop}
 use Rattle.vpg_uvl.specs.declared.fault.UvlFault.{UvlFault}
 use Rattle.vpg_uvl.specs.declared.fault.UvlFault.TheVariants.{Refused, Ended, Memory}
 

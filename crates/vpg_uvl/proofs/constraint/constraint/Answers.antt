@@ -1,8 +1,3 @@
-use Rattle.std.proofs.Common.{◌≡◌, sym, subst, ◌∙◌, rules}
-use Rattle.std.specs.Prelude.{MatchResult}
-use Rattle.vpg_rules.specs.Constraint.{Constraint}
-use Rattle.vpg_rules.specs.Grammar as grammar
-use Rattle.vpg_rules.specs.View.{constraint_of}
 use Rattle.vpg_uvl.specs.Views.{row_of}
 use Rattle.vpg_uvl.proofs.RowFaults.{row_is_faulty}
 use Rattle.vpg_uvl.proofs.constraint.constraint.Goals as goal
