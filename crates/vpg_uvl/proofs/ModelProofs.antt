@@ -105,6 +105,7 @@ row_fault names behind before after row read (Refused reason line column) parts 
   line_is = h.1;
   positive = h.2;
   within = h.3;
+  why = h.4;
 }
 
 -- the first fault of a text

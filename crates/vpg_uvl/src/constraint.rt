@@ -3,7 +3,7 @@ ghost use Rattle.std.specs.Prelude.{◌≡◌, ◌≢◌, ◌<◌, ◌≤◌, �
 ghost use Rattle.vpg_rules.specs.Constraint.{Constraint, IsBelow};
 ghost use Rattle.vpg_rules.specs.View.{constraint_of};
 ghost use Rattle.vpg_uvl.specs.Model.{SpellsConstraint};
-ghost use Rattle.vpg_uvl.specs.Views.{row_of, IsRowFault, IsPlaced};
+ghost use Rattle.vpg_uvl.specs.Views.{row_of, IsRowFault, IsPlaced, IsOfRule, Tells, TellsRule};
 
 use crate::arrows::is_chained;
 use crate::fault::{Reason, UvlFault};
@@ -33,7 +33,9 @@ fn sign_behind_name(bytes: &[u8], at: usize) -> u8 {
 }
 
 /// Returns why a byte cannot stand in a rule.
-fn reason_of_byte(b: u8) -> Reason {
+fn reason_of_byte(b: u8) -> Reason
+    ensures { IsOfRule result }
+{
     match b {
         b'.' => Reason::Attribute,
         b'"' => Reason::Quotes,
@@ -46,7 +48,9 @@ fn reason_of_byte(b: u8) -> Reason {
 }
 
 /// Returns why a name that no feature has is refused, by the sign behind it.
-fn reason_of_name(sign: u8) -> Reason {
+fn reason_of_name(sign: u8) -> Reason
+    ensures { IsOfRule result }
+{
     match sign {
         b'.' => Reason::Attribute,
         b'(' => Reason::Aggregate,
@@ -56,7 +60,8 @@ fn reason_of_name(sign: u8) -> Reason {
 
 /// Returns the fault of a row for a reason at a place, which counts bytes from 0.
 fn refused(row: Row, reason: Reason, at: usize) -> UvlFault
-    ensures { IsPlaced (row_of row.entry) result }
+    ensures placed { IsPlaced (row_of row.entry) result }
+    ensures tells { Tells reason result }
 {
     UvlFault::Refused {
         reason,
@@ -69,6 +74,7 @@ fn refused(row: Row, reason: Reason, at: usize) -> UvlFault
 fn fault_of(row: Row, fault: RuleFault) -> UvlFault
     ensures placed { fault ≢ RuleFault.Memory → IsPlaced (row_of row.entry) result }
     ensures memory { fault ≡ RuleFault.Memory → result ≡ UvlFault.Memory }
+    ensures tells { TellsRule result }
 {
     match fault {
         RuleFault::Memory => UvlFault::Memory,
