@@ -7,7 +7,7 @@ use Rattle.vpg_features.specs.Names.{IsFeatureName}
 use Rattle.vpg_rules.specs.Constraint.{Constraint}
 use Rattle.vpg_tree.specs.Tree.{Tree}
 use Rattle.vpg_uvl.specs.Rows.{Row, rows_from}
-use Rattle.vpg_uvl.specs.Items.{Item, head, named, Stop, Reason, Indentation, Chain}
+use Rattle.vpg_uvl.specs.Items.{Item, head, named, Stop, Reason, Indentation, UnknownFeature, Chain}
 use Rattle.vpg_uvl.specs.Nesting.{Open, Growth}
 use Rattle.vpg_uvl.specs.Model.{Features, SpellsConstraint, HasReason}
 use Rattle.vpg_uvl.specs.declared.fault.UvlFault.{UvlFault}
@@ -78,9 +78,10 @@ features_in f = record { tree = f.tree; behind = rows_left f.behind }
 abbrev pub IsReadingFault : Result Features UvlFault → UvlFault → Type 0
 IsReadingFault read fault = (fault ≡ Memory) ⊎ (read ≡ Err fault)
 
--- a reason that speaks of the rule itself
+-- a reason of a row that spells no rule
 abbrev pub IsOfRule : Reason → Type 0
 IsOfRule Indentation = ⊥
+IsOfRule UnknownFeature = ⊥
 IsOfRule Chain = ⊥
 IsOfRule _ = ⊤
 
@@ -106,5 +107,5 @@ abbrev pub IsRowFault : List (List ℕ) → Row → UvlFault → Type 0
 IsRowFault names row Memory = ⊤
 IsRowFault names row Ended = ⊥
 IsRowFault names row (Refused reason line column) =
-    ((c : Constraint) → SpellsConstraint names row c → ⊥) × (row.number ≡ line) × (0 < column)
+    ((c : Constraint ℕ) → SpellsConstraint names row c → ⊥) × (row.number ≡ line) × (0 < column)
     × (column ≤ length row.bytes + 1) × HasReason names row reason
