@@ -1,0 +1,6 @@
+pub mod Tree
+pub mod Lines
+pub mod RuleText
+pub mod DiagramText
+pub mod Short
+pub mod Laws
