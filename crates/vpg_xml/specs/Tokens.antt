@@ -1,10 +1,9 @@
 -- The tokens of a text: W3C, Extensible Markup Language (XML) 1.0, for names of ASCII, and without document types,
 -- processing instructions, and sections of `CDATA`. This project's own: bytes above 127 stand for themselves, ends of
 -- lines and blanks stay as they are, and `]]>` may stand in a text.
-use Rattle.std.specs.Prelude.{◌≡◌, ℕ, zero, suc, ◌+◌, ◌-◌, List, [], ◌∷◌, ◌++◌, length, map, take, drop, Bool, true, false, not, ◌&&◌, ◌||◌, ◌==◌, if◌then◌else◌, nat_le, nat_lt, codes, bytes_eq, position, Option, Some, None, option_map, option_and_then}
-use Rattle.std.specs.Char.{is_ascii_alphabetic, is_ascii_digit, is_ascii_hexdigit}
+use Rattle.std.specs.Prelude.{◌≡◌, ℕ, zero, suc, ◌+◌, ◌*◌, ◌-◌, List, [], ◌∷◌, ◌++◌, length, map, take, drop, Bool, true, false, not, ◌&&◌, ◌||◌, ◌==◌, if◌then◌else◌, nat_le, nat_lt, min, codes, bytes_eq, position, Option, Some, None, option_map, option_and_then}
+use Rattle.std.specs.Char.{is_ascii_alphabetic, is_ascii_digit}
 use Rattle.std.specs.List.{prefix_len, list_any, list_all}
-use Rattle.std.specs.Str.Parse.{digits_value}
 use Rattle.vpg_xml.specs.Elements.{Attribute, Tag, Placed, opening, closing, character}
 
 infixl 10 ◌>>=◌
@@ -65,16 +64,18 @@ abbrev pub character_numbered : ℕ → Option ℕ
 character_numbered n = if nat_lt n 128 && is_allowed n then Some n else None
 
 -- whether bytes are digits, one or more
-abbrev pub are_digits : (ℕ → Bool) → List ℕ → Bool
-are_digits is_digit [] = false
-are_digits is_digit (b ∷ text) = is_digit b && list_all is_digit text
+abbrev pub are_digits : List ℕ → Bool
+are_digits [] = false
+are_digits (b ∷ text) = is_ascii_digit b && list_all is_ascii_digit text
 
--- the character by its number, in decimal or after `x` in hexadecimal
+-- the number that decimal digits write after this one, where 1000 stands for all that are greater
+abbrev pub number_after : ℕ → List ℕ → ℕ
+number_after n [] = n
+number_after n (b ∷ text) = number_after (min (n * 10 + (b - 48)) 1000) text
+
+-- the character by its number in decimal
 abbrev pub numbered_in : List ℕ → Option ℕ
-numbered_in [] = None
-numbered_in (b ∷ text) =
-    if b == 120 then (if are_digits is_ascii_hexdigit text then character_numbered (digits_value 16 text) else None)
-    else (if are_digits is_ascii_digit (b ∷ text) then character_numbered (digits_value 10 (b ∷ text)) else None)
+numbered_in text = if are_digits text then character_numbered (number_after 0 text) else None
 
 -- the character that stands between `&` and `;`: one of the five with a name, or one by its number after `#`
 abbrev pub character_of : List ℕ → Option ℕ
@@ -134,6 +135,7 @@ abbrev pub is_new : List Attribute → List ℕ → Bool
 is_new attributes name =
     nat_lt (length attributes) 64 && not (list_any (λ a. bytes_eq a.name name) attributes)
 
+-- this, unless the attribute is not new
 abbrev pub if_new : {A : Type 0} → Bool → Option A → Option A
 if_new true x = x
 if_new false x = None
@@ -143,8 +145,7 @@ unfoldable pub attributes_with : ℕ → ℕ → List Attribute → List ℕ →
 attributes_with zero size before text = Some (before, text)
 attributes_with (suc n) size before text =
     if has_attribute text
-    then attribute_at size text >>= λ a.
-    (if is_new before a.0.name then attributes_with n size (before ++ a.0 ∷ []) a.1 else None)
+    then (attribute_at size text >>= λ a. if_new (is_new before a.0.name) (attributes_with n size (before ++ a.0 ∷ []) a.1))
     else Some (before, text)
 
 -- the attributes at the front, 64 at most, no two of one name, and the text after them
@@ -225,7 +226,7 @@ pieces_of at (an_end name) = record { at = at; piece = closing name } ∷ []
 -- the text begins with tokens of these pieces, and this text comes after them
 pub data HasPieces (size : ℕ) : List ℕ → List Placed → List ℕ → Type 0 where
   no_token : {text : List ℕ} → HasPieces size text [] text
-  one_more : {text behind rest : List ℕ} {token : Token} {pieces : List Placed} →
+  one_token : {text behind rest : List ℕ} {token : Token} {pieces : List Placed} →
       token_at size text ≡ Some (token, behind) → HasPieces size behind pieces rest →
       HasPieces size text (pieces_of (place_of size text) token ++ pieces) rest
 

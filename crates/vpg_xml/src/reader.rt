@@ -141,7 +141,10 @@ impl<'t> Reader<'t> {
             run (pieces_of at (a_start (tag_of tag.entry) is_empty)) (state_of self.old) ≡ Ok (state_of self.new)) }
         ensures err { IfErr result (IsPieceError (state_of self.old) at (opening (tag_of tag.entry))) }
     {
-        let parent = self.around(at)?;
+        let parent = match self.around(at) {
+            Ok(parent) => parent,
+            Err(fault) => return Err(fault),
+        };
         let open = Open {
             index: self.elements.len(),
             name: tag.name,

@@ -40,10 +40,15 @@ fn read_body<'t>(alloc: Global, size: usize, body: &'t [u8]) -> Result<Vec<Eleme
     let mut rest = body;
     while !rest.is_empty() {
         let at = size - rest.len();
-        let Some((token, behind)) = token(alloc, size, rest)? else {
+        let Ok(found) = token(alloc, size, rest) else {
+            return Err(XmlFault::Memory);
+        };
+        let Some((token, behind)) = found else {
             return Err(unreadable(at, rest));
         };
-        reader.read(alloc, at, token)?;
+        if let Err(fault) = reader.read(alloc, at, token) {
+            return Err(fault);
+        }
         rest = behind;
     }
     if reader.is_whole() {

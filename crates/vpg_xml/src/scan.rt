@@ -1,9 +1,8 @@
 //! Blanks, names, references and characters of a text.
-ghost use Rattle.std.specs.Prelude.{◌≡◌, ◌<◌, ◌≤◌, ◌+◌, ◌^◌, ◌==◌, length, take, drop, min, position, bytes_eq, IfSome, IfOk, MatchOption};
+ghost use Rattle.std.specs.Prelude.{◌≡◌, ◌<◌, ◌≤◌, ◌+◌, ◌-◌, ◌==◌, length, take, drop, position, bytes_eq, IfSome};
 ghost use Rattle.std.specs.List.{prefix_len, list_all};
-ghost use Rattle.std.specs.Char.{is_ascii_digit, is_ascii_hexdigit};
-ghost use Rattle.std.specs.Str.Parse.{digits_value};
-ghost use Rattle.vpg_xml.specs.Tokens.{is_blank, is_allowed, is_name_start, is_name_byte, starts_name, starts_blank, after_gap, name_in, after_name, after_sign, character_numbered, are_digits, numbered_in, character_of, reference_at, is_plain, character_at};
+ghost use Rattle.std.specs.Char.{is_ascii_digit};
+ghost use Rattle.vpg_xml.specs.Tokens.{is_blank, is_allowed, is_name_start, is_name_byte, starts_name, starts_blank, after_gap, name_in, after_name, after_sign, character_numbered, are_digits, number_after, numbered_in, character_of, reference_at, is_plain, character_at};
 ghost use Rattle.vpg_xml.specs.View.{text_in, with_rest, same};
 
 pub(crate) fn is_blank(b: u8) -> bool
@@ -108,36 +107,34 @@ pub(crate) fn is_same(a: &[u8], b: &[u8]) -> bool
     a == b
 }
 
-fn is_decimal(text: &[u8]) -> bool
-    ensures { result ≡ are_digits is_ascii_digit text.now }
+fn has_digits(text: &[u8]) -> bool
+    ensures { result ≡ list_all is_ascii_digit text.now }
+{
+    text.iter().all(|c| c.is_ascii_digit())
+}
+
+fn are_digits(text: &[u8]) -> bool
+    ensures { result ≡ are_digits text.now }
 {
     match text {
         [] => false,
-        [b, rest @ ..] => b.is_ascii_digit() && rest.iter().all(|c| c.is_ascii_digit()),
+        [b, rest @ ..] => b.is_ascii_digit() && has_digits(rest),
     }
 }
 
-fn is_hexadecimal(text: &[u8]) -> bool
-    ensures { result ≡ are_digits is_ascii_hexdigit text.now }
+fn digit(b: u8) -> u32
+    ensures { result ≡ b - 48 }
 {
-    match text {
-        [] => false,
-        [b, rest @ ..] => b.is_ascii_hexdigit() && rest.iter().all(|c| c.is_ascii_hexdigit()),
-    }
+    if b < 48 { 0 } else { u32::from(b - 48) }
 }
 
-/// A number greater than any of ASCII.
-const GREAT: u32 = 1 << 20;
-
-/// Returns the number that digits write, or `GREAT` if it is greater.
-fn number(digits: &[u8], radix: u32) -> u32
-    requires { radix ≤ 16 }
-    ensures { result ≡ min (digits_value radix digits.now) (2 ^ 20) }
+/// Returns the number that decimal digits write, or 1000 if it is greater.
+fn number(digits: &[u8]) -> u32
+    ensures { result ≡ number_after 0 digits.now }
 {
     let mut value: u32 = 0;
-    for digit in digits {
-        let digit = char::from(*digit).to_digit(36).unwrap_or(36);
-        value = (value * radix + digit).min(GREAT);
+    for b in digits {
+        value = (value * 10 + digit(*b)).min(1000);
     }
     value
 }
@@ -153,25 +150,14 @@ fn character_numbered(n: u32) -> Option<u8>
     }
 }
 
-/// Returns the character by its number, in decimal, or after `x` in hexadecimal.
+/// Returns the character by its number in decimal.
 fn numbered_in(text: &[u8]) -> Option<u8>
     ensures { result ≡ numbered_in text.now }
 {
-    match text {
-        [] => None,
-        [b, rest @ ..] => {
-            if *b == b'x' {
-                if is_hexadecimal(rest) {
-                    return character_numbered(number(rest, 16));
-                }
-                return None;
-            }
-            if is_decimal(text) {
-                character_numbered(number(text, 10))
-            } else {
-                None
-            }
-        }
+    if are_digits(text) {
+        character_numbered(number(text))
+    } else {
+        None
     }
 }
 

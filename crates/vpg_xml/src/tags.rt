@@ -1,5 +1,6 @@
 //! Tags, comments and tokens.
-ghost use Rattle.std.specs.Prelude.{◌≡◌, ◌<◌, ◌≤◌, [], length, IfSome, IfOk, true, map};
+ghost use Rattle.std.specs.Prelude.{◌≡◌, ◌<◌, ◌≤◌, [], length, IfSome, IfOk, true, map, bytes_eq};
+ghost use Rattle.std.specs.List.{list_any};
 ghost use Rattle.vpg_xml.specs.Tokens.{value_with, quoted_at, attribute_at, has_attribute, is_new, attributes_at, tag_at, ending_at, comment_end, comment_at, end_at, start_at, markup_at, token_at, body_of, is_declared, after_declaration};
 ghost use Rattle.vpg_xml.specs.View.{text_in, with_rest, same, attribute_of, tag_of, token_of};
 
@@ -83,11 +84,17 @@ fn has_attribute(text: &[u8]) -> bool
     starts_blank(text) && starts_name(after_gap(text))
 }
 
+fn has_name(attributes: &[Attribute], name: &[u8]) -> bool
+    ensures { result ≡ list_any (λ a. bytes_eq a.name.now name.now) attributes.now }
+{
+    attributes.iter().any(|a| is_same(a.name, name))
+}
+
 /// Whether an attribute may come after these.
 fn is_new(attributes: &[Attribute], name: &[u8]) -> bool
     ensures { result ≡ is_new (map attribute_of attributes.now) name.now }
 {
-    attributes.len() < MOST_ATTRIBUTES && !attributes.iter().any(|a| is_same(a.name, name))
+    attributes.len() < MOST_ATTRIBUTES && !has_name(attributes, name)
 }
 
 /// Returns the attributes at the front, and the text after them.
