@@ -71,14 +71,14 @@ pub run_end : (s : State) → run [] s ≡ Ok s
 unfolding run
 run_end s = refl
 
+joined_outcome : (ps qs : Pieces) → ((t : State) → run (ps ++ qs) t ≡ and_then (run ps t) (run qs)) → (r : Outcome) → and_then r (run (ps ++ qs)) ≡ and_then (and_then r (run ps)) (run qs)
+joined_outcome ps qs ih (Ok t) = ih t
+joined_outcome ps qs ih (Err e) = refl
+
 pub run_append : (ps qs : Pieces) (s : State) → run (ps ++ qs) s ≡ and_then (run ps s) (run qs)
 unfolding run
 run_append [] qs s = refl
-run_append (p ∷ ps) qs s = go (step s p.at p.piece)
-  where
-    go : (r : Outcome) → and_then r (run (ps ++ qs)) ≡ and_then (and_then r (run ps)) (run qs)
-    go (Ok t) = run_append ps qs t
-    go (Err e) = refl
+run_append (p ∷ ps) qs s = joined_outcome ps qs (λ t. run_append ps qs t) (step s p.at p.piece)
 
 pub run_after : (ps qs : Pieces) (s t : State) → run ps s ≡ Ok t → run (ps ++ qs) s ≡ run qs t
 run_after ps qs s t e = run_append ps qs s ∙ ap (λ (r : Outcome). and_then r (run qs)) e
@@ -245,20 +245,24 @@ inside_found (suc n) (p ∷ ps) l depth f fs es end w d done e =
 -- ---- documents
 
 -- behind the outermost element come blanks
-trailing : (ps : Pieces) (e : Element) (es : Elements) (end : State) → run ps (state (e ∷ es) []) ≡ Ok end → AreBlanks ps × (end ≡ state (e ∷ es) [])
-trailing [] e es end h = (no_more, sym (ok_is (state (e ∷ es) []) end (sym (run_end (state (e ∷ es) [])) ∙ h)))
-trailing (p ∷ ps) e es end h = at_piece p.at p.piece (sym (run_first p ps (state (e ∷ es) [])) ∙ h)
-  where
-    blank : (at c : ℕ) (t : Bool) → is_blank c ≡ t → and_then (cond t (Ok (state (e ∷ es) [])) (Err outside)) (run ps) ≡ Ok end →
-        AreBlanks (record { at = at; piece = character c } ∷ ps) × (end ≡ state (e ∷ es) [])
-    blank at c false b h = absurd (cc)
-    blank at c true b h = let k = trailing ps e es end h in (one_more b k.0, k.1)
+module _ (e : Element) (es : Elements) (end : State) where
+  abbrev Trail : Pieces → Type 0
+  Trail ps = AreBlanks ps × (end ≡ state (e ∷ es) [])
 
-    at_piece : (at : ℕ) (piece : Piece) → and_then (step (state (e ∷ es) []) at piece) (run ps) ≡ Ok end →
-        AreBlanks (record { at = at; piece = piece } ∷ ps) × (end ≡ state (e ∷ es) [])
-    at_piece at (opening tag) h = absurd (cc)
-    at_piece at (closing name) h = absurd (cc)
-    at_piece at (character c) h = blank at c (is_blank c) refl h
+  trail_blank : (ps : Pieces) (at c : ℕ) → (run ps (state (e ∷ es) []) ≡ Ok end → Trail ps) → (t : Bool) → is_blank c ≡ t → and_then (cond t (Ok (state (e ∷ es) [])) (Err outside)) (run ps) ≡ Ok end →
+      Trail (record { at = at; piece = character c } ∷ ps)
+  trail_blank ps at c ih false b h = absurd (cc)
+  trail_blank ps at c ih true b h = let k = ih h in (one_more b k.0, k.1)
+
+  trail_piece : (ps : Pieces) (at : ℕ) (piece : Piece) → (run ps (state (e ∷ es) []) ≡ Ok end → Trail ps) → and_then (step (state (e ∷ es) []) at piece) (run ps) ≡ Ok end →
+      Trail (record { at = at; piece = piece } ∷ ps)
+  trail_piece ps at (opening tag) ih h = absurd (cc)
+  trail_piece ps at (closing name) ih h = absurd (cc)
+  trail_piece ps at (character c) ih h = trail_blank ps at c ih (is_blank c) refl h
+
+  trailing : (ps : Pieces) → run ps (state (e ∷ es) []) ≡ Ok end → Trail ps
+  trailing [] h = (no_more, sym (ok_is (state (e ∷ es) []) end (sym (run_end (state (e ∷ es) [])) ∙ h)))
+  trailing (p ∷ ps) h = trail_piece ps p.at p.piece (trailing ps) (sym (run_first p ps (state (e ∷ es) [])) ∙ h)
 
 -- the outermost element
 rooted : (at : ℕ) (tag : Tag) (ps : Pieces) (end : State) → end.opened ≡ [] → run ps (with_element at tag None start) ≡ Ok end →
@@ -268,7 +272,7 @@ rooted at tag ps end done e =
     let e0 : Element = element at tag None [] in
     let one : length (e0 ∷ []) ≡ 1 = omega arith in
     let h : Inside 63 f [] (e0 ∷ []) ps end = inside_found (length ps) ps (omega arith) 63 f [] (e0 ∷ []) end (omega arith) (omega arith) done e in
-    let k = trailing h.rest (element at tag None h.text) h.found end h.after in
+    let k = trailing (element at tag None h.text) h.found end h.rest h.after in
     record {
       before = [];
       at = at;
@@ -286,28 +290,40 @@ rooted at tag ps end done e =
     }
 
 behind_blank : (at c : ℕ) (ps : Pieces) (es : Elements) → is_blank c ≡ true → IsDocument ps es → IsDocument (record { at = at; piece = character c } ∷ ps) es
-behind_blank at c ps es b d = record d {
+behind_blank at c ps es b d = record {
   before = record { at = at; piece = character c } ∷ d.before;
+  at = d.at;
+  tag = d.tag;
+  inner = d.inner;
+  to = d.to;
+  after = d.after;
+  said = d.said;
+  inside = d.inside;
   pieces_are = ap (λ (xs : Pieces). record { at = at; piece = character c } ∷ xs) d.pieces_are;
+  elements_are = d.elements_are;
   blank_before = one_more b d.blank_before;
+  blank_after = d.blank_after;
+  content = d.content;
 }
+
+module _ (end : State) (done : end.opened ≡ []) where
+  root_blank : (ps : Pieces) (at c : ℕ) → (run ps start ≡ Ok end → IsDocument ps end.elements) → (t : Bool) → is_blank c ≡ t → and_then (cond t (Ok start) (Err outside)) (run ps) ≡ Ok end →
+      IsDocument (record { at = at; piece = character c } ∷ ps) end.elements
+  root_blank ps at c ih false b h = absurd (cc)
+  root_blank ps at c ih true b h = behind_blank at c ps end.elements b (ih h)
+
+  root_piece : (ps : Pieces) (at : ℕ) (piece : Piece) → (run ps start ≡ Ok end → IsDocument ps end.elements) → and_then (step start at piece) (run ps) ≡ Ok end →
+      IsDocument (record { at = at; piece = piece } ∷ ps) end.elements
+  root_piece ps at (opening tag) ih h = rooted at tag ps end done h
+  root_piece ps at (closing name) ih h = absurd (cc)
+  root_piece ps at (character c) ih h = root_blank ps at c ih (is_blank c) refl h
 
 pub document_found : (ps : Pieces) (end : State) → is_whole end ≡ true → end.opened ≡ [] → run ps start ≡ Ok end → IsDocument ps end.elements
 document_found [] end whole done e =
     let same : start ≡ end = ok_is start end (sym (run_end start) ∙ e) in
-    let no : is_whole start ≡ true = ap is_whole same ∙ whole in
+    let never : is_whole start ≡ true = ap is_whole same ∙ whole in
     absurd (cc)
-document_found (p ∷ ps) end whole done e = at_piece p.at p.piece (sym (run_first p ps start) ∙ e)
-  where
-    blank : (at c : ℕ) (t : Bool) → is_blank c ≡ t → and_then (cond t (Ok start) (Err outside)) (run ps) ≡ Ok end →
-        IsDocument (record { at = at; piece = character c } ∷ ps) end.elements
-    blank at c false b h = absurd (cc)
-    blank at c true b h = behind_blank at c ps end.elements b (document_found ps end whole done h)
-
-    at_piece : (at : ℕ) (piece : Piece) → and_then (step start at piece) (run ps) ≡ Ok end → IsDocument (record { at = at; piece = piece } ∷ ps) end.elements
-    at_piece at (opening tag) h = rooted at tag ps end done h
-    at_piece at (closing name) h = absurd (cc)
-    at_piece at (character c) h = blank at c (is_blank c) refl h
+document_found (p ∷ ps) end whole done e = root_piece end done ps p.at p.piece (document_found ps end whole done) (sym (run_first p ps start) ∙ e)
 
 blanks_run : {ps : Pieces} → AreBlanks ps → (es : Elements) → run ps (state es []) ≡ Ok (state es [])
 blanks_run no_more es = run_end (state es [])

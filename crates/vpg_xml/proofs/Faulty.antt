@@ -2,6 +2,7 @@
 use Rattle.std.proofs.Common.{◌≡◌, ℕ, zero, suc, ◌+◌, ◌<◌, ◌≤◌, Bool, true, false, ◌==◌, cond, nat_lt, List, [], ◌∷◌, ◌++◌, length, Option, Some, None, Result, Ok, Err, ◌⊎◌, inl, inr, refl, sym, ap, subst, ◌∙◌, arith, append_assoc, eqb-true}
 use Rattle.std.specs.Prelude.{bytes_eq, count_by}
 use Rattle.std.proofs.lemmas.List.{append-nil}
+use Rattle.std.proofs.lemmas.List.Sums.{sum_by-cons}
 use Rattle.std.proofs.lemmas.Bool.{ltb-true, ltb-false}
 use Rattle.vpg_xml.specs.Elements.{Tag, Element, Document, Piece, Placed, opening, closing, character}
 use Rattle.vpg_xml.specs.Tokens.{is_blank, Token, token_at, pieces_of, place_of, HasPieces, body_of}
@@ -11,7 +12,7 @@ use Rattle.vpg_xml.specs.Reading.{Frame, State, Refusal, mismatch, second_root, 
 use Rattle.vpg_xml.specs.View.{is_whole, fault_of, unreadable, IsRefusedBy, IsStepError, Halts, by_memory, by_text, by_piece, by_end, IsReadTo}
 use Rattle.vpg_xml.specs.declared.fault.XmlFault.{XmlFault}
 use Rattle.vpg_xml.specs.declared.fault.XmlFault.TheVariants as faults
-use Rattle.vpg_xml.proofs.Pieces.{First, first_of, Rest, has_rest}
+use Rattle.vpg_xml.proofs.Pieces.{First, first_of, Rest, has_rest, no_pieces}
 use Rattle.vpg_xml.proofs.Contents.{run_cons, run_first, run_end, run_append, run_after, closes, document_found, document_runs}
 
 abbrev Pieces : Type 0
@@ -62,10 +63,10 @@ goes_on [] fs =
 begins : (ps : Pieces) (s : State) → run ps start ≡ Ok s → BeginsDocument ps
 begins ps s e =
     let g : Goes s = goes_on s.elements s.opened in
-    (g.more, (g.end.elements, document_found (ps ++ g.more) g.end g.whole g.done (run_after ps g.more start s e ∙ g.runs)))
+    (g.more, g.end.elements, document_found (ps ++ g.more) g.end g.whole g.done (run_after ps g.more start s e ∙ g.runs))
 
 stops : (ps : Pieces) (s : State) (p : Placed) (r : Refusal) → run ps start ≡ Ok s → step s p.at p.piece ≡ Err r → ¬ BeginsDocument (ps ++ p ∷ [])
-stops ps s p r e f (more, (es, d)) =
+stops ps s p r e f (more, es, d) =
     let runs : run ((ps ++ p ∷ []) ++ more) start ≡ Ok (state es []) = document_runs ((ps ++ p ∷ []) ++ more) es d in
     let refused : run ((ps ++ p ∷ []) ++ more) start ≡ Err r =
     ap (λ (xs : Pieces). run xs start) (append_assoc ps (p ∷ []) more) ∙ (run_after ps (p ∷ more) start s e ∙ (run_first p more s ∙ ap (λ (o : Outcome). and_then o (run more)) f)) in
@@ -123,19 +124,23 @@ step_kept s t at (character c) few e = go s.opened refl e
     go [] is e = blank (is_blank c) e
     go (f ∷ fs) is e = kept_as s t _ (character c) e (refl, few)
 
+kept_first : (p : Placed) (ps : Pieces) (s t : State) → length s.opened ≤ 64 →
+    ((u : State) → length u.opened ≤ 64 → run ps u ≡ Ok t → (opens ps + length u.opened ≡ ends ps + length t.opened) × (length t.opened ≤ 64)) →
+    (r : Outcome) → step s p.at p.piece ≡ r → and_then r (run ps) ≡ Ok t → (opens (p ∷ ps) + length s.opened ≡ ends (p ∷ ps) + length t.opened) × (length t.opened ≤ 64)
+kept_first p ps s t few ih (Err x) is h = absurd (cc)
+kept_first p ps s t few ih (Ok u) is h =
+    let one : Kept s p.piece u = step_kept s u p.at p.piece few is in
+    let all : (opens ps + length u.opened ≡ ends ps + length t.opened) × (length t.opened ≤ 64) = ih u one.1 h in
+    let opened : opens (p ∷ ps) ≡ cond (is_opening p.piece) 1 0 + opens ps = sum_by-cons (λ q. cond (is_opening q.piece) 1 0) p ps in
+    let ended : ends (p ∷ ps) ≡ cond (is_closing p.piece) 1 0 + ends ps = sum_by-cons (λ q. cond (is_closing q.piece) 1 0) p ps in
+    (omega (arith, opened, ended, one.0, all.0), all.1)
+
 run_kept : (ps : Pieces) (s t : State) → length s.opened ≤ 64 → run ps s ≡ Ok t → (opens ps + length s.opened ≡ ends ps + length t.opened) × (length t.opened ≤ 64)
 run_kept [] s t few e =
     let first : Ok s ≡ Ok t = sym (run_end s) ∙ e in
     let same : s ≡ t = cc in
     subst (λ (v : State). (0 + length s.opened ≡ 0 + length v.opened) × (length v.opened ≤ 64)) same (refl, few)
-run_kept (p ∷ ps) s t few e = go (step s p.at p.piece) refl (sym (run_first p ps s) ∙ e)
-  where
-    go : (r : Outcome) → step s p.at p.piece ≡ r → and_then r (run ps) ≡ Ok t → (opens (p ∷ ps) + length s.opened ≡ ends (p ∷ ps) + length t.opened) × (length t.opened ≤ 64)
-    go (Err x) is h = absurd (cc)
-    go (Ok u) is h =
-        let one : Kept s p.piece u = step_kept s u p.at p.piece few is in
-        let all : (opens ps + length u.opened ≡ ends ps + length t.opened) × (length t.opened ≤ 64) = run_kept ps u t one.1 h in
-        (omega (arith, one.0, all.0), all.1)
+run_kept (p ∷ ps) s t few e = kept_first p ps s t few (λ u m h. run_kept ps u t m h) (step s p.at p.piece) refl (sym (run_first p ps s) ∙ e)
 
 -- ---- why a piece is refused
 
@@ -277,22 +282,26 @@ module _ (text body : List ℕ) (is : body_of text ≡ Some body) where
   document_whole ps d k = ap (λ (es : List Element). is_whole (state es [])) k.elements_are
 
   unfinished_at : (ps : Pieces) (s : State) → HasPieces (length text) body ps [] → run ps start ≡ Ok s → is_whole s ≡ false → IsAt text (faults.Unfinished (length text))
-  unfinished_at ps s h e no = record { pieces = ps; good = record (good ps [] s h e) { place = omega arith }; none = none }
+  unfinished_at ps s h e not_whole = record {
+    pieces = ps;
+    good = record { body = body; body_is = is; has = h; begins = begins ps s e; place = omega arith };
+    none = none;
+  }
     where
       none : (d : Document) → ¬ IsDocument ps d
       none d k =
           let both : Ok s ≡ Ok (state d []) = sym e ∙ document_runs ps d k in
           let same : s ≡ state d [] = cc in
-          let yes : is_whole s ≡ true = ap is_whole same ∙ document_whole ps d k in
-          let clash : false ≡ true = sym no ∙ yes in
+          let all : is_whole s ≡ true = ap is_whole same ∙ document_whole ps d k in
+          let clash : false ≡ true = sym not_whole ∙ all in
           absurd (cc)
 
   pub halts_at : (fault : XmlFault) → Halts (length text) body fault → IsAt text fault
   halts_at faults.Memory by_memory = tt
   halts_at fault (by_text ps rest s h e l none) = unreadable_at ps rest s h e l none
-  halts_at fault (by_piece {fault = fault} ps rest behind token s h e reads k) =
+  halts_at fault (by_piece ps rest behind token s h e reads k) =
       subst (IsAt text) (sym k.fault_is) (refused_at ps rest behind token s k.piece k.others k.refusal h e reads k.first k.refused)
-  halts_at fault (by_end ps s h e no) = unfinished_at ps s h e no
+  halts_at fault (by_end ps s h e not_whole) = unfinished_at ps s h e not_whole
 
   -- ---- no other document
 
@@ -318,14 +327,7 @@ module _ (text body : List ℕ) (is : body_of text ≡ Some body) where
   all_read : (ps qs : Pieces) → HasPieces (length text) body ps [] → HasPieces (length text) body qs [] → qs ≡ ps
   all_read ps qs h k =
       let r : Rest (length text) [] ps qs = has_rest (length text) h qs k in
-      r.parts ∙ (ap (λ (xs : Pieces). ps ++ xs) (no_more r.more r.has) ∙ append-nil ps)
-    where
-      no_more : (more : Pieces) → HasPieces (length text) [] more [] → more ≡ []
-      no_more more h = go (first_of (length text) h refl)
-        where
-          go : (([] {A = ℕ} ≡ []) × (more ≡ [])) ⊎ First (length text) [] more → more ≡ []
-          go (inl e) = e.1
-          go (inr f) = let e : None ≡ Some (f.token, f.behind) = f.reads in absurd (cc)
+      r.parts ∙ (ap (λ (xs : Pieces). ps ++ xs) (no_pieces (length text) [] r.more refl r.has) ∙ append-nil ps)
 
   pub read_spells : (es : Document) → IsReadTo (length text) body es → Spells text es
   read_spells es r = record {
@@ -361,7 +363,7 @@ module _ (text body : List ℕ) (is : body_of text ≡ Some body) where
       go : ((rest ≡ []) × (r.more ≡ [])) ⊎ First (length text) rest r.more → ⊥
       go (inl x) = let n : length rest ≡ 0 = ap length x.0 in omega (arith, l, n)
       go (inr f) = let both : None ≡ Some (f.token, f.behind) = sym none ∙ f.reads in cc
-  halts_only fault d (by_piece {fault = fault} ps rest behind token s h e reads x) k = absurd (go (first_of (length text) r.has refl))
+  halts_only fault d (by_piece ps rest behind token s h e reads x) k = absurd (go (first_of (length text) r.has refl))
     where
       m : Same d
       m = same_of d k
@@ -382,12 +384,12 @@ module _ (text body : List ℕ) (is : body_of text ≡ Some body) where
           ∙ (run_first p (x.others ++ f.others) s ∙ ap (λ (o : Outcome). and_then o (run (x.others ++ f.others))) x.refused)) in
           let clash : Err x.refusal ≡ Ok (state d []) = sym runs ∙ m.runs in
           cc
-  halts_only fault d (by_end ps s h e no) k =
+  halts_only fault d (by_end ps s h e not_whole) k =
       let m : Same d = same_of d k in
       let both : Ok s ≡ Ok (state d []) = sym e ∙ (sym (ap (λ (xs : Pieces). run xs start) (all_read ps m.pieces h m.has)) ∙ m.runs) in
       let same : s ≡ state d [] = cc in
-      let yes : is_whole s ≡ true = ap is_whole same ∙ m.whole in
-      let clash : false ≡ true = sym no ∙ yes in
+      let all : is_whole s ≡ true = ap is_whole same ∙ m.whole in
+      let clash : false ≡ true = sym not_whole ∙ all in
       absurd (cc)
 
 -- ---- the code's halts

@@ -33,26 +33,34 @@ pub record Rest (size : ℕ) (rest : List ℕ) (ps qs : List Placed) : Type 0 wh
   pub parts : qs ≡ ps ++ more
   pub has : HasPieces size rest more []
 
+module _ (size : ℕ) {text behind rest : List ℕ} {token : Token} {ps : List Placed} (r : token_at size text ≡ Some (token, behind))
+    (later : (qs : List Placed) → HasPieces size behind qs [] → Rest size rest ps qs) where
+  rest_first : (qs : List Placed) → First size text qs → Rest size rest (pieces_of (place_of size text) token ++ ps) qs
+  rest_first qs f =
+      let both : Some (token, behind) ≡ Some (f.token, f.behind) = sym r ∙ f.reads in
+      let pair : (token, behind) ≡ (f.token, f.behind) = cc in
+      let tokens : token ≡ f.token = ap (λ (p : Token × List ℕ). p.0) pair in
+      let behinds : behind ≡ f.behind = ap (λ (p : Token × List ℕ). p.1) pair in
+      let i : Rest size rest ps f.others = later f.others (subst (λ (t : List ℕ). HasPieces size t f.others []) (sym behinds) f.has) in
+      record {
+        more = i.more;
+        parts = f.parts ∙ (ap₂ (λ (t : Token) (xs : List Placed). pieces_of (place_of size text) t ++ xs) (sym tokens) i.parts
+            ∙ sym (append_assoc (pieces_of (place_of size text) token) ps i.more));
+        has = i.has;
+      }
+
+  rest_any : (qs : List Placed) → ((text ≡ []) × (qs ≡ [])) ⊎ First size text qs → Rest size rest (pieces_of (place_of size text) token ++ ps) qs
+  rest_any qs (inl e) = let none : token_at size [] ≡ Some (token, behind) = ap (λ (t : List ℕ). token_at size t) (sym e.0) ∙ r in absurd (cc)
+  rest_any qs (inr f) = rest_first qs f
+
 pub has_rest : (size : ℕ) {text rest : List ℕ} {ps : List Placed} → HasPieces size text ps rest → (qs : List Placed) → HasPieces size text qs [] → Rest size rest ps qs
 has_rest size no_token qs k = record { more = qs; parts = refl; has = k }
-has_rest size (one_token {text = text} {behind = behind} {rest = rest} {token = token} {pieces = ps} r h) qs k = go (first_of size k refl)
-  where
-    from : (f : First size text qs) → Rest size rest (pieces_of (place_of size text) token ++ ps) qs
-    from f =
-        let both : Some (token, behind) ≡ Some (f.token, f.behind) = sym r ∙ f.reads in
-        let pair : (token, behind) ≡ (f.token, f.behind) = cc in
-        let tokens : token ≡ f.token = ap (λ (p : Token × List ℕ). p.0) pair in
-        let behinds : behind ≡ f.behind = ap (λ (p : Token × List ℕ). p.1) pair in
-        let i : Rest size rest ps f.others = has_rest size h f.others (subst (λ (t : List ℕ). HasPieces size t f.others []) (sym behinds) f.has) in
-        record {
-          more = i.more;
-          parts = f.parts ∙ (ap₂ (λ (t : Token) (xs : List Placed). pieces_of (place_of size text) t ++ xs) (sym tokens) i.parts
-              ∙ sym (append_assoc (pieces_of (place_of size text) token) ps i.more));
-          has = i.has;
-        }
+has_rest size (one_token r h) qs k = rest_any size r (λ vs m. has_rest size h vs m) qs (first_of size k refl)
 
-    go : ((text ≡ []) × (qs ≡ [])) ⊎ First size text qs → Rest size rest (pieces_of (place_of size text) token ++ ps) qs
-    go (inl e) =
-        let none : token_at size [] ≡ Some (token, behind) = ap (λ (t : List ℕ). token_at size t) (sym e.0) ∙ r in
-        absurd (cc)
-    go (inr f) = from f
+-- an empty text has no pieces
+pub no_pieces : (size : ℕ) (text : List ℕ) (qs : List Placed) → text ≡ [] → HasPieces size text qs [] → qs ≡ []
+no_pieces size text qs is h = go (first_of size h refl)
+  where
+    go : ((text ≡ []) × (qs ≡ [])) ⊎ First size text qs → qs ≡ []
+    go (inl e) = e.1
+    go (inr f) = let none : token_at size [] ≡ Some (f.token, f.behind) = ap (λ (t : List ℕ). token_at size t) (sym is) ∙ f.reads in absurd (cc)
