@@ -9,8 +9,9 @@ abbrev pub element : ℕ → Tag → Option ℕ → List ℕ → Element
 element at tag parent text = record { at = at; tag = tag; parent = parent; text = text }
 
 -- What the pieces between two tags are: characters, which are the text, and elements, a start tag, what is in it, and
--- an end tag of the same name. At most `depth` more elements are open at one place. `parent` is the index of the element
--- around, and `next` the number of elements that begin before. In the list each element comes before those in it.
+-- an end tag of the same name. At most `depth` more elements are open at one place. `parent` is the index of the
+-- element around, and `next` the number of elements that begin before. In the list each element comes before those in
+-- it.
 pub data Content : ℕ → ℕ → ℕ → List Placed → List ℕ → List Element → Type 0 where
   nothing : {depth parent next : ℕ} → Content depth parent next [] [] []
   a_character : {depth parent next at c : ℕ} {pieces : List Placed} {text : List ℕ} {elements : List Element} →

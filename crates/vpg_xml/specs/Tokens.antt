@@ -145,7 +145,8 @@ unfoldable pub attributes_with : ℕ → ℕ → List Attribute → List ℕ →
 attributes_with zero size before text = Some (before, text)
 attributes_with (suc n) size before text =
     if has_attribute text
-    then (attribute_at size text >>= λ a. if_new (is_new before a.0.name) (attributes_with n size (before ++ a.0 ∷ []) a.1))
+    then (attribute_at size text >>= λ a.
+    if_new (is_new before a.0.name) (attributes_with n size (before ++ a.0 ∷ []) a.1))
     else Some (before, text)
 
 -- the attributes at the front, 64 at most, no two of one name, and the text after them

@@ -78,7 +78,8 @@ IsPieceError s at piece fault =
 -- the fault of a text that begins no token, at a place
 abbrev pub unreadable : ℕ → List ℕ → XmlFault
 unreadable at [] = faults.Unfinished at
-unreadable at (b ∷ text) = if b == 38 then faults.Reference at else (if b == 60 then faults.Markup at else faults.Character at)
+unreadable at (b ∷ text) =
+    if b == 38 then faults.Reference at else (if b == 60 then faults.Markup at else faults.Character at)
 
 abbrev pub is_empty : {A : Type 0} → List A → Bool
 is_empty [] = true

@@ -7,9 +7,9 @@
 //!
 //! The crates above use `read_document`, and of its elements the tag, the parent, the text, and the places.
 //!
-//! Definitions stand in `specs/`: `Elements` (documents as lists of elements), `Tokens` (the tokens of a text), `Nesting`
-//! (which text spells which document), `Faults` (which fault a text has, and where). `Reading` and `View` are the reader
-//! as a function on lists; only private contracts name them.
+//! Definitions stand in `specs/`: `Elements` (documents as lists of elements), `Tokens` (the tokens of a text),
+//! `Nesting` (which text spells which document), `Faults` (which fault a text has, and where). `Reading` and `View` are
+//! the reader as a function on lists; only private contracts name them.
 #![tactic(auto)]
 
 mod element;
