@@ -1,0 +1,3 @@
+pub mod Roles
+pub mod Model
+pub mod View

@@ -1,0 +1,16 @@
+//! Feature models of FeatureIDE, read from their `model.xml`.
+//!
+//! A layer above uses `read_model`: the names of the features, what each one asks of its children, where each one is,
+//! and the constraints. Elements that say nothing of products are read over, and abstract features are features.
+//!
+//! Definitions stand in `specs/`: `Roles` (what an element is, by the element around it), `Model` (the features), and
+//! `Formulas` (the constraints). Only private contracts name `View`.
+#![tactic(auto)]
+
+mod builder;
+mod fault;
+mod role;
+
+pub use builder::Member;
+pub use fault::ModelFault;
+pub use role::Role;
