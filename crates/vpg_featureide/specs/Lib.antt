@@ -1,3 +1,4 @@
 pub mod Roles
 pub mod Model
+pub mod Formulas
 pub mod View

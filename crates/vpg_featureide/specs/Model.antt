@@ -56,7 +56,7 @@ name_fault names name at =
     else (if is_some (index_of names name) then Some (faults.Twice at)
     else (if nat_lt (length names) 512 then None else Some (faults.TooMany at)))
 
--- the kind of the element around
+-- the role of the element around
 abbrev pub around : List Role → Option ℕ → Role
 around roles None = Outside
 around roles (Some p) = slice_index_or roles p Outside

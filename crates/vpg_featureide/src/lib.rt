@@ -9,8 +9,11 @@
 
 mod builder;
 mod fault;
+mod formula;
+mod model;
 mod role;
 
 pub use builder::Member;
 pub use fault::ModelFault;
+pub use model::{Model, read_model};
 pub use role::Role;
