@@ -72,8 +72,12 @@ def flag(node, name):
 class Model:
     def __init__(self):
         self.names, self.groups, self.places, self.rules = [], [], [], []
+        self.kinds, self.members = [], []
 
     def add(self, node):
+        for key, _ in node.attributes:
+            if key in (b"mandatory", b"abstract", b"hidden"):
+                flag(node, key)
         name = value(node, b"name")
         if name is None:
             raise Refused(f"NoName {node.number}")
@@ -83,11 +87,6 @@ class Model:
             raise Refused(f"Twice {node.number}")
         if len(self.names) == MOST_FEATURES:
             raise Refused(f"TooMany {node.number}")
-        for other in (b"mandatory", b"abstract", b"hidden"):
-            flag(node, other)
-        for key, _ in node.attributes:
-            if key not in (b"name", b"mandatory", b"abstract", b"hidden"):
-                raise Refused(f"UnknownAttribute {node.number}")
         self.names.append(name)
         return len(self.names) - 1
 
@@ -95,8 +94,10 @@ class Model:
         """The feature of an element and those below it; its group is given by a function, after its name is known."""
         kind = node.tag.decode()
         number = self.add(node)
+        self.kinds.append(kind)
         if group is not None:
             self.places.append(group(node))
+            self.members.append((self.groups[self.places[-1]][0], flag(node, b"mandatory")))
         shared = []
 
         def group_of(child):

@@ -9,6 +9,8 @@ use Rattle.vpg_xml.specs.Elements.{Element, Document}
 use Rattle.vpg_xml.specs.Tokens.{is_blank}
 use Rattle.vpg_xml.specs.Nesting.{Spells}
 use Rattle.vpg_xml.specs.Faults.{IsAt}
+use Rattle.vpg_xml.specs.declared.fault.XmlFault.{XmlFault}
+use Rattle.vpg_xml.specs.declared.fault.XmlFault.TheVariants as xml_faults
 use Rattle.vpg_featureide.specs.Roles.{Role, Outside, Rule, Formula}
 use Rattle.vpg_featureide.specs.Model.{Seen, Member, nothing, seen_with}
 use Rattle.vpg_featureide.specs.declared.fault.ModelFault.{ModelFault}
@@ -155,8 +157,12 @@ pub record IsFaulty (text : List ℕ) (fault : ModelFault) : Type 0 where
 abbrev pub IsRefusedAs : Document → ModelFault → Type 0
 IsRefusedAs d fault = (fault ≡ faults.Memory) ⊎ (model_of d ≡ Err fault)
 
--- the fault of a text: it is no document, and XML has this fault, or its document is refused so
+-- the fault of a model for one of XML
+abbrev pub of_xml : XmlFault → ModelFault
+of_xml xml_faults.Memory = faults.Memory
+of_xml fault = faults.Xml fault
+
+-- memory ran out, or the text is no document, and XML has this fault, or its document is refused so
 abbrev pub IsFaultOf : List ℕ → ModelFault → Type 0
-IsFaultOf text faults.Memory = Unit {0}
-IsFaultOf text (faults.Xml fault) = IsAt text fault
-IsFaultOf text fault = IsFaulty text fault
+IsFaultOf text fault =
+    (fault ≡ faults.Memory) ⊎ (((x : XmlFault) × (fault ≡ faults.Xml x) × IsAt text x) ⊎ IsFaulty text fault)

@@ -3,7 +3,6 @@ ghost use Rattle.std.specs.Prelude.{◌≡◌, ◌≤◌, [], length, map, slice
 ghost use Rattle.std.specs.List.{list_all, prefix_len};
 ghost use Rattle.vpg_rules.specs.Constraint.{Constraint, negation, all, any};
 ghost use Rattle.vpg_rules.specs.View.{constraint_of};
-ghost use Rattle.vpg_xml.specs.Elements.{Element as Written};
 ghost use Rattle.vpg_xml.specs.Tokens.{is_blank};
 ghost use Rattle.vpg_featureide.specs.Roles.{Outside};
 ghost use Rattle.vpg_xml.specs.View.{element_of, elements_of};
@@ -244,9 +243,10 @@ fn formula(
         Ok(parts) => parts,
         Err(fault) => return Err(fault),
     };
-    match elements.get(i) {
-        Some(e) => joined(alloc, names, e, parts),
-        None => Err(ModelFault::Operands { at: 0 }),
+    if i < elements.len() {
+        joined(alloc, names, &elements[i], parts)
+    } else {
+        Err(ModelFault::Operands { at: 0 })
     }
 }
 
@@ -290,15 +290,15 @@ fn rule_at(
     roles: &[Role],
     elements: &[Element],
     i: usize,
-    at: usize,
+    e: &Element,
 ) -> Result<Rule, ModelFault>
-    ensures ok { IfOk result (λ r. (e : Written) → at ≡ e.at →
-        rule_at names.now roles.now (elements_of elements.now) i e ≡ Ok (constraint_of r)) }
-    ensures err { IfErr result (λ fault. (e : Written) → at ≡ e.at →
-        IsRefused (rule_at names.now roles.now (elements_of elements.now) i e) fault) }
+    ensures ok { IfOk result (λ r. rule_at names.now roles.now (elements_of elements.now) i (element_of e.now)
+        ≡ Ok (constraint_of r)) }
+    ensures err { IfErr result
+        (IsRefused (rule_at names.now roles.now (elements_of elements.now) i (element_of e.now))) }
 {
     match operands(alloc, names, roles, elements, i, DEEPEST) {
-        Ok(parts) => only(at, parts),
+        Ok(parts) => only(e.at, parts),
         Err(fault) => Err(fault),
     }
 }
@@ -318,7 +318,7 @@ pub(crate) fn rules(
     let mut found = Vec::new(alloc);
     for (i, e) in elements.iter().enumerate() {
         if is_rule(role_at(roles, i)) {
-            let rule = match rule_at(alloc, names, roles, elements, i, e.at) {
+            let rule = match rule_at(alloc, names, roles, elements, i, e) {
                 Ok(rule) => rule,
                 Err(fault) => return Err(fault),
             };

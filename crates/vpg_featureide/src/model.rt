@@ -1,10 +1,10 @@
 //! Feature models, read from their text.
-ghost use Rattle.std.specs.Prelude.{◌≡◌, ◌⊎◌, Ok, Err, IfOk, IfErr};
+ghost use Rattle.std.specs.Prelude.{◌≡◌, Ok, IfOk, IfErr};
 ghost use Rattle.vpg_xml.specs.Elements.{Document};
 ghost use Rattle.vpg_xml.specs.Nesting.{Spells};
 ghost use Rattle.vpg_xml.specs.View.{elements_of};
 ghost use Rattle.vpg_featureide.specs.Model.{nothing, seen_with};
-ghost use Rattle.vpg_featureide.specs.Formulas.{model_of, IsModelOf, IsRefusedAs, IsFaultOf};
+ghost use Rattle.vpg_featureide.specs.Formulas.{of_xml, model_of, IsModelOf, IsRefusedAs, IsFaultOf};
 ghost use Rattle.vpg_featureide.specs.View.{seen_of, model_in, IsRefused};
 
 use crate::builder::{Builder, Member};
@@ -76,6 +76,16 @@ fn model_of(alloc: Global, elements: &[Element]) -> Result<Model, ModelFault>
     })
 }
 
+/// Returns the fault of a text that is no document.
+fn of_xml(fault: XmlFault) -> ModelFault
+    ensures { result ≡ of_xml fault }
+{
+    match fault {
+        XmlFault::Memory => ModelFault::Memory,
+        fault => ModelFault::Xml(fault),
+    }
+}
+
 /// Returns the feature model that a text spells. An error is that of XML, if the text is no document, or else the first
 /// of the features, or else the first of the constraints.
 pub fn read_model(alloc: Global, text: &[u8]) -> Result<Model, ModelFault>
@@ -86,7 +96,6 @@ pub fn read_model(alloc: Global, text: &[u8]) -> Result<Model, ModelFault>
 {
     match read_document(alloc, text) {
         Ok(elements) => model_of(alloc, &elements),
-        Err(XmlFault::Memory) => Err(ModelFault::Memory),
-        Err(fault) => Err(ModelFault::Xml(fault)),
+        Err(fault) => Err(of_xml(fault)),
     }
 }
