@@ -1,0 +1,5 @@
+pub mod Rows
+pub mod Items
+pub mod Nesting
+pub mod Model
+pub mod Views
