@@ -46,14 +46,14 @@ def document(text):
     def said(data):
         around[-1].text += data.encode()
 
-    reader = expat.ParserCreate()
+    reader = expat.ParserCreate("UTF-8")
     reader.ordered_attributes = True
     reader.buffer_text = True
     reader.StartElementHandler, reader.EndElementHandler = start, lambda tag: around.pop()
     reader.CharacterDataHandler = said
     try:
         reader.Parse(text, True)
-    except expat.ExpatError as fault:
+    except (expat.ExpatError, LookupError, ValueError) as fault:
         raise Refused(f"XML {fault}") from fault
     return found
 
@@ -71,8 +71,7 @@ def flag(node, name):
 
 class Model:
     def __init__(self):
-        self.names, self.groups, self.places, self.rules = [], [], [], []
-        self.kinds, self.members = [], []
+        self.names, self.kinds, self.members, self.rules = [], [], [], []
 
     def add(self, node):
         for key, _ in node.attributes:
@@ -90,29 +89,17 @@ class Model:
         self.names.append(name)
         return len(self.names) - 1
 
-    def feature(self, node, group):
-        """The feature of an element and those below it; its group is given by a function, after its name is known."""
+    def feature(self, node, parent):
+        """The feature of an element, and those below it."""
         kind = node.tag.decode()
         number = self.add(node)
         self.kinds.append(kind)
-        if group is not None:
-            self.places.append(group(node))
-            self.members.append((self.groups[self.places[-1]][0], flag(node, b"mandatory")))
-        shared = []
-
-        def group_of(child):
-            if kind == "and":
-                self.groups.append((number, "mandatory" if flag(child, b"mandatory") else "optional"))
-                return len(self.groups) - 1
-            if not shared:
-                self.groups.append((number, "alternative" if kind == "alt" else "or"))
-                shared.append(len(self.groups) - 1)
-            return shared[0]
-
+        if parent is not None:
+            self.members.append((parent, flag(node, b"mandatory")))
         for child in node.children:
             tag = child.tag.decode()
             if tag in KINDS and kind != "feature":
-                self.feature(child, group_of)
+                self.feature(child, number)
             elif tag not in ("graphics", "description", "attribute"):
                 raise Refused(f"UnknownElement {child.number}")
 
@@ -190,15 +177,17 @@ def shown(names, f, least=0):
 
 
 def diagram(model):
-    """The lines of the diagram: each group in order, and each constraint."""
+    """The lines of the diagram: for each feature those of its children, mandatory ones first, and then constraints."""
     lines = ["root " + model.names[0].decode()]
-    for number, (parent, kind) in enumerate(model.groups):
-        members = [model.names[i + 1].decode() for i, place in enumerate(model.places) if place == number]
-        above = model.names[parent].decode()
-        if kind in ("mandatory", "optional"):
-            lines += [f"{kind} {above} {member}" for member in members]
-        else:
-            lines.append(f"{kind} {above}: " + " ".join(members))
+    for number, kind in enumerate(model.kinds):
+        children = [(i + 1, flagged) for i, (parent, flagged) in enumerate(model.members) if parent == number]
+        above = model.names[number].decode()
+        if kind == "and":
+            for wanted, word in ((True, "mandatory"), (False, "optional")):
+                lines += [f"{word} {above} {model.names[i].decode()}" for i, flagged in children if flagged == wanted]
+        elif children:
+            word = "alternative" if kind == "alt" else "or"
+            lines.append(f"{word} {above}: " + " ".join(model.names[i].decode() for i, _ in children))
     for f in model.rules:
         if f[0] == "imp" and f[1][0] == "var" and f[2][0] == "var":
             lines.append(f"requires {shown(model.names, f[1])} {shown(model.names, f[2])}")
@@ -271,7 +260,8 @@ class Writer:
         struct = self.tag("struct", [], self.gap() + self.feature(self.r.randint(0, 4)))
         parts = [struct]
         if self.r.random() < 0.8:
-            rules = [self.tag("rule", [], self.gap() + self.formula(self.r.randint(0, 4))) for _ in range(self.r.randint(0, 4))]
+            number = self.r.randint(0, 4)
+            rules = [self.tag("rule", [], self.gap() + self.formula(self.r.randint(0, 4))) for _ in range(number)]
             parts.append(self.tag("constraints", [], self.gap() + self.gap().join(rules)))
         if self.r.random() < 0.3:
             parts.insert(0, self.tag("properties", [], self.gap() + self.tag("graphics", [("key", "k")], "")))

@@ -1,5 +1,5 @@
 -- Constraints of operands, elements by their indices, and faults of XML.
-use Rattle.std.proofs.Common.{◌≡◌, ℕ, zero, suc, ◌+◌, ◌-◌, ◌<◌, ◌≤◌, Bool, true, false, cond, List, [], ◌∷◌, ◌++◌, length, map, drop, get_or, Option, Some, None, Result, Ok, Err, ◌⊎◌, inl, inr, refl, sym, ap, subst, ◌∙◌, arith}
+use Rattle.std.proofs.Common.{◌≡◌, ℕ, zero, suc, ◌+◌, ◌-◌, ◌<◌, ◌≤◌, Bool, true, false, cond, List, [], ◌∷◌, ◌++◌, length, drop, get_or, Some, None, Result, Ok, Err, inl, inr, refl, sym, ap, subst, ◌∙◌, arith}
 use Rattle.std.specs.Prelude.{slice_get, slice_index_or}
 use Rattle.std.proofs.lemmas.List.{length-map, at_drop_more}
 use Rattle.std.proofs.lemmas.Option.{slice_get_past}
@@ -13,7 +13,7 @@ use Rattle.vpg_xml.specs.declared.element.Element as code_element
 use Rattle.vpg_xml.specs.declared.fault.XmlFault.{XmlFault}
 use Rattle.vpg_xml.specs.declared.fault.XmlFault.TheVariants as xml_faults
 use Rattle.vpg_featureide.specs.Roles.{Role, Outside}
-use Rattle.vpg_featureide.specs.Formulas.{◌>>=◌, alone, several, operands_with, joined_if, formula_with, is_rule, rule_at, rules_with, model_of, IsFaulty, IsRefusedAs, IsFaultOf, of_xml}
+use Rattle.vpg_featureide.specs.Formulas.{◌>>=◌, alone, several, operands_with, joined_if, formula_with, is_rule, rule_at, rules_with, model_of, IsRefusedAs, IsFaultOf, of_xml}
 use Rattle.vpg_featureide.specs.View.{IsRefused}
 use Rattle.vpg_featureide.specs.declared.fault.ModelFault.{ModelFault}
 use Rattle.vpg_featureide.specs.declared.fault.ModelFault.TheVariants as faults
@@ -103,3 +103,9 @@ xml_fault text (xml_faults.SecondRoot at) h = inr (inl (xml_faults.SecondRoot at
 xml_fault text (xml_faults.TooDeep at) h = inr (inl (xml_faults.TooDeep at, refl, h))
 xml_fault text (xml_faults.Outside at) h = inr (inl (xml_faults.Outside at, refl, h))
 xml_fault text (xml_faults.Unfinished at) h = inr (inl (xml_faults.Unfinished at, refl, h))
+
+pub memory_as : (d : Document) (fault : ModelFault) → fault ≡ faults.Memory → IsRefusedAs d fault
+memory_as d fault m = inl m
+
+pub memory_of : (text : List ℕ) (fault : ModelFault) → fault ≡ faults.Memory → IsFaultOf text fault
+memory_of text fault m = inl m

@@ -84,8 +84,8 @@ pair at make (c ∷ []) = Err (faults.Operands at)
 pair at make (c ∷ d ∷ []) = Ok (make c d)
 pair at make (c ∷ d ∷ b ∷ cs) = Err (faults.Operands at)
 
--- The constraint of an element, by its operands: `var`, `not`, `conj`, `disj`, `imp`, `eq`. A conjunction or disjunction
--- of one operand is that operand.
+-- The constraint of an element, by its operands: `var`, `not`, `conj`, `disj`, `imp`, `eq`. A conjunction or
+-- disjunction of one operand is that operand.
 abbrev pub joined : List (List ℕ) → Element → List Constraint → Result Constraint ModelFault
 joined names e cs =
     if bytes_eq e.tag.name (codes "var") then variable names e cs

@@ -1,9 +1,9 @@
 -- The features of a feature model, element by element: the format of FeatureIDE (Thüm et al., 2014).
-use Rattle.std.specs.Prelude.{◌≡◌, ℕ, ◌+◌, List, [], ◌∷◌, ◌++◌, length, Bool, true, false, not, ◌&&◌, ◌||◌, if◌then◌else◌, codes, bytes_eq, nat_le, nat_lt, is_some, slice_index_or, Option, Some, None, Result, Ok, Err}
+use Rattle.std.specs.Prelude.{ℕ, List, [], ◌∷◌, ◌++◌, length, Bool, false, not, ◌&&◌, ◌||◌, if◌then◌else◌, codes, bytes_eq, nat_le, nat_lt, is_some, slice_index_or, Option, Some, None, Result, Ok, Err}
 use Rattle.std.specs.List.{list_all}
 use Rattle.vpg_features.specs.Names.{is_name_byte, starts_as_name, constant_of, index_of}
 use Rattle.vpg_xml.specs.Elements.{Attribute, Element, Document}
-use Rattle.vpg_featureide.specs.Roles.{Role, Outside, Structure, role_under, is_feature}
+use Rattle.vpg_featureide.specs.Roles.{Role, Outside, role_under, is_feature}
 use Rattle.vpg_featureide.specs.declared.fault.ModelFault.{ModelFault}
 use Rattle.vpg_featureide.specs.declared.fault.ModelFault.TheVariants as faults
 pub use Rattle.vpg_featureide.specs.declared.builder.Member.{Member}

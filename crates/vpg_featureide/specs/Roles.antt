@@ -13,7 +13,8 @@ feature_role name =
 
 -- an element of a feature that says nothing of products
 abbrev pub is_remark : List ℕ → Bool
-is_remark name = bytes_eq name (codes "description") || (bytes_eq name (codes "graphics") || bytes_eq name (codes "attribute"))
+is_remark name =
+    bytes_eq name (codes "description") || (bytes_eq name (codes "graphics") || bytes_eq name (codes "attribute"))
 
 abbrev pub remark_role : List ℕ → Option Role
 remark_role name = if is_remark name then Some Over else None

@@ -115,7 +115,8 @@ fn variable(names: &Names, e: &Element, parts: Vec<Rule>) -> Result<Rule, ModelF
 /// Returns the only one of some rules.
 fn only(at: usize, parts: Vec<Rule>) -> Result<Rule, ModelFault>
     ensures ok { IfOk result (λ r. alone at (λ c. c) (map constraint_of parts.items) ≡ Ok (constraint_of r)) }
-    ensures err { IfErr result (λ e. (make : Constraint → Constraint) → alone at make (map constraint_of parts.items) ≡ Err e) }
+    ensures err { IfErr result
+        (λ e. (make : Constraint → Constraint) → alone at make (map constraint_of parts.items) ≡ Err e) }
     ensures make { IfOk result (λ r. (make : Constraint → Constraint) →
         alone at make (map constraint_of parts.items) ≡ Ok (make (constraint_of r))) }
 {
@@ -263,7 +264,8 @@ fn operands(
     ensures ok { IfOk result (λ v. operands_with (formula_with depth names.now roles.now (elements_of elements.now))
         roles.now i 0 [] (elements_of elements.now) ≡ Ok (map constraint_of v.items)) }
     ensures err { IfErr result (IsRefused (operands_with
-        (formula_with depth names.now roles.now (elements_of elements.now)) roles.now i 0 [] (elements_of elements.now))) }
+        (formula_with depth names.now roles.now (elements_of elements.now)) roles.now i 0 []
+        (elements_of elements.now))) }
 {
     let mut parts = Vec::new(alloc);
     for (j, e) in elements.iter().enumerate() {

@@ -4,10 +4,10 @@ use Rattle.std.specs.Prelude.{bytes_eq}
 use Rattle.std.proofs.lemmas.List.{append-nil, length-append}
 use Rattle.std.proofs.lemmas.Bool.{lt-ltb, ltb-true}
 use Rattle.std.proofs.lemmas.Slice.Eq.{bytes_eq-Decides}
-use Rattle.vpg_xml.specs.Elements.{Tag, Element, Document, Piece, Placed, opening, closing, character}
+use Rattle.vpg_xml.specs.Elements.{Tag, Element, Piece, Placed, opening, closing, character}
 use Rattle.vpg_xml.specs.Tokens.{is_blank}
 use Rattle.vpg_xml.specs.Nesting.{element, Content, nothing, a_character, an_element, AreBlanks, no_more, one_more, IsDocument}
-use Rattle.vpg_xml.specs.Reading.{Frame, State, Refusal, mismatch, second_root, too_deep, outside, start, more_text, add_text, with_element, step, and_then, run}
+use Rattle.vpg_xml.specs.Reading.{Frame, State, Refusal, mismatch, too_deep, outside, start, more_text, add_text, with_element, step, and_then, run}
 use Rattle.vpg_xml.specs.View.{is_whole}
 
 abbrev Pieces : Type 0

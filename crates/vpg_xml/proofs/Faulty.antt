@@ -1,5 +1,5 @@
 -- Where reading stops, no document goes on.
-use Rattle.std.proofs.Common.{◌≡◌, ℕ, zero, suc, ◌+◌, ◌<◌, ◌≤◌, Bool, true, false, ◌==◌, cond, nat_lt, List, [], ◌∷◌, ◌++◌, length, Option, Some, None, Result, Ok, Err, ◌⊎◌, inl, inr, refl, sym, ap, subst, ◌∙◌, arith, append_assoc, eqb-true}
+use Rattle.std.proofs.Common.{◌≡◌, ℕ, suc, ◌+◌, ◌<◌, ◌≤◌, Bool, true, false, ◌==◌, cond, nat_lt, List, [], ◌∷◌, ◌++◌, length, Some, None, Result, Ok, Err, ◌⊎◌, inl, inr, refl, sym, ap, subst, ◌∙◌, arith, append_assoc, eqb-true}
 use Rattle.std.specs.Prelude.{bytes_eq, count_by}
 use Rattle.std.proofs.lemmas.List.{append-nil}
 use Rattle.std.proofs.lemmas.List.Sums.{sum_by-cons}
@@ -7,13 +7,13 @@ use Rattle.std.proofs.lemmas.Bool.{ltb-true, ltb-false}
 use Rattle.vpg_xml.specs.Elements.{Tag, Element, Document, Piece, Placed, opening, closing, character}
 use Rattle.vpg_xml.specs.Tokens.{is_blank, Token, token_at, pieces_of, place_of, HasPieces, body_of}
 use Rattle.vpg_xml.specs.Nesting.{element, IsDocument, Spells}
-use Rattle.vpg_xml.specs.Faults.{BeginsDocument, IsGoodUpTo, IsAt, is_opening, is_closing, is_character, AreOpen}
+use Rattle.vpg_xml.specs.Faults.{BeginsDocument, IsGoodUpTo, IsAt, is_opening, is_closing, is_character}
 use Rattle.vpg_xml.specs.Reading.{Frame, State, Refusal, mismatch, second_root, too_deep, outside, start, with_element, open_first, open_in, close_in, say_in, step, and_then, run}
-use Rattle.vpg_xml.specs.View.{is_whole, fault_of, unreadable, IsRefusedBy, IsStepError, Halts, by_memory, by_text, by_piece, by_end, IsReadTo}
+use Rattle.vpg_xml.specs.View.{is_whole, fault_of, unreadable, IsStepError, Halts, by_memory, by_text, by_piece, by_end, IsReadTo}
 use Rattle.vpg_xml.specs.declared.fault.XmlFault.{XmlFault}
 use Rattle.vpg_xml.specs.declared.fault.XmlFault.TheVariants as faults
 use Rattle.vpg_xml.proofs.Pieces.{First, first_of, Rest, has_rest, no_pieces}
-use Rattle.vpg_xml.proofs.Contents.{run_cons, run_first, run_end, run_append, run_after, closes, document_found, document_runs}
+use Rattle.vpg_xml.proofs.Contents.{run_cons, run_first, run_end, run_after, closes, document_found, document_runs}
 
 abbrev Pieces : Type 0
 Pieces = List Placed

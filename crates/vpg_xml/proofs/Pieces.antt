@@ -1,5 +1,5 @@
 -- The pieces of a text, one token after the other.
-use Rattle.std.proofs.Common.{◌≡◌, ℕ, List, [], ◌∷◌, ◌++◌, Option, Some, None, ◌⊎◌, inl, inr, refl, sym, ap, ap₂, subst, ◌∙◌, append_assoc}
+use Rattle.std.proofs.Common.{◌≡◌, ℕ, List, [], ◌++◌, Some, ◌⊎◌, inl, inr, refl, sym, ap, ap₂, subst, ◌∙◌, append_assoc}
 use Rattle.std.proofs.lemmas.List.{append-nil}
 use Rattle.vpg_xml.specs.Elements.{Placed}
 use Rattle.vpg_xml.specs.Tokens.{Token, token_at, pieces_of, place_of, HasPieces, no_token, one_token}

@@ -1,16 +1,15 @@
 -- The code's values as states: characters, tags and tokens.
-use Rattle.std.proofs.Common.{◌≡◌, ℕ, zero, suc, ◌<◌, ◌≤◌, Bool, true, false, cond, List, [], ◌∷◌, ◌++◌, length, map, set, get_or, reverse, Option, Some, None, Result, Ok, Err, OnOk, IfOk, IfErr, ◌⊎◌, inl, inr, refl, sym, ap, subst, ◌∙◌, arith}
+use Rattle.std.proofs.Common.{◌≡◌, ℕ, zero, suc, ◌<◌, ◌≤◌, Bool, true, false, cond, List, [], ◌∷◌, ◌++◌, length, map, set, get_or, reverse, Option, Result, Ok, Err, OnOk, IfOk, IfErr, inl, inr, refl, ap, ◌∙◌, arith}
 use Rattle.std.specs.Prelude.{bytes_eq}
-use Rattle.std.proofs.lemmas.List.{map-append, reverse-append, length-map}
+use Rattle.std.proofs.lemmas.List.{map-append, reverse-append}
 use Rattle.std.proofs.lemmas.Slice.Eq.{bytes_eq-Decides}
-use Rattle.vpg_xml.specs.Elements.{Tag, Element, Piece, Placed, opening, closing, character}
+use Rattle.vpg_xml.specs.Elements.{Tag, Element, Piece, Placed, opening, closing}
 use Rattle.vpg_xml.specs.Tokens.{Token, a_start, pieces_of}
 use Rattle.vpg_xml.specs.Nesting.{element}
 use Rattle.vpg_xml.specs.Reading.{Frame, State, Refusal, mismatch, more_text, add_text, with_element, step, and_then, run}
-use Rattle.vpg_xml.specs.View.{element_of, elements_of, frame_of, tag_of, token_of, state_of, IsPieceError, IsStepError}
+use Rattle.vpg_xml.specs.View.{element_of, elements_of, frame_of, tag_of, IsPieceError, IsStepError}
 use Rattle.vpg_xml.specs.declared.element.Element as code_element
 use Rattle.vpg_xml.specs.declared.element.Tag as code_tag
-use Rattle.vpg_xml.specs.declared.token.Token as code_token
 use Rattle.vpg_xml.specs.declared.reader.Open.{Open}
 use Rattle.vpg_xml.specs.declared.fault.XmlFault.{XmlFault}
 

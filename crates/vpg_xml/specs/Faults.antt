@@ -1,5 +1,5 @@
 -- Where a text is no document: at the first token that cannot come there. This project's own.
-use Rattle.std.specs.Prelude.{◌≡◌, ℕ, ◌+◌, List, [], ◌∷◌, ◌++◌, length, map, count_by, Bool, true, false, Option, Some, None}
+use Rattle.std.specs.Prelude.{◌≡◌, ℕ, ◌+◌, List, [], ◌∷◌, ◌++◌, length, count_by, Bool, true, false, Option, Some, None}
 use Rattle.vpg_xml.specs.Elements.{Document, Piece, Placed, opening, closing, character}
 use Rattle.vpg_xml.specs.Tokens.{Token, token_at, pieces_of, place_of, HasPieces, body_of}
 use Rattle.vpg_xml.specs.Nesting.{IsDocument}

@@ -1,5 +1,5 @@
 -- Reading pieces from left to right, as a function on lists, for the reader's private contracts. This project's own.
-use Rattle.std.specs.Prelude.{◌≡◌, ℕ, zero, suc, List, [], ◌∷◌, ◌++◌, length, Bool, true, false, if◌then◌else◌, bytes_eq, nat_lt, Option, Some, None, Result, Ok, Err}
+use Rattle.std.specs.Prelude.{ℕ, zero, suc, List, [], ◌∷◌, ◌++◌, length, if◌then◌else◌, bytes_eq, nat_lt, Option, Some, None, Result, Ok, Err}
 use Rattle.vpg_xml.specs.Elements.{Tag, Element, Piece, Placed, opening, closing, character}
 use Rattle.vpg_xml.specs.Tokens.{is_blank}
 use Rattle.vpg_xml.specs.Nesting.{element}

@@ -1,7 +1,7 @@
 -- The tokens of a text: W3C, Extensible Markup Language (XML) 1.0, for names of ASCII, and without document types,
 -- processing instructions, and sections of `CDATA`. This project's own: bytes above 127 stand for themselves, ends of
 -- lines and blanks stay as they are, and `]]>` may stand in a text.
-use Rattle.std.specs.Prelude.{◌≡◌, ℕ, zero, suc, ◌+◌, ◌*◌, ◌-◌, List, [], ◌∷◌, ◌++◌, length, map, take, drop, Bool, true, false, not, ◌&&◌, ◌||◌, ◌==◌, if◌then◌else◌, nat_le, nat_lt, min, codes, bytes_eq, position, Option, Some, None, option_map, option_and_then}
+use Rattle.std.specs.Prelude.{◌≡◌, ℕ, zero, suc, ◌+◌, ◌*◌, ◌-◌, List, [], ◌∷◌, ◌++◌, length, take, drop, Bool, true, false, not, ◌&&◌, ◌||◌, ◌==◌, if◌then◌else◌, nat_le, nat_lt, min, codes, bytes_eq, position, Option, Some, None, option_and_then}
 use Rattle.std.specs.Char.{is_ascii_alphabetic, is_ascii_digit}
 use Rattle.std.specs.List.{prefix_len, list_any, list_all}
 use Rattle.vpg_xml.specs.Elements.{Attribute, Tag, Placed, opening, closing, character}

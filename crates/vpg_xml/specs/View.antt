@@ -1,5 +1,5 @@
 -- The code's values in the words of the definitions. This project's own.
-use Rattle.std.specs.Prelude.{◌≡◌, ℕ, ◌<◌, List, [], ◌∷◌, length, Bool, true, false, not, ◌&&◌, ◌==◌, if◌then◌else◌, map, reverse, Option, Some, None, option_map, Result, Ok, Err, ◌⊎◌}
+use Rattle.std.specs.Prelude.{◌≡◌, ℕ, ◌<◌, List, [], ◌∷◌, length, Bool, true, false, not, ◌&&◌, ◌==◌, if◌then◌else◌, map, reverse, Option, Some, None, option_map, Ok, Err, ◌⊎◌}
 use Rattle.std.specs.Borrow.{Bor}
 use Rattle.vpg_xml.specs.Elements.{Attribute, Tag, Element, Document, Piece, Placed}
 use Rattle.vpg_xml.specs.Tokens.{Token, a_character, a_comment, a_start, an_end, token_at, pieces_of, place_of, HasPieces}

@@ -1,4 +1,4 @@
-use Rattle.std.proofs.Common.{◌≡◌, ◌<◌, ◌≤◌, ℕ, List, Ok, Option, Some, None, inr, length, map, sym, ap, ◌∙◌, arith}
+use Rattle.std.proofs.Common.{◌≡◌, List, Option, inr, map, ap, ◌∙◌}
 use Rattle.vpg_rules.specs.Constraint.{Constraint}
 use Rattle.vpg_rules.specs.View.{constraint_of}
 use Rattle.vpg_xml.specs.Elements.{Element}

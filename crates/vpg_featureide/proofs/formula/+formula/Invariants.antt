@@ -1,4 +1,4 @@
-use Rattle.std.proofs.Common.{◌≡◌, ℕ, ◌+◌, ◌*◌, [], drop, map}
+use Rattle.std.proofs.Common.{◌≡◌, ◌+◌, ◌*◌, [], drop, map}
 use Rattle.vpg_rules.specs.View.{constraint_of}
 use Rattle.vpg_xml.specs.View.{elements_of}
 use Rattle.vpg_featureide.specs.Formulas.{operands_with, formula_with}

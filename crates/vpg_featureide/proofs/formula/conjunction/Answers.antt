@@ -1,4 +1,4 @@
-use Rattle.std.proofs.Common.{◌≡◌, ◌<◌, ◌≤◌, ℕ, Ok, List, length, map, vec_len, rules, sym, ap, ◌∙◌, arith}
+use Rattle.std.proofs.Common.{◌≡◌, ◌<◌, ◌≤◌, Ok, length, map, vec_len, rules, sym, ap, ◌∙◌, arith}
 use Rattle.std.proofs.lemmas.List.{length-map}
 use Rattle.vpg_rules.specs.Constraint.{Constraint, Parts, all}
 use Rattle.vpg_rules.specs.View.{constraint_of, parts_in}

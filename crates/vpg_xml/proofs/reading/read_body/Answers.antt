@@ -1,8 +1,8 @@
-use Rattle.std.proofs.Common.{◌≡◌, ◌<◌, ◌≤◌, ◌++◌, ◌∷◌, [], ℕ, List, Ok, Option, Some, None, true, false, length, sym, ap, subst, ◌∙◌, arith}
+use Rattle.std.proofs.Common.{◌≡◌, ◌<◌, ◌++◌, [], ℕ, List, Ok, Some, None, false, length, sym, ap, subst, ◌∙◌, arith}
 use Rattle.std.proofs.lemmas.Grind.{common_steps}
 use Rattle.vpg_xml.specs.Elements.{Placed}
 use Rattle.vpg_xml.specs.Tokens.{Token, token_at, pieces_of, place_of, HasPieces, no_token}
-use Rattle.vpg_xml.specs.Reading.{State, start, run}
+use Rattle.vpg_xml.specs.Reading.{State, start}
 use Rattle.vpg_xml.specs.View.{state_of, token_of, with_rest, is_whole, Halts, by_memory, by_text, by_end}
 use Rattle.vpg_xml.proofs.Turns.{shorter_by}
 use Rattle.vpg_xml.proofs.Pieces.{has_more}

@@ -1,4 +1,4 @@
-use Rattle.std.proofs.Common.{◌≡◌, ◌-◌, ◌≤◌, ◌++◌, ◌∷◌, [], ℕ, List, Option, Some, None, length, sym, ap, ◌∙◌, arith}
+use Rattle.std.proofs.Common.{◌≡◌, ◌-◌, ◌++◌, ◌∷◌, [], ℕ, List, Some, None, sym, ap, ◌∙◌, arith}
 use Rattle.vpg_xml.specs.Tokens.{character_at, value_with}
 use Rattle.vpg_xml.specs.View.{with_rest, same}
 use Rattle.vpg_xml.proofs.Turns.{value_closes, value_stops, value_goes, value_ends}

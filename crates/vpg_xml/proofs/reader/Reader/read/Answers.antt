@@ -1,8 +1,8 @@
-use Rattle.std.proofs.Common.{◌≡◌, ◌∷◌, [], Ok, List, sym, ap, refl, subst, ◌∙◌}
+use Rattle.std.proofs.Common.{[], ap, ◌∙◌}
 use Rattle.vpg_xml.specs.Elements.{character, closing, opening}
-use Rattle.vpg_xml.specs.Tokens.{Token, pieces_of}
+use Rattle.vpg_xml.specs.Tokens.{pieces_of}
 use Rattle.vpg_xml.specs.Reading.{State, run}
-use Rattle.vpg_xml.specs.View.{state_of, token_of, tag_of, IsPieceError, IsStepError}
+use Rattle.vpg_xml.specs.View.{state_of, token_of, tag_of}
 use Rattle.vpg_xml.proofs.StepCode.{run_one, run_none, step_error, start_first, if_ok_by, if_err_by}
 use Rattle.vpg_xml.proofs.reader.Reader.read.Goals as goal
 

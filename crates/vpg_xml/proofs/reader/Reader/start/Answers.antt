@@ -1,4 +1,4 @@
-use Rattle.std.proofs.Common.{◌≡◌, ◌++◌, ◌∷◌, [], ℕ, List, Ok, Bool, true, false, length, map, reverse, vec_len, rules, sym, ap, ap₂, ◌∙◌}
+use Rattle.std.proofs.Common.{◌≡◌, ◌++◌, ◌∷◌, [], ℕ, List, Ok, Bool, length, map, reverse, vec_len, rules, sym, ap, ap₂, ◌∙◌}
 use Rattle.std.proofs.lemmas.List.{length-map}
 use Rattle.vpg_xml.specs.Elements.{Element}
 use Rattle.vpg_xml.specs.Tokens.{a_start, pieces_of}
