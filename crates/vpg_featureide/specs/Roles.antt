@@ -1,4 +1,5 @@
--- What an element of a feature model is, by the element around it: the format of FeatureIDE (Thüm et al., 2014).
+-- What an element of a feature model is, by the element around it: the format of FeatureIDE (Thüm et al., 2014). Text
+-- outside `var`, and attributes that no definition names, are read over.
 use Rattle.std.specs.Prelude.{ℕ, List, Bool, true, false, ◌||◌, if◌then◌else◌, codes, bytes_eq, Option, Some, None}
 pub use Rattle.vpg_featureide.specs.declared.role.Role.{Role}
 pub use Rattle.vpg_featureide.specs.declared.role.Role.TheVariants.{Outside, Whole, Structure, And, Or, Alternative, Leaf, Constraints, Rule, Formula, Over}

@@ -23,7 +23,7 @@ abbrev pub first_of : List ℕ → Option ℕ
 first_of [] = None
 first_of (b ∷ text) = Some b
 
--- A declaration that is not one. No token begins at this place, where this byte is.
+-- no token begins at this place, where this byte is
 pub record IsUnreadable (text : List ℕ) (at : ℕ) (Is : ℕ → Type 0) : Type 0 where
   pub pieces : List Placed
   pub rest : List ℕ
@@ -33,7 +33,8 @@ pub record IsUnreadable (text : List ℕ) (at : ℕ) (Is : ℕ → Type 0) : Typ
   pub is : Is byte
   pub none : token_at (length text) rest ≡ None
 
--- A token at this place has a piece with which no document goes on. The pieces before it are these.
+-- A token begins at this place, and no document goes on with its first piece. A document begins with the pieces before
+-- it.
 pub record IsMisplaced (text : List ℕ) (at : ℕ) (Is : List Placed → Piece → Type 0) : Type 0 where
   pub pieces : List Placed
   pub rest : List ℕ

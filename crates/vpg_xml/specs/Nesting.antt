@@ -31,7 +31,8 @@ pub data AreBlanks : List Placed → Type 0 where
   one_more : {at c : ℕ} {pieces : List Placed} → is_blank c ≡ true → AreBlanks pieces →
       AreBlanks (record { at = at; piece = character c } ∷ pieces)
 
--- the pieces are a document with these elements: one around all others, and blanks around it
+-- The pieces are a document with these elements: one around all others, and blanks around it. This project's own: a
+-- blank there may be written as a reference.
 pub record IsDocument (pieces : List Placed) (elements : Document) : Type 0 where
   pub before : List Placed
   pub at : ℕ
