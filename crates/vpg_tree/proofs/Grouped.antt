@@ -1,5 +1,5 @@
 -- Members of a group, and their texts.
-use Rattle.std.proofs.Common.{◌≡◌, ◌≢◌, ℕ, zero, suc, ◌+◌, ◌<◌, ◌≤◌, ◌==◌, Bool, true, false, cond, List, [], ◌∷◌, ◌++◌, length, drop, get_or, map, refl, sym, ap, subst, ◌∙◌, arith, rules, add-one, append_assoc}
+use Rattle.std.proofs.Common.{◌≡◌, ℕ, zero, suc, ◌+◌, ◌<◌, ◌≤◌, ◌==◌, Bool, true, false, cond, List, [], ◌∷◌, ◌++◌, length, drop, get_or, map, refl, sym, ap, subst, ◌∙◌, arith, add-one, append_assoc}
 use Rattle.std.proofs.lemmas.List.{drop_more}
 use Rattle.std.specs.Prelude.{codes}
 use Rattle.std.specs.List.{AllByRecursion}

@@ -1,13 +1,13 @@
 -- The configurations of a tree are the sets with the root that meet each line of its diagram.
-use Rattle.std.proofs.Common.{◌≡◌, ℕ, zero, suc, ◌+◌, ◌≤◌, Bool, true, false, cond, List, [], ◌∷◌, ◌++◌, length, map, min, Option, Some, None, refl, sym, ap, subst, ◌∙◌, arith}
-use Rattle.std.specs.Prelude.{◌↔◌, not, IsTrue, slice_get, count_by, IfSome}
+use Rattle.std.proofs.Common.{◌≡◌, ℕ, zero, suc, ◌+◌, ◌≤◌, Bool, true, false, cond, List, [], ◌∷◌, ◌++◌, length, map, Some, None, refl, sym, ap, subst, ◌∙◌, arith}
+use Rattle.std.specs.Prelude.{not, IsTrue, slice_get, count_by}
 use Rattle.std.specs.List.{AllByRecursion}
 use Rattle.std.proofs.lemmas.List.Sums.{count_by-le-length, sum_by-cons}
-use Rattle.vpg_rules.specs.Constraint.{Constraint, always, never, feature, negation, all, any, implication, equivalence, IsMet, implies}
-use Rattle.vpg_tree.specs.Tree.{Tree, Group, Kind, Mandatory, Optional, Alternative, Or, Cardinality, members_from, members, has, Allows, MeetsGroup, IsConfiguration}
-use Rattle.vpg_tree.specs.Lines.{Line, mandatory, optional, rule, at_most, group_lines, lines_from, constraint_line, lines_of, Has, MeetsMembers, MeetsLine}
+use Rattle.vpg_rules.specs.Constraint.{Constraint, feature, negation, implication, IsMet, implies}
+use Rattle.vpg_tree.specs.Tree.{Group, Kind, Mandatory, Optional, Alternative, Or, Cardinality, members_from, has, MeetsGroup, IsConfiguration}
+use Rattle.vpg_tree.specs.Lines.{mandatory, optional, group_lines, lines_from, constraint_line, Has, MeetsLine}
 use Rattle.vpg_tree.specs.Laws.{MeetsLines, ConfigurationsMeetTheLines}
-use Rattle.vpg_tree.proofs.Trees.{all_append, all_weaker}
+use Rattle.vpg_tree.proofs.Trees.{all_append}
 
 all_front : {X : Type 0} (P : X → Type 0) (xs ys : List X) → AllByRecursion P (xs ++ ys) → AllByRecursion P xs
 all_front P [] ys h = tt

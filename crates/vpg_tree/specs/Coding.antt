@@ -1,4 +1,4 @@
--- A constraint as a list of numbers in Polish notation (Łukasiewicz), so that the value of a model may hold constraints.
+-- A constraint as a list of numbers in Polish notation (Łukasiewicz), so that a model's value may hold constraints.
 use Rattle.std.specs.Prelude.{◌≡◌, ℕ, zero, suc, List, [], ◌∷◌, ◌++◌, refl}
 use Rattle.std.specs.Coded.{Coded, code_by, coded×, coded_ℕ, coded_list}
 use Rattle.std.proofs.Common.{sym, ap, ◌∙◌, append_assoc}

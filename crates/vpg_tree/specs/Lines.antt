@@ -1,5 +1,5 @@
 -- The lines of the feature diagram that a tree stands for, below its root line. This project's own.
-use Rattle.std.specs.Prelude.{ℕ, suc, ◌≤◌, ◌≡◌, Bool, List, [], ◌∷◌, ◌++◌, length, map, min, Option, Some, None, IsTrue, count_by, ⊤}
+use Rattle.std.specs.Prelude.{ℕ, suc, ◌≤◌, ◌≡◌, Bool, List, [], ◌∷◌, ◌++◌, length, map, min, Option, Some, None, IsTrue, count_by}
 use Rattle.std.specs.List.{AllByRecursion}
 use Rattle.vpg_rules.specs.Constraint.{Constraint, feature, negation, implication, IsMet}
 use Rattle.vpg_tree.specs.Tree.{Tree, Group, Kind, Mandatory, Optional, Alternative, Or, Cardinality, members_from, has}

@@ -1,6 +1,6 @@
 -- Feature trees with cross-tree constraints, and their configurations. The kinds of groups are those of Kang et al.
 -- (FODA, 1990), with the cardinalities of Schobbens et al. (2007); the constraints are those of Batory (2005).
-use Rattle.std.specs.Prelude.{ℕ, suc, ◌+◌, ◌<◌, ◌≤◌, ◌≡◌, Bool, false, ◌==◌, if◌then◌else◌, List, [], ◌∷◌, length, Option, Some, None, slice_index_or, slice_get, IsTrue, IfSome, IsSomeAnd, count_by, ⊤}
+use Rattle.std.specs.Prelude.{ℕ, suc, ◌+◌, ◌<◌, ◌≤◌, ◌≡◌, Bool, false, ◌==◌, if◌then◌else◌, List, [], ◌∷◌, length, Some, slice_index_or, slice_get, IsTrue, IfSome, IsSomeAnd, count_by, ⊤}
 use Rattle.std.specs.List.{AllByRecursion}
 use Rattle.vpg_features.specs.Names.{AreNames}
 use Rattle.vpg_rules.specs.Constraint.{Constraint, IsMet, IsBelow}

@@ -1,6 +1,6 @@
 -- Lines and numbers.
-use Rattle.std.proofs.Common.{◌≡◌, ℕ, suc, ◌+◌, ◌*◌, ◌<◌, ◌≤◌, Bool, true, false, not, ◌&&◌, ◌==◌, cond, nat_lt, List, [], ◌∷◌, length, take, drop, filter, Option, Some, None, position, min, unwrap_or, ◌-◌, ◌⊎◌, inl, inr, refl, sym, ap, ◌∙◌, subst, arith, one-add, eqb-true}
-use Rattle.std.specs.List.{list_all, slice_split, onto_first, position_or_len}
+use Rattle.std.proofs.Common.{◌≡◌, ℕ, suc, ◌+◌, ◌*◌, ◌<◌, ◌≤◌, Bool, true, false, not, ◌==◌, cond, nat_lt, List, [], ◌∷◌, length, take, drop, Option, Some, None, position, min, unwrap_or, ◌-◌, ◌⊎◌, inl, inr, refl, sym, ap, ◌∙◌, subst, arith, one-add, eqb-true}
+use Rattle.std.specs.List.{slice_split, onto_first, position_or_len}
 use Rattle.std.specs.Char.{digit_value}
 use Rattle.std.specs.Option.{SomeIff}
 use Rattle.std.specs.Str.Lines.{lines, lines_of_parts, strip_carriage_return}

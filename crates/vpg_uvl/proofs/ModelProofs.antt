@@ -1,5 +1,5 @@
 -- A text spells one tree, and its faults.
-use Rattle.std.proofs.Common.{◌≡◌, ℕ, ◌+◌, ◌<◌, ◌≤◌, List, [], ◌∷◌, ◌++◌, length, Result, Ok, Err, ◌⊎◌, inl, inr, refl, sym, ap, ap₂, subst, ◌∙◌, append_assoc}
+use Rattle.std.proofs.Common.{◌≡◌, ℕ, List, [], ◌∷◌, ◌++◌, Result, Ok, Err, inl, inr, refl, sym, ap, ap₂, subst, ◌∙◌, append_assoc}
 use Rattle.std.proofs.lemmas.List.{append-nil}
 use Rattle.std.specs.List.{AllZip}
 use Rattle.vpg_features.specs.Names.{AreNames}
@@ -9,7 +9,7 @@ use Rattle.vpg_rules.proofs.Levels.{rule_again}
 use Rattle.vpg_rules.proofs.Marks.{some_is}
 use Rattle.vpg_tree.specs.Tree.{Tree}
 use Rattle.vpg_uvl.specs.Rows.{Row, rows}
-use Rattle.vpg_uvl.specs.Model.{Features, SpellsConstraint, ReadsBehind, Spells, IsConstraintFault, IsFaultBehind, IsFirstFault, features_after}
+use Rattle.vpg_uvl.specs.Model.{Features, SpellsConstraint, ReadsBehind, Spells, IsFaultBehind, IsFirstFault, features_after}
 use Rattle.vpg_uvl.specs.Views.{IsReadingFault, IsRowFault}
 use Rattle.vpg_uvl.specs.declared.fault.UvlFault.{UvlFault}
 use Rattle.vpg_uvl.specs.declared.fault.UvlFault.TheVariants.{Refused, Ended, Memory}

@@ -1,5 +1,5 @@
 -- One row more.
-use Rattle.std.proofs.Common.{◌≡◌, ℕ, ◌<◌, ◌==◌, Bool, true, false, not, cond, List, [], ◌∷◌, ◌++◌, length, Option, Some, None, Result, Ok, Err, refl, sym, ap, ap₂, subst, ◌∙◌, arith}
+use Rattle.std.proofs.Common.{◌≡◌, ℕ, ◌<◌, ◌==◌, Bool, true, false, not, cond, List, ◌∷◌, length, Option, Some, None, Result, Ok, Err, refl, sym, ap, ap₂, ◌∙◌, arith}
 use Rattle.std.proofs.lemmas.Bool.Decides.{nat_tests}
 use Rattle.std.specs.Prelude.{codes, is_some, slice_get}
 use Rattle.vpg_features.specs.Names.{AreNames, IsNew, index_of}
@@ -8,9 +8,8 @@ use Rattle.vpg_rules.specs.Constraint.{Constraint}
 use Rattle.vpg_tree.specs.Tree.{Tree}
 use Rattle.vpg_uvl.specs.Rows.{Row, is_head, indentation, after_blanks}
 use Rattle.vpg_uvl.specs.Items.{Item, named, Stop, stopped, Reason, Syntax, Twice, TooMany, NoMember, item_of}
-use Rattle.vpg_uvl.specs.Nesting.{Open, Growth, narrower, last_of, with_feature, placed, placed_below, placed_item, early_stop, grown_by, grown_at, grown, rooted, front_stop}
-use Rattle.vpg_uvl.specs.Model.{Features, fault_at, finished, after_row, after_front, features_from, features_of, features_after}
-use Rattle.vpg_uvl.specs.declared.fault.UvlFault.{UvlFault}
+use Rattle.vpg_uvl.specs.Nesting.{Open, Growth, narrower, last_of, with_feature, placed_below, placed_item, early_stop, grown_by, grown_at, grown, front_stop}
+use Rattle.vpg_uvl.specs.Model.{fault_at, finished, after_row, after_front, features_from, features_of, features_after}
 use Rattle.vpg_uvl.specs.declared.fault.UvlFault.TheVariants.{Refused}
 
 pub not_false : (b : Bool) → not b ≡ false → b ≡ true

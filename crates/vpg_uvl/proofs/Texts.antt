@@ -1,5 +1,5 @@
 -- Comments, blanks and words.
-use Rattle.std.proofs.Common.{◌≡◌, ℕ, ◌+◌, ◌<◌, ◌≤◌, Bool, true, false, cond, List, [], ◌∷◌, ◌++◌, length, take, drop, get_or, refl, sym, ap, subst, ◌∙◌, arith, append_assoc}
+use Rattle.std.proofs.Common.{◌≡◌, ℕ, ◌+◌, ◌<◌, ◌≤◌, Bool, true, false, cond, List, [], ◌∷◌, ◌++◌, length, take, drop, get_or, refl, sym, ap, ◌∙◌, append_assoc}
 use Rattle.std.proofs.lemmas.List.{drop_more, drop_all, take_all, append-nil, take_more}
 use Rattle.vpg_uvl.specs.Rows.{is_blank, opens_comment, before_comment, after_blank, columns_after}
 use Rattle.vpg_uvl.specs.Items.{last_visible}

@@ -1,6 +1,6 @@
 -- The rows below `features`: the head of a group, or a feature. Words and attributes are those of the Universal
 -- Variability Language; names are those of features here.
-use Rattle.std.specs.Prelude.{ℕ, ◌^◌, Bool, true, false, not, ◌&&◌, ◌||◌, ◌==◌, if◌then◌else◌, nat_le, List, [], ◌∷◌, length, take, drop, min, Option, Some, None, Result, Ok, Err, bytes_eq, codes, is_none}
+use Rattle.std.specs.Prelude.{ℕ, ◌^◌, Bool, true, not, ◌&&◌, ◌||◌, ◌==◌, if◌then◌else◌, nat_le, List, [], ◌∷◌, length, take, drop, min, Option, Some, None, Result, Ok, Err, bytes_eq, codes, is_none}
 use Rattle.std.specs.List.{list_all, list_any, prefix_len, slice_split}
 use Rattle.std.specs.Char.{is_ascii_digit}
 use Rattle.std.specs.Str.Parse.{digits_value}
@@ -9,7 +9,7 @@ use Rattle.vpg_tree.specs.declared.group.Kind.{Kind}
 use Rattle.vpg_tree.specs.declared.group.Kind.TheVariants.{Mandatory, Optional, Alternative, Or, Cardinality}
 use Rattle.vpg_uvl.specs.Rows.{is_blank, after_blanks, word_at, behind_word, is_nothing}
 pub use Rattle.vpg_uvl.specs.declared.fault.Reason.{Reason}
-pub use Rattle.vpg_uvl.specs.declared.fault.Reason.TheVariants.{Syntax, Indentation, Import, Level, Typed, FeatureCardinality, Attributes, AttributeConstraint, Quotes, Name, Range, Twice, TooMany, NoMember, UnknownFeature, Attribute, Arithmetic, Comparison, Text, Aggregate, TooDeep}
+pub use Rattle.vpg_uvl.specs.declared.fault.Reason.TheVariants.{Syntax, Indentation, Import, Level, Typed, FeatureCardinality, Attributes, AttributeConstraint, Quotes, Name, Range, Twice, TooMany, NoMember, UnknownFeature, Attribute, Arithmetic, Comparison, Text, Aggregate, Chain, TooDeep}
 
 -- the head of a group, or a feature
 pub data Item : Type 0 where

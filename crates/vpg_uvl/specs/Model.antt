@@ -1,14 +1,15 @@
 -- Which feature tree a text in the Universal Variability Language (UVL) spells, and its first fault. The profile:
 -- features with names of this project, groups, attributes that say nothing of constraints, and constraints over
 -- features.
-use Rattle.std.specs.Prelude.{ℕ, ◌+◌, ◌-◌, ◌<◌, ◌≤◌, ◌≡◌, ◌≢◌, Bool, if◌then◌else◌, List, [], ◌∷◌, ◌++◌, length, Option, Some, None, Result, Ok, Err, slice_get, take, codes, ◌⊎◌, ⊤}
-use Rattle.std.specs.List.{AllByRecursion, AllZip}
+use Rattle.std.specs.Prelude.{ℕ, ◌+◌, ◌-◌, ◌<◌, ◌≤◌, ◌≡◌, false, if◌then◌else◌, List, [], ◌∷◌, ◌++◌, length, Option, Some, None, Result, Ok, Err, codes, ◌⊎◌, ⊤}
+use Rattle.std.specs.List.{AllZip}
 use Rattle.vpg_rules.specs.Constraint.{Constraint}
 use Rattle.vpg_rules.specs.Grammar as rules
 use Rattle.vpg_tree.specs.Tree.{Tree}
 use Rattle.vpg_uvl.specs.Rows.{Row, rows, is_head, indentation}
-use Rattle.vpg_uvl.specs.Items.{Stop, Reason, NoMember, Indentation}
-use Rattle.vpg_uvl.specs.Nesting.{Growth, Open, last_of, ends_in_head, grown, rooted, front_stop}
+use Rattle.vpg_uvl.specs.Arrows.{is_chained}
+use Rattle.vpg_uvl.specs.Items.{Stop, NoMember}
+use Rattle.vpg_uvl.specs.Nesting.{Growth, last_of, ends_in_head, grown, rooted, front_stop}
 use Rattle.vpg_uvl.specs.declared.fault.UvlFault.{UvlFault}
 use Rattle.vpg_uvl.specs.declared.fault.UvlFault.TheVariants.{Refused, Ended, Memory}
 
@@ -54,10 +55,11 @@ features_after (row ∷ behind) =
     if is_head (codes "features") row.bytes then features_of behind
     else after_front row (front_stop row.bytes) further
 
--- a row below `constraints`: it is indented, and spells a rule over the features
+-- a row below `constraints`: it is indented, spells a rule over the features, and has no chain of `=>`
 pub record SpellsConstraint (names : List (List ℕ)) (row : Row) (c : Constraint) : Type 0 where
   pub indented : 0 < indentation row.bytes
   pub rule : rules.Spells names row.bytes c
+  pub no_chain : is_chained 0 row.bytes ≡ false
 
 -- the tree with the constraints that rows spell
 pub record ReadsBehind (bare : Tree) (behind : List Row) (tree : Tree) : Type 0 where

@@ -1,14 +1,14 @@
 -- The tree that rows spell by their indentation. As in Python, a row is indented more than the row above it, or as one
 -- of the open rows, which are the row above, its parent, the parent of that, and so on; its parent is the nearest open
 -- row that is indented less. Groups stand below features, and features below groups.
-use Rattle.std.specs.Prelude.{ℕ, ◌-◌, Bool, true, false, not, ◌&&◌, ◌||◌, ◌==◌, if◌then◌else◌, nat_lt, nat_le, List, [], ◌∷◌, ◌++◌, length, filter, Option, Some, None, Result, Ok, Err, slice_get, is_some, bytes_eq, codes}
+use Rattle.std.specs.Prelude.{ℕ, ◌-◌, Bool, true, false, not, ◌&&◌, ◌||◌, ◌==◌, if◌then◌else◌, nat_lt, List, [], ◌∷◌, ◌++◌, length, filter, Option, Some, None, Result, Ok, Err, slice_get, is_some, bytes_eq, codes}
 use Rattle.std.specs.List.{list_all, list_any}
 use Rattle.vpg_features.specs.Names.{index_of}
 use Rattle.vpg_tree.specs.Tree.{Tree}
 use Rattle.vpg_tree.specs.declared.group.Kind.{Kind}
 pub use Rattle.vpg_uvl.specs.declared.growth.Open.{Open}
-use Rattle.vpg_uvl.specs.Rows.{Row, after_blanks, indentation, word_at, behind_word, is_nothing, is_head}
-use Rattle.vpg_uvl.specs.Items.{Item, head, named, Stop, stopped, Reason, Syntax, Indentation, Import, Level, Name, Twice, TooMany, NoMember, item_of}
+use Rattle.vpg_uvl.specs.Rows.{after_blanks, indentation, word_at, is_head}
+use Rattle.vpg_uvl.specs.Items.{Item, head, named, Stop, stopped, Reason, Syntax, Indentation, Import, Level, Twice, TooMany, NoMember, item_of}
 
 -- a tree, and the open rows, the root's first
 pub record Growth : Type 0 where

@@ -1,6 +1,6 @@
 -- The rows of a text in the Universal Variability Language (UVL; Sundermann et al. 2021): its lines without their
 -- comments, and of these the ones that are not blank.
-use Rattle.std.specs.Prelude.{ℕ, ◌+◌, ◌-◌, ◌*◌, ◌/◌, ◌^◌, min, ◌≡◌, Bool, true, false, not, ◌&&◌, ◌||◌, ◌==◌, if◌then◌else◌, List, [], ◌∷◌, take, drop, bytes_eq, codes}
+use Rattle.std.specs.Prelude.{ℕ, ◌+◌, ◌*◌, ◌/◌, ◌^◌, min, Bool, true, false, not, ◌&&◌, ◌||◌, ◌==◌, if◌then◌else◌, List, [], ◌∷◌, take, drop, bytes_eq}
 use Rattle.std.specs.List.{list_all, prefix_len}
 use Rattle.std.specs.Str.Lines.{lines}
 

@@ -5,9 +5,10 @@ ghost use Rattle.vpg_rules.specs.View.{constraint_of};
 ghost use Rattle.vpg_uvl.specs.Model.{SpellsConstraint};
 ghost use Rattle.vpg_uvl.specs.Views.{row_of, IsRowFault, IsPlaced};
 
+use crate::arrows::is_chained;
 use crate::fault::{Reason, UvlFault};
 use crate::row::Row;
-use crate::words::indentation;
+use crate::words::{blanks_len, indentation};
 use std::alloc::Global;
 use vpg_features::{Names, is_name_byte};
 use vpg_rules::{Rule, RuleFault, parse_rule};
@@ -91,7 +92,12 @@ pub(crate) fn constraint(alloc: Global, names: &Names, row: Row) -> Result<Rule,
         return Err(refused(row, Reason::Indentation, 0));
     }
     match parse_rule(alloc, row.bytes, names) {
-        Ok(rule) => Ok(rule),
+        Ok(rule) => {
+            if is_chained(row.bytes) {
+                return Err(refused(row, Reason::Chain, blanks_len(row.bytes)));
+            }
+            Ok(rule)
+        }
         Err(fault) => Err(fault_of(row, fault)),
     }
 }

@@ -45,6 +45,8 @@ pub enum Reason {
     Text,
     /// An aggregate or another function in a constraint.
     Aggregate,
+    /// A `=>` after a `=>` in the same parentheses.
+    Chain,
     /// The 65th sign that is open at one place of a constraint.
     TooDeep,
 }

@@ -8,13 +8,14 @@
 //! indentation, and `constraints`, one a line. `namespace`, `include` of the levels `Boolean`, `Boolean.*` and
 //! `Boolean.group-cardinality`, comments from `//` on, and attributes in braces after a feature on its line are read
 //! over. Types, feature cardinalities, imports, quoted names, constraints in attributes, and attributes, numbers,
-//! texts and aggregates in constraints are refused.
+//! texts, aggregates and chains of `=>` in constraints are refused.
 //!
 //! Definitions stand in `specs/`: `Model` (which tree a text spells, and its first fault), over `Rows` (lines without
-//! comments), `Items` (heads of groups, and features) and `Nesting` (the tree that rows spell by their indentation).
-//! `Views` has the code's values as those of the definitions, for private contracts.
+//! comments), `Items` (heads of groups, and features), `Nesting` (the tree that rows spell by their indentation) and
+//! `Arrows` (chains). `Views` has the code's values as those of the definitions, for private contracts.
 #![tactic(auto)]
 
+mod arrows;
 mod constraint;
 mod fault;
 mod growth;

@@ -64,7 +64,7 @@ pub(crate) fn is_blank_text(text: &[u8]) -> bool
     text.iter().all(|b| is_blank(*b))
 }
 
-fn blanks_len(text: &[u8]) -> usize
+pub(crate) fn blanks_len(text: &[u8]) -> usize
     ensures { result ≡ prefix_len is_blank text.now }
 {
     text.iter().take_while(|b| is_blank(**b)).count()

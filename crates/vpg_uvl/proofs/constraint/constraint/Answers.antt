@@ -1,14 +1,6 @@
-use Rattle.std.proofs.Common.{◌≡◌, sym, subst, ◌∙◌, rules}
-use Rattle.std.specs.Prelude.{MatchResult}
-use Rattle.vpg_rules.specs.Constraint.{Constraint}
-use Rattle.vpg_rules.specs.Grammar as grammar
-use Rattle.vpg_rules.specs.View.{constraint_of}
 use Rattle.vpg_uvl.specs.Views.{row_of}
 use Rattle.vpg_uvl.proofs.RowFaults.{row_is_faulty}
 use Rattle.vpg_uvl.proofs.constraint.constraint.Goals as goal
-
-pub returns-in-Ok-clause-only : goal.returns-in-Ok-clause-only
-returns-in-Ok-clause-only c d spells = c.in-Ok.ensures.only d spells.rule
 
 pub returns-in-Err-clause-refused : goal.returns-in-Err-clause-refused
 returns-in-Err-clause-refused c =
@@ -16,3 +8,6 @@ returns-in-Err-clause-refused c =
 
 pub returns-in-Err-clause-only : goal.returns-in-Err-clause-only
 returns-in-Err-clause-only c d spells = c.fault_of.ensures.memory (c.in-Err.ensures.only d spells.rule)
+
+pub returns-else-is_chained-clause-only : goal.returns-else-is_chained-clause-only
+returns-else-is_chained-clause-only c d spells = c.in-Ok.ensures.only d spells.rule

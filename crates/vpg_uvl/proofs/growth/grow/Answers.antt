@@ -1,8 +1,8 @@
-use Rattle.std.proofs.Common.{◌≡◌, ◌<◌, Result, Ok, Err, Option, Some, None, List, ℕ, sym, ap, subst, ◌∙◌}
+use Rattle.std.proofs.Common.{◌≡◌, Result, Ok, None, sym, ap, subst, ◌∙◌}
 use Rattle.std.specs.Prelude.{IfOk, IfErr}
 use Rattle.std.specs.List.{AllByRecursion}
 use Rattle.vpg_uvl.specs.Items.{Stop, item_of}
-use Rattle.vpg_uvl.specs.Nesting.{Open, Growth, narrower, last_of, early_stop, placed_below, grown}
+use Rattle.vpg_uvl.specs.Nesting.{Growth, narrower, early_stop}
 use Rattle.vpg_uvl.specs.Views.{growth_of, item_in, IsNumbered, IsRowError}
 use Rattle.vpg_uvl.proofs.Growing.{numbered_narrower}
 use Rattle.vpg_uvl.proofs.Steps.{grown_is}

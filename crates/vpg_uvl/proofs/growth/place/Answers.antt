@@ -1,11 +1,10 @@
-use Rattle.std.proofs.Common.{◌≡◌, ◌≢◌, ◌<◌, ◌≤◌, ℕ, length, Some, Ok, true, false, sym, ap, subst, ◌∙◌, arith}
-use Rattle.std.proofs.lemmas.Grind.{common_steps}
+use Rattle.std.proofs.Common.{◌≡◌, ◌≢◌, ◌<◌, ◌≤◌, length, Some, Ok, sym, ap, subst, ◌∙◌, arith}
 use Rattle.vpg_features.specs.Names.{IsRefused}
 use Rattle.vpg_features.specs.declared.fault.NameFault.{NameFault}
 use Rattle.vpg_features.specs.declared.fault.NameFault.TheVariants.{Memory}
 use Rattle.vpg_uvl.specs.Nesting.{last_of, placed_below}
 use Rattle.vpg_uvl.specs.Items.{Item}
-use Rattle.vpg_uvl.specs.Views.{growth_of, item_in, IsNumbered}
+use Rattle.vpg_uvl.specs.Views.{growth_of, item_in}
 use Rattle.vpg_uvl.proofs.Growing.{numbered_last, number_of_group, number_of_feature}
 use Rattle.vpg_uvl.proofs.Steps.{not_false, placed_named, placed_twice, placed_many}
 use Rattle.vpg_uvl.proofs.growth.place.Goals as goal

@@ -1,4 +1,4 @@
-use Rattle.std.proofs.Common.{◌≡◌, List, ℕ, sym, ap, subst, ◌∙◌}
+use Rattle.std.proofs.Common.{ap, subst}
 use Rattle.vpg_features.specs.Names.{AreNames}
 use Rattle.vpg_tree.specs.Tree.{Tree}
 use Rattle.vpg_uvl.specs.Views.{rows_left, features_in}

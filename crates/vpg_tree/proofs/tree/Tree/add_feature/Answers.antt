@@ -1,8 +1,7 @@
-use Rattle.std.proofs.Common.{◌≡◌, ◌<◌, ◌∷◌, [], ◌++◌, List, ℕ, length, map, sym, ap, subst, ◌∙◌}
-use Rattle.vpg_features.specs.Names.{AreNames, IsNew}
+use Rattle.std.proofs.Common.{◌<◌, ◌∷◌, [], ◌++◌, List, ℕ, length, map, sym, subst}
 use Rattle.vpg_features.proofs.Held.{names_more}
 use Rattle.vpg_rules.specs.View.{constraint_of}
-use Rattle.vpg_tree.specs.Tree.{Group, IsTree}
+use Rattle.vpg_tree.specs.Tree.{IsTree}
 use Rattle.vpg_tree.proofs.Trees.{tree_with_feature}
 use Rattle.vpg_tree.proofs.tree.Tree.add_feature.Goals as goal
 

@@ -1,4 +1,4 @@
-use Rattle.std.proofs.Common.{◌≡◌, ◌<◌, ◌∷◌, [], ◌++◌, List, ℕ, length, map, sym, ap, subst}
+use Rattle.std.proofs.Common.{◌<◌, List, length, map, sym, subst}
 use Rattle.vpg_rules.specs.View.{constraint_of}
 use Rattle.vpg_tree.specs.Tree.{Group, IsTree}
 use Rattle.vpg_tree.proofs.Trees.{tree_with_group}
