@@ -1,0 +1,4 @@
+pub mod Sizes
+pub mod Trees
+pub mod Grouped
+pub mod LawProofs

@@ -1,0 +1,7 @@
+pub mod Coding
+pub mod Tree
+pub mod Lines
+pub mod RuleText
+pub mod DiagramText
+pub mod Short
+pub mod Laws

@@ -1,0 +1,124 @@
+-- A text spells one tree, and its faults.
+use Rattle.std.proofs.Common.{◌≡◌, ℕ, List, [], ◌∷◌, ◌++◌, Result, Ok, Err, inl, inr, refl, sym, ap, ap₂, subst, ◌∙◌, append_assoc}
+use Rattle.std.proofs.lemmas.List.{append-nil}
+use Rattle.std.specs.List.{AllZip}
+use Rattle.vpg_features.specs.Names.{AreNames}
+use Rattle.vpg_rules.specs.Constraint.{Constraint}
+use Rattle.vpg_rules.specs.Grammar as rules
+use Rattle.vpg_rules.proofs.Levels.{rule_again}
+use Rattle.vpg_rules.proofs.Marks.{some_is}
+use Rattle.vpg_tree.specs.Tree.{Tree}
+use Rattle.vpg_uvl.specs.Rows.{Row, rows}
+use Rattle.vpg_uvl.specs.Model.{Features, SpellsConstraint, ReadsBehind, Spells, IsFaultBehind, IsFirstFault, features_after}
+use Rattle.vpg_uvl.specs.Views.{IsReadingFault, IsRowFault}
+use Rattle.vpg_uvl.specs.declared.fault.UvlFault.{UvlFault}
+use Rattle.vpg_uvl.specs.declared.fault.UvlFault.TheVariants.{Refused, Ended, Memory}
+
+one_of_zip : {A B : Type 0} (R : A → B → Type 0) (before : List A) (x : A) (after : List A) (ys : List B) → AllZip R (before ++ x ∷ after) ys → (y : B) × R x y
+one_of_zip R [] x after [] h = absurd h
+one_of_zip R [] x after (y ∷ ys) h = (y, h.0)
+one_of_zip R (b ∷ before) x after [] h = absurd h
+one_of_zip R (b ∷ before) x after (y ∷ ys) h = one_of_zip R before x after ys h.1
+
+pub zip_more : {A B : Type 0} (R : A → B → Type 0) (xs : List A) (ys : List B) (x : A) (y : B) → AllZip R xs ys → R x y → AllZip R (xs ++ x ∷ []) (ys ++ y ∷ [])
+zip_more R [] [] x y h k = (k, tt)
+zip_more R [] (z ∷ ys) x y h k = absurd h
+zip_more R (z ∷ xs) [] x y h k = absurd h
+zip_more R (w ∷ xs) (z ∷ ys) x y h k = (h.0, zip_more R xs ys x y h.1 k)
+
+one_rule : (names : List (List ℕ)) (text : List ℕ) (c d : Constraint) → AreNames names → rules.Spells names text c → rules.Spells names text d → c ≡ d
+one_rule names text c d are s t = some_is c d (sym (rule_again names text c are s) ∙ rule_again names text d are t)
+
+same_constraints : (names : List (List ℕ)) → AreNames names → (behind : List Row) (cs ds : List Constraint) → AllZip (SpellsConstraint names) behind cs → AllZip (SpellsConstraint names) behind ds → cs ≡ ds
+same_constraints names are [] [] [] h k = refl
+same_constraints names are [] [] (d ∷ ds) h k = absurd k
+same_constraints names are [] (c ∷ cs) ds h k = absurd h
+same_constraints names are (row ∷ behind) [] ds h k = absurd h
+same_constraints names are (row ∷ behind) (c ∷ cs) [] h k = absurd k
+same_constraints names are (row ∷ behind) (c ∷ cs) (d ∷ ds) h k =
+    ap₂ (λ (x : Constraint) (xs : List Constraint). x ∷ xs) (one_rule names row.bytes c d are h.0.rule k.0.rule) (same_constraints names are behind cs ds h.1 k.1)
+
+-- the tree without its constraints is the one that was read first
+bare_again : (bare tree : Tree) → bare.constraints ≡ [] → tree ≡ record bare { constraints = tree.constraints } → record tree { constraints = [] } ≡ bare
+bare_again bare tree none same =
+    ap (λ (t : Tree). record t { constraints = [] }) same ∙ ap (λ (cs : List Constraint). record bare { constraints = cs }) (sym none)
+
+pub model_found : (text : List ℕ) (bare tree : Tree) (behind : List Row) → features_after (rows text) ≡ Ok (record { tree = bare; behind = behind }) → bare.constraints ≡ [] → ReadsBehind bare behind tree → Spells text tree
+model_found text bare tree behind read none reads = record {
+  behind = behind;
+  features = read ∙ ap (λ (t : Tree). Ok (record { tree = t; behind = behind })) (sym (bare_again bare tree none reads.same));
+  constraints = subst (λ (t : Tree). AllZip (SpellsConstraint t.names) behind tree.constraints) (sym reads.same) reads.constraints;
+}
+
+abbrev tree_of : {E : Type 0} → Features → Result Features E → Features
+tree_of f (Ok g) = g
+tree_of f (Err e) = f
+
+same_features : (r : Result Features UvlFault) (f g : Features) → r ≡ Ok f → r ≡ Ok g → f ≡ g
+same_features r f g h k = ap (tree_of f) (sym h ∙ k)
+
+pub model_only : (text : List ℕ) (bare tree other : Tree) (behind : List Row) → features_after (rows text) ≡ Ok (record { tree = bare; behind = behind }) → AreNames bare.names → ReadsBehind bare behind tree → Spells text other → tree ≡ other
+model_only text bare tree other behind read are reads spells =
+    let both = same_features (features_after (rows text)) (record { tree = bare; behind = behind }) (record { tree = record other { constraints = [] }; behind = spells.behind }) read spells.features in
+    let bare_is : bare ≡ record other { constraints = [] } = ap (λ (f : Features). f.tree) both in
+    let behind_is : behind ≡ spells.behind = ap (λ (f : Features). f.behind) both in
+    let here : AllZip (SpellsConstraint bare.names) behind other.constraints =
+    subst (λ (rs : List Row). AllZip (SpellsConstraint bare.names) rs other.constraints) (sym behind_is)
+    (subst (λ (t : Tree). AllZip (SpellsConstraint t.names) spells.behind other.constraints) (sym bare_is) spells.constraints) in
+    let constraints_are : tree.constraints ≡ other.constraints = same_constraints bare.names are behind tree.constraints other.constraints reads.constraints here in
+    reads.same ∙ ap (λ (t : Tree). record t { constraints = tree.constraints }) bare_is ∙ ap (λ (cs : List Constraint). record other { constraints = cs }) constraints_are
+
+ok_no_err : (r : Result Features UvlFault) (f : Features) (e : UvlFault) → r ≡ Ok f → r ≡ Err e → ⊥
+ok_no_err r f e h k = let w : Ok f ≡ Err e = sym h ∙ k in cc
+
+-- a text that spells a tree has no fault up to `constraints`
+pub no_features_fault : (text : List ℕ) (tree : Tree) (fault : UvlFault) → Spells text tree → IsReadingFault (features_after (rows text)) fault → fault ≡ Memory
+no_features_fault text tree fault spells (inl memory) = memory
+no_features_fault text tree fault spells (inr read) = absurd (ok_no_err (features_after (rows text)) _ fault spells.features read)
+
+-- nor behind it
+pub no_fault_behind : (text : List ℕ) (bare tree : Tree) (behind : List Row) (fault : UvlFault) → features_after (rows text) ≡ Ok (record { tree = bare; behind = behind }) → Spells text tree → IsFaultBehind bare.names behind fault → fault ≡ Memory
+no_fault_behind text bare tree behind Memory read spells h = refl
+no_fault_behind text bare tree behind Ended read spells h = absurd h
+no_fault_behind text bare tree behind (Refused reason line column) read spells h =
+    let both = same_features (features_after (rows text)) (record { tree = bare; behind = behind }) (record { tree = record tree { constraints = [] }; behind = spells.behind }) read spells.features in
+    let bare_is : bare ≡ record tree { constraints = [] } = ap (λ (f : Features). f.tree) both in
+    let behind_is : spells.behind ≡ h.before ++ h.row ∷ h.after = sym (ap (λ (f : Features). f.behind) both) ∙ h.parts in
+    let here : AllZip (SpellsConstraint bare.names) (h.before ++ h.row ∷ h.after) tree.constraints =
+    subst (λ (rs : List Row). AllZip (SpellsConstraint bare.names) rs tree.constraints) behind_is
+    (subst (λ (t : Tree). AllZip (SpellsConstraint t.names) spells.behind tree.constraints) (sym bare_is) spells.constraints) in
+    let one = one_of_zip (SpellsConstraint bare.names) h.before h.row h.after tree.constraints here in
+    absurd (h.faulty one.0 one.1)
+
+-- the fault of a row is that of the rows, if those before it are read
+pub row_fault : (names : List (List ℕ)) (behind before after : List Row) (row : Row) (read : List Constraint) (fault : UvlFault) → behind ≡ before ++ row ∷ after → AllZip (SpellsConstraint names) before read → IsRowFault names row fault → IsFaultBehind names behind fault
+row_fault names behind before after row read Memory parts spelled h = tt
+row_fault names behind before after row read Ended parts spelled h = absurd h
+row_fault names behind before after row read (Refused reason line column) parts spelled h = record {
+  before = before;
+  row = row;
+  after = after;
+  parts = parts;
+  read = read;
+  spelled = spelled;
+  faulty = h.0;
+  line_is = h.1;
+  positive = h.2;
+  within = h.3;
+}
+
+-- the first fault of a text
+pub first_fault : (text : List ℕ) (fault : UvlFault) → IsReadingFault (features_after (rows text)) fault → IsFirstFault text fault
+first_fault text fault (inl memory) = inl memory
+first_fault text fault (inr read) = inr (inl read)
+
+pub fault_behind : (text : List ℕ) (read : Features) (fault : UvlFault) → features_after (rows text) ≡ Ok read → IsFaultBehind read.tree.names read.behind fault → IsFirstFault text fault
+fault_behind text read fault is h = inr (inr (read, is, h))
+
+-- one row more
+pub rows_more : (whole before left later : List Row) (row : Row) → whole ≡ before ++ left → left ≡ row ∷ later → whole ≡ (before ++ row ∷ []) ++ later
+rows_more whole before left later row h k = h ∙ ap (λ (rs : List Row). before ++ rs) k ∙ sym (append_assoc before (row ∷ []) later)
+
+-- no row more
+pub rows_end : (whole before left : List Row) → whole ≡ before ++ left → left ≡ [] → whole ≡ before
+rows_end whole before left h k = h ∙ ap (λ (rs : List Row). before ++ rs) k ∙ append-nil before
