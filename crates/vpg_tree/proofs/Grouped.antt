@@ -66,7 +66,7 @@ one_mapped P f (y ∷ xs) zero x lt is h = subst (λ z. P (f z)) (sym is) h.0
 one_mapped P f (y ∷ xs) (suc i) x lt is h = one_mapped P f xs i x (omega arith) is h.1
 
 -- the root line, the lines of the groups and those of the constraints are the diagram's text
-pub diagram_written : (tree : Tree) (names : List (List ℕ)) (groups : List Group) (places : List ℕ) (cs : List Constraint) (old none root behind all written out : List ℕ) →
+pub diagram_written : (tree : Tree) (names : List (List ℕ)) (groups : List Group) (places : List ℕ) (cs : List (Constraint ℕ)) (old none root behind all written out : List ℕ) →
     names ≡ tree.names → groups ≡ tree.groups → places ≡ tree.places → cs ≡ tree.constraints → none ≡ [] →
     root ≡ none ++ (codes "root " ++ name_of names 0 ++ codes "\n") → behind ≡ root ++ lines_text names (lines_from 0 groups places) →
     all ≡ behind ++ lines_text names (map constraint_line cs) → written ≡ all → out ≡ old ++ written → out ≡ old ++ diagram_text tree

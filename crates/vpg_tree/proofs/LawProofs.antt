@@ -131,12 +131,12 @@ module _ (set : List Bool) where
   from_excluded false true h = refl
   from_excluded false false h = refl
 
-  constraint_to_line : (c : Constraint) → IsMet c set → MeetsLine set (constraint_line c)
+  constraint_to_line : (c : Constraint ℕ) → IsMet c (has set) → MeetsLine set (constraint_line c)
   constraint_to_line (implication (feature a) (feature b)) h = to_implies (has set a) (has set b) h
   constraint_to_line (implication (feature a) (negation (feature b))) h = to_excluded (has set a) (has set b) h
   constraint_to_line c h = h
 
-  line_to_constraint : (c : Constraint) → MeetsLine set (constraint_line c) → IsMet c set
+  line_to_constraint : (c : Constraint ℕ) → MeetsLine set (constraint_line c) → IsMet c (has set)
   line_to_constraint (implication (feature a) (feature b)) h = from_implies (has set a) (has set b) h
   line_to_constraint (implication (feature a) (negation (feature b))) h = from_excluded (has set a) (has set b) h
   line_to_constraint c h = h
@@ -150,7 +150,7 @@ configurations_meet_the_lines tree set = (to, from)
       root = is.root;
       each = all_append (MeetsLine set) (lines_from 0 tree.groups tree.places) (map constraint_line tree.constraints)
           (groups_to_lines set 0 tree.groups tree.places (λ k g at. let here : k ≡ 0 + k = omega arith in subst (λ (n : ℕ). MeetsGroup set g (members_from 1 tree.places n)) here (is.groups k g at)))
-          (all_mapped (MeetsLine set) (λ c. IsMet c set) constraint_line (constraint_to_line set) tree.constraints is.constraints);
+          (all_mapped (MeetsLine set) (λ c. IsMet c (has set)) constraint_line (constraint_to_line set) tree.constraints is.constraints);
     }
 
     from : MeetsLines tree set → IsConfiguration tree set
@@ -158,5 +158,5 @@ configurations_meet_the_lines tree set = (to, from)
       length_is = m.length_is;
       root = m.root;
       groups = λ k g at. let here : 0 + k ≡ k = omega arith in subst (λ (n : ℕ). MeetsGroup set g (members_from 1 tree.places n)) here (lines_to_groups set 0 tree.groups tree.places (all_front (MeetsLine set) (lines_from 0 tree.groups tree.places) (map constraint_line tree.constraints) m.each) k g at);
-      constraints = all_unmapped (MeetsLine set) (λ c. IsMet c set) constraint_line (line_to_constraint set) tree.constraints (all_back (MeetsLine set) (lines_from 0 tree.groups tree.places) (map constraint_line tree.constraints) m.each);
+      constraints = all_unmapped (MeetsLine set) (λ c. IsMet c (has set)) constraint_line (line_to_constraint set) tree.constraints (all_back (MeetsLine set) (lines_from 0 tree.groups tree.places) (map constraint_line tree.constraints) m.each);
     }

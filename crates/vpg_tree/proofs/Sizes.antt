@@ -4,7 +4,7 @@ use Rattle.vpg_rules.specs.Constraint.{Constraint, Parts, always, never, feature
 
 -- the number of operators, parts and names
 abbrev mutual
-  pub size : Constraint → ℕ
+  pub size : Constraint ℕ → ℕ
   size always = 1
   size never = 1
   size (feature f) = 1
@@ -14,6 +14,6 @@ abbrev mutual
   size (implication c d) = size c + size d + 1
   size (equivalence c d) = size c + size d + 1
 
-  pub parts_size : Parts → ℕ
+  pub parts_size : Parts ℕ → ℕ
   parts_size no_parts = 0
   parts_size (part c cs) = size c + parts_size cs + 1

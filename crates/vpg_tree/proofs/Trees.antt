@@ -15,7 +15,7 @@ all_weaker P Q weaker [] h = tt
 all_weaker P Q weaker (x ∷ xs) h = (weaker x h.0, all_weaker P Q weaker xs h.1)
 
 mutual
-  below_more : (n m : ℕ) → n ≤ m → (c : Constraint) → IsBelow n c → IsBelow m c
+  below_more : (n m : ℕ) → n ≤ m → (c : Constraint ℕ) → IsBelow n c → IsBelow m c
   below_more n m le always h = tt
   below_more n m le never h = tt
   below_more n m le (feature f) h = omega arith
@@ -25,7 +25,7 @@ mutual
   below_more n m le (implication c d) h = (below_more n m le c h.0, below_more n m le d h.1)
   below_more n m le (equivalence c d) h = (below_more n m le c h.0, below_more n m le d h.1)
 
-  parts_more : (n m : ℕ) → n ≤ m → (cs : Parts) → AreBelow n cs → AreBelow m cs
+  parts_more : (n m : ℕ) → n ≤ m → (cs : Parts ℕ) → AreBelow n cs → AreBelow m cs
   parts_more n m le no_parts h = tt
   parts_more n m le (part c cs) h = (below_more n m le c h.0, parts_more n m le cs h.1)
 
@@ -50,7 +50,7 @@ placed_feature groups n first [] place h parents lt e =
 placed_feature groups n first (p ∷ places) place h parents lt e =
     (h.0, placed_feature groups n (suc first) places place h.1 parents lt (omega arith))
 
-pub tree_with_group : (names : List (List ℕ)) (groups : List Group) (places : List ℕ) (constraints : List Constraint) (g : Group) →
+pub tree_with_group : (names : List (List ℕ)) (groups : List Group) (places : List ℕ) (constraints : List (Constraint ℕ)) (g : Group) →
     IsTree (record { names = names; groups = groups; places = places; constraints = constraints }) → g.parent < length names →
     IsTree (record { names = names; groups = groups ++ g ∷ []; places = places; constraints = constraints })
 tree_with_group names groups places constraints g is lt = record {
@@ -61,7 +61,7 @@ tree_with_group names groups places constraints g is lt = record {
   constraints = is.constraints;
 }
 
-pub tree_with_feature : (names : List (List ℕ)) (groups : List Group) (places : List ℕ) (constraints : List Constraint) (name : List ℕ) (place : ℕ) →
+pub tree_with_feature : (names : List (List ℕ)) (groups : List Group) (places : List ℕ) (constraints : List (Constraint ℕ)) (name : List ℕ) (place : ℕ) →
     IsTree (record { names = names; groups = groups; places = places; constraints = constraints }) → AreNames (names ++ name ∷ []) → place < length groups →
     IsTree (record { names = names ++ name ∷ []; groups = groups; places = places ++ place ∷ []; constraints = constraints })
 tree_with_feature names groups places constraints name place is are lt =

@@ -1,4 +1,3 @@
-pub mod Coding
 pub mod Tree
 pub mod Lines
 pub mod RuleText

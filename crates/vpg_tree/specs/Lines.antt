@@ -13,7 +13,7 @@ pub data Line : Type 0 where
   group : (parent low high : ℕ) (members : List ℕ) → Line
   requires_line : (feature needed : ℕ) → Line
   excludes_line : (feature other : ℕ) → Line
-  rule : Constraint → Line
+  rule : Constraint ℕ → Line
 
 -- at most this many of the members, where no bound is none
 abbrev pub at_most : Option ℕ → ℕ → ℕ
@@ -36,7 +36,7 @@ lines_from first (g ∷ gs) places =
     group_lines g.kind g.parent (members_from 1 places first) ++ lines_from (suc first) gs places
 
 -- the line of a constraint: `requires` for `a => b`, `excludes` for `a => !b`, and else `rule`
-abbrev pub constraint_line : Constraint → Line
+abbrev pub constraint_line : Constraint ℕ → Line
 constraint_line (implication (feature a) (feature b)) = requires_line a b
 constraint_line (implication (feature a) (negation (feature b))) = excludes_line a b
 constraint_line c = rule c
@@ -62,4 +62,4 @@ MeetsLine s (or p cs) = MeetsMembers s p cs (λ n. 1 ≤ n)
 MeetsLine s (group p low high cs) = MeetsMembers s p cs (λ n. (low ≤ n) × (n ≤ high))
 MeetsLine s (requires_line a b) = Has s a → Has s b
 MeetsLine s (excludes_line a b) = Has s a → Has s b → ⊥
-MeetsLine s (rule c) = IsMet c s
+MeetsLine s (rule c) = IsMet c (has s)

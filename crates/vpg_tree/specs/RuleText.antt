@@ -3,7 +3,7 @@ use Rattle.std.specs.Prelude.{ℕ, List, [], ◌∷◌, ◌++◌, Bool, true, fa
 use Rattle.vpg_rules.specs.Constraint.{Constraint, Parts, always, never, feature, negation, all, any, implication, equivalence, no_parts, part}
 
 -- how closely the outermost operator binds
-abbrev pub closeness : Constraint → ℕ
+abbrev pub closeness : Constraint ℕ → ℕ
 closeness always = 4
 closeness never = 4
 closeness (feature f) = 4
@@ -20,7 +20,7 @@ enclosed_if false text = text
 
 -- the one writing of a rule, where features have these names
 abbrev mutual
-  pub rule_text : List (List ℕ) → Constraint → List ℕ
+  pub rule_text : List (List ℕ) → Constraint ℕ → List ℕ
   rule_text names always = codes "true"
   rule_text names never = codes "false"
   rule_text names (feature f) = slice_index_or names f []
@@ -34,21 +34,21 @@ abbrev mutual
       enclosed_if (nat_lt (closeness c) 1) (rule_text names c) ++ codes " <=> " ++ rule_text names d
 
   -- `true` if there are no parts
-  pub all_text : List (List ℕ) → Parts → List ℕ
+  pub all_text : List (List ℕ) → Parts ℕ → List ℕ
   all_text names no_parts = codes "true"
   all_text names (part c cs) = enclosed_if (nat_lt (closeness c) 4) (rule_text names c) ++ more_all_text names cs
 
-  pub more_all_text : List (List ℕ) → Parts → List ℕ
+  pub more_all_text : List (List ℕ) → Parts ℕ → List ℕ
   more_all_text names no_parts = []
   more_all_text names (part c cs) =
       codes " & " ++ enclosed_if (nat_lt (closeness c) 4) (rule_text names c) ++ more_all_text names cs
 
   -- `false` if there are no parts
-  pub any_text : List (List ℕ) → Parts → List ℕ
+  pub any_text : List (List ℕ) → Parts ℕ → List ℕ
   any_text names no_parts = codes "false"
   any_text names (part c cs) = enclosed_if (nat_lt (closeness c) 3) (rule_text names c) ++ more_any_text names cs
 
-  pub more_any_text : List (List ℕ) → Parts → List ℕ
+  pub more_any_text : List (List ℕ) → Parts ℕ → List ℕ
   more_any_text names no_parts = []
   more_any_text names (part c cs) =
       codes " | " ++ enclosed_if (nat_lt (closeness c) 3) (rule_text names c) ++ more_any_text names cs

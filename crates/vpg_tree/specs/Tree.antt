@@ -16,7 +16,7 @@ pub record Tree : Type 0 where
   pub groups : List Group
   -- for each feature below the root, in order, the number of its group
   pub places : List ℕ
-  pub constraints : List Constraint
+  pub constraints : List (Constraint ℕ)
 
 -- among features from a first one on, with these groups, the members of a group
 abbrev pub members_from : ℕ → List ℕ → ℕ → List ℕ
@@ -66,4 +66,4 @@ pub record IsConfiguration (tree : Tree) (set : List Bool) : Type 0 where
   pub root : IsTrue (has set 0)
   pub groups : (number : ℕ) (group : Group) → slice_get tree.groups number ≡ Some group →
       MeetsGroup set group (members tree number)
-  pub constraints : AllByRecursion (λ c. IsMet c set) tree.constraints
+  pub constraints : AllByRecursion (λ c. IsMet c (has set)) tree.constraints

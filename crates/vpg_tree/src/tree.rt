@@ -39,9 +39,9 @@ impl Model for Tree {
     ghost Value = { FeatureTree };
 
     ghost use Rattle.std.specs.Coded.{codes};
-    ghost use Rattle.vpg_tree.specs.Coding.{constraint_code};
+    ghost use Rattle.vpg_rules.specs.Coding.{rule_code};
 
-    ghost coded = { Prim.hlevel (codes, constraint_code) };
+    ghost coded = { Prim.hlevel (codes, rule_code) };
 
     ghost view = { λ t. record {
       names = t.names;
