@@ -20,26 +20,26 @@ use Rattle.vpg_featureide.specs.declared.fault.ModelFault.TheVariants as faults
 
 -- ---- several operands
 
-pub several_few : (at : ℕ) (make : Parts → Constraint) (cs : List Constraint) (e : ModelFault) → length cs < 2 →
-    ((m : Constraint → Constraint) → alone at m cs ≡ Err e) → several at make cs ≡ Err e
+pub several_few : (at : ℕ) (make : Parts ℕ → Constraint ℕ) (cs : List (Constraint ℕ)) (e : ModelFault) → length cs < 2 →
+    ((m : Constraint ℕ → Constraint ℕ) → alone at m cs ≡ Err e) → several at make cs ≡ Err e
 several_few at make [] e l h = h (λ c. c)
 several_few at make (c ∷ []) e l h = let both : Ok c ≡ Err e = h (λ x. x) in absurd (cc)
 several_few at make (c ∷ d ∷ cs) e l h = absurd (omega arith)
 
-pub several_more : (at : ℕ) (make : Parts → Constraint) (cs : List Constraint) → 2 ≤ length cs → several at make cs ≡ Ok (make (parts_of cs))
+pub several_more : (at : ℕ) (make : Parts ℕ → Constraint ℕ) (cs : List (Constraint ℕ)) → 2 ≤ length cs → several at make cs ≡ Ok (make (parts_of cs))
 several_more at make [] l = absurd (omega arith)
 several_more at make (c ∷ []) l = absurd (omega arith)
 several_more at make (c ∷ d ∷ cs) l = refl
 
 -- ---- nesting
 
-pub formula_more : (n : ℕ) (names : List (List ℕ)) (roles : List Role) (d : Document) (i : ℕ) (cs : List Constraint) → (n ≡ 0 → ⊥) →
+pub formula_more : (n : ℕ) (names : List (List ℕ)) (roles : List Role) (d : Document) (i : ℕ) (cs : List (Constraint ℕ)) → (n ≡ 0 → ⊥) →
     operands_with (formula_with (n - 1) names roles d) roles i 0 [] d ≡ Ok cs → formula_with n names roles d i ≡ joined_if names (slice_get d i) cs
 formula_more zero names roles d i cs some e = absurd (some refl)
 formula_more (suc n) names roles d i cs some e =
     let less : suc n - 1 ≡ n = omega arith in
     let same : operands_with (formula_with n names roles d) roles i 0 [] d ≡ Ok cs = subst (λ (k : ℕ). operands_with (formula_with k names roles d) roles i 0 [] d ≡ Ok cs) less e in
-    ap (λ (o : Result (List Constraint) ModelFault). o >>= λ xs. joined_if names (slice_get d i) xs) same
+    ap (λ (o : Result (List (Constraint ℕ)) ModelFault). o >>= λ xs. joined_if names (slice_get d i) xs) same
 
 pub element_is : (xs : List code_element.Element) (i : ℕ) (e : code_element.Element) → i < length xs → e ≡ get_or xs i e → slice_get (elements_of xs) i ≡ Some (element_of e)
 element_is [] i e l is = absurd (omega arith)
@@ -52,27 +52,27 @@ no_element xs i l = slice_get_past (elements_of xs) i (omega (arith, l, length-m
 -- ---- rules
 
 module _ (names : List (List ℕ)) (roles : List Role) (d : Document) where
-  abbrev From : ℕ → List Constraint → Document → Result (List Constraint) ModelFault
+  abbrev From : ℕ → List (Constraint ℕ) → Document → Result (List (Constraint ℕ)) ModelFault
   From i before es = rules_with names roles d i before es
 
-  pub rules_here : (xs : List code_element.Element) (i : ℕ) (e : code_element.Element) (before : List Constraint) → i < length xs → e ≡ get_or xs i e →
+  pub rules_here : (xs : List code_element.Element) (i : ℕ) (e : code_element.Element) (before : List (Constraint ℕ)) → i < length xs → e ≡ get_or xs i e →
       From i before (elements_of (drop i xs)) ≡ From i before (element_of e ∷ elements_of (drop (i + 1) xs))
   rules_here xs i e before l is =
       at_drop_more (λ ys. From i before (elements_of ys)) xs i e l ∙ ap (λ (y : code_element.Element). From i before (element_of y ∷ elements_of (drop (i + 1) xs))) (sym is)
 
-  pub rules_err : (i : ℕ) (e : Element) (before : List Constraint) (rest : Document) (fault : ModelFault) → is_rule (slice_index_or roles i Outside) ≡ true →
+  pub rules_err : (i : ℕ) (e : Element) (before : List (Constraint ℕ)) (rest : Document) (fault : ModelFault) → is_rule (slice_index_or roles i Outside) ≡ true →
       IsRefused (rule_at names roles d i e) fault → IsRefused (From i before (e ∷ rest)) fault
   rules_err i e before rest fault is (inl m) = inl m
   rules_err i e before rest fault is (inr h) = inr (ap (λ (t : Bool). cond t (rule_at names roles d i e >>= λ c. From (suc i) (before ++ c ∷ []) rest) (From (suc i) before rest)) is
-      ∙ ap (λ (o : Result Constraint ModelFault). o >>= λ c. From (suc i) (before ++ c ∷ []) rest) h)
+      ∙ ap (λ (o : Result (Constraint ℕ) ModelFault). o >>= λ c. From (suc i) (before ++ c ∷ []) rest) h)
 
-  pub rules_more : (i j : ℕ) (e : Element) (before : List Constraint) (rest : Document) (c : Constraint) → j ≡ suc i → is_rule (slice_index_or roles i Outside) ≡ true →
+  pub rules_more : (i j : ℕ) (e : Element) (before : List (Constraint ℕ)) (rest : Document) (c : Constraint ℕ) → j ≡ suc i → is_rule (slice_index_or roles i Outside) ≡ true →
       rule_at names roles d i e ≡ Ok c → From i before (e ∷ rest) ≡ From j (before ++ c ∷ []) rest
   rules_more i j e before rest c next is h =
       ap (λ (t : Bool). cond t (rule_at names roles d i e >>= λ x. From (suc i) (before ++ x ∷ []) rest) (From (suc i) before rest)) is
-      ∙ (ap (λ (o : Result Constraint ModelFault). o >>= λ x. From (suc i) (before ++ x ∷ []) rest) h ∙ ap (λ (k : ℕ). From k (before ++ c ∷ []) rest) (sym next))
+      ∙ (ap (λ (o : Result (Constraint ℕ) ModelFault). o >>= λ x. From (suc i) (before ++ x ∷ []) rest) h ∙ ap (λ (k : ℕ). From k (before ++ c ∷ []) rest) (sym next))
 
-  pub rules_less : (i j : ℕ) (e : Element) (before : List Constraint) (rest : Document) → j ≡ suc i → is_rule (slice_index_or roles i Outside) ≡ false →
+  pub rules_less : (i j : ℕ) (e : Element) (before : List (Constraint ℕ)) (rest : Document) → j ≡ suc i → is_rule (slice_index_or roles i Outside) ≡ false →
       From i before (e ∷ rest) ≡ From j before rest
   rules_less i j e before rest next is =
       ap (λ (t : Bool). cond t (rule_at names roles d i e >>= λ x. From (suc i) (before ++ x ∷ []) rest) (From (suc i) before rest)) is

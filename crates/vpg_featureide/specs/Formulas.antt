@@ -39,8 +39,8 @@ is_operand roles i j e = is_child i e.parent && is_formula (slice_index_or roles
 
 -- The operands of an element, after these, among the elements from an index on. Each is read so.
 abbrev pub operands_with :
-    (ℕ → Result Constraint ModelFault) → List Role → ℕ → ℕ → List Constraint → Document →
-    Result (List Constraint) ModelFault
+    (ℕ → Result (Constraint ℕ) ModelFault) → List Role → ℕ → ℕ → List (Constraint ℕ) → Document →
+    Result (List (Constraint ℕ)) ModelFault
 operands_with read roles i j before [] = Ok before
 operands_with read roles i j before (e ∷ rest) =
     if is_operand roles i j e
@@ -60,25 +60,26 @@ abbrev pub feature_in : List (List ℕ) → List ℕ → Option ℕ
 feature_in names text =
     if list_all is_blank (drop (word_len text) text) then index_of names (take (word_len text) text) else None
 
-abbrev pub known : ℕ → Option ℕ → Result Constraint ModelFault
+abbrev pub known : ℕ → Option ℕ → Result (Constraint ℕ) ModelFault
 known at None = Err (faults.UnknownName at)
 known at (Some f) = Ok (feature f)
 
-abbrev pub variable : List (List ℕ) → Element → List Constraint → Result Constraint ModelFault
+abbrev pub variable : List (List ℕ) → Element → List (Constraint ℕ) → Result (Constraint ℕ) ModelFault
 variable names e [] = known e.at (feature_in names (after_blanks e.text))
 variable names e (c ∷ cs) = Err (faults.Operands e.at)
 
-abbrev pub alone : ℕ → (Constraint → Constraint) → List Constraint → Result Constraint ModelFault
+abbrev pub alone : ℕ → (Constraint ℕ → Constraint ℕ) → List (Constraint ℕ) → Result (Constraint ℕ) ModelFault
 alone at make [] = Err (faults.Operands at)
 alone at make (c ∷ []) = Ok (make c)
 alone at make (c ∷ d ∷ cs) = Err (faults.Operands at)
 
-abbrev pub several : ℕ → (Parts → Constraint) → List Constraint → Result Constraint ModelFault
+abbrev pub several : ℕ → (Parts ℕ → Constraint ℕ) → List (Constraint ℕ) → Result (Constraint ℕ) ModelFault
 several at make [] = Err (faults.Operands at)
 several at make (c ∷ []) = Ok c
 several at make (c ∷ d ∷ cs) = Ok (make (parts_of (c ∷ d ∷ cs)))
 
-abbrev pub pair : ℕ → (Constraint → Constraint → Constraint) → List Constraint → Result Constraint ModelFault
+abbrev pub pair :
+    ℕ → (Constraint ℕ → Constraint ℕ → Constraint ℕ) → List (Constraint ℕ) → Result (Constraint ℕ) ModelFault
 pair at make [] = Err (faults.Operands at)
 pair at make (c ∷ []) = Err (faults.Operands at)
 pair at make (c ∷ d ∷ []) = Ok (make c d)
@@ -86,7 +87,7 @@ pair at make (c ∷ d ∷ b ∷ cs) = Err (faults.Operands at)
 
 -- The constraint of an element, by its operands: `var`, `not`, `conj`, `disj`, `imp`, `eq`. A conjunction or
 -- disjunction of one operand is that operand.
-abbrev pub joined : List (List ℕ) → Element → List Constraint → Result Constraint ModelFault
+abbrev pub joined : List (List ℕ) → Element → List (Constraint ℕ) → Result (Constraint ℕ) ModelFault
 joined names e cs =
     if bytes_eq e.tag.name (codes "var") then variable names e cs
     else (if bytes_eq e.tag.name (codes "not") then alone e.at negation cs
@@ -95,25 +96,25 @@ joined names e cs =
     else (if bytes_eq e.tag.name (codes "imp") then pair e.at implication cs
     else pair e.at equivalence cs))))
 
-abbrev pub joined_if : List (List ℕ) → Option Element → List Constraint → Result Constraint ModelFault
+abbrev pub joined_if : List (List ℕ) → Option Element → List (Constraint ℕ) → Result (Constraint ℕ) ModelFault
 joined_if names None cs = Err (faults.Operands 0)
 joined_if names (Some e) cs = joined names e cs
 
 -- The constraint of the element at an index. At most this many elements nest in it.
 abbrev pub formula_with :
-    ℕ → List (List ℕ) → List Role → Document → ℕ → Result Constraint ModelFault
+    ℕ → List (List ℕ) → List Role → Document → ℕ → Result (Constraint ℕ) ModelFault
 formula_with zero names roles d i = Err (faults.Operands 0)
 formula_with (suc n) names roles d i =
     operands_with (formula_with n names roles d) roles i 0 [] d >>= λ cs. joined_if names (slice_get d i) cs
 
 -- the constraint of a rule, which has one operand
-abbrev pub rule_at : List (List ℕ) → List Role → Document → ℕ → Element → Result Constraint ModelFault
+abbrev pub rule_at : List (List ℕ) → List Role → Document → ℕ → Element → Result (Constraint ℕ) ModelFault
 rule_at names roles d i e =
     operands_with (formula_with 64 names roles d) roles i 0 [] d >>= λ cs. alone e.at (λ c. c) cs
 
 -- the constraints of the rules, after these, among the elements from an index on
 abbrev pub rules_with :
-    List (List ℕ) → List Role → Document → ℕ → List Constraint → Document → Result (List Constraint) ModelFault
+    List (List ℕ) → List Role → Document → ℕ → List (Constraint ℕ) → Document → Result (List (Constraint ℕ)) ModelFault
 rules_with names roles d i before [] = Ok before
 rules_with names roles d i before (e ∷ rest) =
     if is_rule (slice_index_or roles i Outside)
@@ -128,9 +129,9 @@ pub record FeatureModel : Type 0 where
   pub names : List (List ℕ)
   pub kinds : List Role
   pub members : List Member
-  pub constraints : List Constraint
+  pub constraints : List (Constraint ℕ)
 
-abbrev pub model_with : Seen → List Constraint → FeatureModel
+abbrev pub model_with : Seen → List (Constraint ℕ) → FeatureModel
 model_with s cs = record { names = s.names; kinds = s.kinds; members = s.members; constraints = cs }
 
 abbrev pub with_constraints : Document → Seen → List (List ℕ) → Result FeatureModel ModelFault

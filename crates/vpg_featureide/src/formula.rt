@@ -1,5 +1,5 @@
 //! The constraints of a model.
-ghost use Rattle.std.specs.Prelude.{◌≡◌, ◌≤◌, [], length, map, slice_index_or, Ok, Err, IfOk, IfErr};
+ghost use Rattle.std.specs.Prelude.{◌≡◌, ℕ, ◌≤◌, [], length, map, slice_index_or, Ok, Err, IfOk, IfErr};
 ghost use Rattle.std.specs.List.{list_all, prefix_len};
 ghost use Rattle.vpg_rules.specs.Constraint.{Constraint, negation, all, any};
 ghost use Rattle.vpg_rules.specs.View.{constraint_of};
@@ -116,8 +116,8 @@ fn variable(names: &Names, e: &Element, parts: Vec<Rule>) -> Result<Rule, ModelF
 fn only(at: usize, parts: Vec<Rule>) -> Result<Rule, ModelFault>
     ensures ok { IfOk result (λ r. alone at (λ c. c) (map constraint_of parts.items) ≡ Ok (constraint_of r)) }
     ensures err { IfErr result
-        (λ e. (make : Constraint → Constraint) → alone at make (map constraint_of parts.items) ≡ Err e) }
-    ensures make { IfOk result (λ r. (make : Constraint → Constraint) →
+        (λ e. (make : Constraint ℕ → Constraint ℕ) → alone at make (map constraint_of parts.items) ≡ Err e) }
+    ensures make { IfOk result (λ r. (make : Constraint ℕ → Constraint ℕ) →
         alone at make (map constraint_of parts.items) ≡ Ok (make (constraint_of r))) }
 {
     let mut parts = parts;
@@ -167,9 +167,9 @@ fn disjunction(at: usize, parts: Vec<Rule>) -> Result<Rule, ModelFault>
 
 /// Returns the two rules of a list that has no others.
 fn two(alloc: Global, at: usize, parts: Vec<Rule>) -> Result<(Box<Rule>, Box<Rule>), ModelFault>
-    ensures ok { IfOk result (λ p. (make : Constraint → Constraint → Constraint) →
+    ensures ok { IfOk result (λ p. (make : Constraint ℕ → Constraint ℕ → Constraint ℕ) →
         pair at make (map constraint_of parts.items) ≡ Ok (make (constraint_of p.0.value) (constraint_of p.1.value))) }
-    ensures err { IfErr result (λ e. (make : Constraint → Constraint → Constraint) →
+    ensures err { IfErr result (λ e. (make : Constraint ℕ → Constraint ℕ → Constraint ℕ) →
         IsRefused (pair at make (map constraint_of parts.items)) e) }
 {
     let mut parts = parts;

@@ -1,4 +1,4 @@
-use Rattle.std.proofs.Common.{◌≡◌, List, Option, inr, map, ap, ◌∙◌}
+use Rattle.std.proofs.Common.{◌≡◌, ℕ, List, Option, inr, map, ap, ◌∙◌}
 use Rattle.vpg_rules.specs.Constraint.{Constraint}
 use Rattle.vpg_rules.specs.View.{constraint_of}
 use Rattle.vpg_xml.specs.Elements.{Element}
@@ -14,7 +14,7 @@ formula-returns-then-i-elements-clause-ok t c =
     let roles = c.args.roles.now in
     let xs = c.args.elements.now in
     let i = c.args.i in
-    let cs : List Constraint = map constraint_of c.in-Ok.parts.items in
+    let cs : List (Constraint ℕ) = map constraint_of c.in-Ok.parts.items in
     let e = c.index-elements-i.result in
     let whole : formula_with c.args.depth names roles (elements_of xs) i ≡ joined names (element_of e) cs =
     formula_more c.args.depth names roles (elements_of xs) i cs c.if-depth-eq0.false c.in-Ok.ensures.ok
@@ -27,7 +27,7 @@ formula-returns-then-i-elements-clause-err t c =
     let roles = c.args.roles.now in
     let xs = c.args.elements.now in
     let i = c.args.i in
-    let cs : List Constraint = map constraint_of c.in-Ok.parts.items in
+    let cs : List (Constraint ℕ) = map constraint_of c.in-Ok.parts.items in
     let e = c.index-elements-i.result in
     let whole : formula_with c.args.depth names roles (elements_of xs) i ≡ joined names (element_of e) cs =
     formula_more c.args.depth names roles (elements_of xs) i cs c.if-depth-eq0.false c.in-Ok.ensures.ok
@@ -40,6 +40,6 @@ formula-returns-else-i-elements-clause-err t c =
     let roles = c.args.roles.now in
     let xs = c.args.elements.now in
     let i = c.args.i in
-    let cs : List Constraint = map constraint_of c.in-Ok.parts.items in
+    let cs : List (Constraint ℕ) = map constraint_of c.in-Ok.parts.items in
     inr (formula_more c.args.depth names roles (elements_of xs) i cs c.if-depth-eq0.false c.in-Ok.ensures.ok
     ∙ ap (λ (o : Option Element). joined_if names o cs) (no_element xs i c.if-i-elements.false))

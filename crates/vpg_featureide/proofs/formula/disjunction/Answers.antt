@@ -1,4 +1,4 @@
-use Rattle.std.proofs.Common.{◌≡◌, ◌<◌, ◌≤◌, Ok, length, map, vec_len, rules, sym, ap, ◌∙◌, arith}
+use Rattle.std.proofs.Common.{◌≡◌, ℕ, ◌<◌, ◌≤◌, Ok, length, map, vec_len, rules, sym, ap, ◌∙◌, arith}
 use Rattle.std.proofs.lemmas.List.{length-map}
 use Rattle.vpg_rules.specs.Constraint.{Constraint, Parts, any}
 use Rattle.vpg_rules.specs.View.{constraint_of, parts_in}
@@ -20,4 +20,4 @@ returns-clause-ok c =
     let count : vec_len c.args.parts ≡ length xs = search rules in
     let many : 2 ≤ length (map constraint_of xs) = omega (arith, count, c.len.ensures, c.if-len-lt2.false, length-map xs constraint_of) in
     let is : constraint_of (Any c.new.result) ≡ any (parts_in c.new.result) = search (rules, the_lemmas) in
-    several_more c.args.at (λ x. any x) (map constraint_of xs) many ∙ (ap (λ (ps : Parts). Ok (any ps)) (sym c.new.ensures) ∙ ap (λ (x : Constraint). Ok x) (sym is))
+    several_more c.args.at (λ x. any x) (map constraint_of xs) many ∙ (ap (λ (ps : Parts ℕ). Ok (any ps)) (sym c.new.ensures) ∙ ap (λ (x : Constraint ℕ). Ok x) (sym is))

@@ -1,4 +1,4 @@
-use Rattle.std.proofs.Common.{◌≡◌, ◌+◌, ◌++◌, ◌∷◌, [], suc, true, List, drop, map, sym, ap, ◌∙◌, arith}
+use Rattle.std.proofs.Common.{◌≡◌, ℕ, ◌+◌, ◌++◌, ◌∷◌, [], suc, true, List, drop, map, sym, ap, ◌∙◌, arith}
 use Rattle.std.specs.Prelude.{slice_index_or}
 use Rattle.std.proofs.lemmas.List.{map-append}
 use Rattle.vpg_rules.specs.Constraint.{Constraint}
@@ -17,7 +17,7 @@ returns-in-Err-clause-err c =
     let xs = c.args.elements.now in
     let i = c.loop-i.i in
     let e = c.index-elements-i.result in
-    let before : List Constraint = map constraint_of c.loop-i.found.items in
+    let before : List (Constraint ℕ) = map constraint_of c.loop-i.found.items in
     let is : is_rule (slice_index_or roles i Outside) ≡ true = sym (ap is_rule c.role_at.ensures) ∙ (sym c.is_rule.ensures ∙ c.if-is_rule.true) in
     refused_along _ _ c.in-Err.fault (c.loop-i.invariant ∙ rules_here names roles (elements_of xs) xs i e before c.loop-i-test.true c.index-elements-i.is)
     (rules_err names roles (elements_of xs) i (element_of e) before (elements_of (drop (i + 1) xs)) c.in-Err.fault is c.in-Err.ensures.err)
@@ -30,7 +30,7 @@ loop-i-preserved c =
     let d = elements_of xs in
     let i = c.loop-i.i in
     let e = c.index-elements-i.result in
-    let before : List Constraint = map constraint_of c.loop-i.found.items in
+    let before : List (Constraint ℕ) = map constraint_of c.loop-i.found.items in
     let rest = elements_of (drop (i + 1) xs) in
     let role : is_rule (slice_index_or roles i Outside) ≡ c.is_rule.result = sym (ap is_rule c.role_at.ensures) ∙ sym c.is_rule.ensures in
     let here = c.loop-i.invariant ∙ rules_here names roles d xs i e before c.loop-i-test.true c.index-elements-i.is in
@@ -41,9 +41,9 @@ loop-i-preserved c =
           let pushed : map constraint_of c.if-is_rule.found.items ≡ before ++ constraint_of w.in-Ok.rule ∷ [] =
           ap (λ v. map constraint_of v.items) w.found-is ∙ (ap (λ rs. map constraint_of rs) items ∙ map-append constraint_of c.loop-i.found.items (w.in-Ok.rule ∷ [])) in
           here ∙ (rules_more names roles d i (i + 1) (element_of e) before rest (constraint_of w.in-Ok.rule) next (role ∙ w.if-is_rule.true) w.in-Ok.ensures.ok
-          ∙ sym (ap (λ (cs : List Constraint). rules_with names roles d (i + 1) cs rest) pushed)))
+          ∙ sym (ap (λ (cs : List (Constraint ℕ)). rules_with names roles d (i + 1) cs rest) pushed)))
       | else-is_rule w ↦
           (let kept : map constraint_of c.if-is_rule.found.items ≡ before = ap (λ v. map constraint_of v.items) w.found-is in
           here ∙ (rules_less names roles d i (i + 1) (element_of e) before rest next (role ∙ w.if-is_rule.false)
-          ∙ sym (ap (λ (cs : List Constraint). rules_with names roles d (i + 1) cs rest) kept)))
+          ∙ sym (ap (λ (cs : List (Constraint ℕ)). rules_with names roles d (i + 1) cs rest) kept)))
     ]
