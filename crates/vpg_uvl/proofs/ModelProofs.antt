@@ -2,9 +2,9 @@
 use Rattle.std.proofs.Common.{◌≡◌, ℕ, List, [], ◌∷◌, ◌++◌, Result, Ok, Err, inl, inr, refl, sym, ap, ap₂, subst, ◌∙◌, append_assoc}
 use Rattle.std.proofs.lemmas.List.{append-nil}
 use Rattle.std.specs.List.{AllZip}
-use Rattle.vpg_features.specs.Names.{AreNames}
-use Rattle.vpg_rules.specs.Constraint.{Constraint}
+use Rattle.vpg_rules.specs.Constraint.{Constraint, renamed}
 use Rattle.vpg_rules.specs.Grammar as rules
+use Rattle.vpg_rules.specs.Grammar.{NamedRule, index_or_end}
 use Rattle.vpg_rules.proofs.Levels.{rule_again}
 use Rattle.vpg_rules.proofs.Marks.{some_is}
 use Rattle.vpg_tree.specs.Tree.{Tree}
@@ -26,22 +26,26 @@ zip_more R [] (z ∷ ys) x y h k = absurd h
 zip_more R (z ∷ xs) [] x y h k = absurd h
 zip_more R (w ∷ xs) (z ∷ ys) x y h k = (h.0, zip_more R xs ys x y h.1 k)
 
-one_rule : (names : List (List ℕ)) (text : List ℕ) (c d : Constraint) → AreNames names → rules.Spells names text c → rules.Spells names text d → c ≡ d
-one_rule names text c d are s t = some_is c d (sym (rule_again names text c are s) ∙ rule_again names text d are t)
+one_rule : (text : List ℕ) (c d : NamedRule) → rules.Spells text c → rules.Spells text d → c ≡ d
+one_rule text c d s t = some_is c d (sym (rule_again text c s) ∙ rule_again text d t)
 
-same_constraints : (names : List (List ℕ)) → AreNames names → (behind : List Row) (cs ds : List Constraint) → AllZip (SpellsConstraint names) behind cs → AllZip (SpellsConstraint names) behind ds → cs ≡ ds
-same_constraints names are [] [] [] h k = refl
-same_constraints names are [] [] (d ∷ ds) h k = absurd k
-same_constraints names are [] (c ∷ cs) ds h k = absurd h
-same_constraints names are (row ∷ behind) [] ds h k = absurd h
-same_constraints names are (row ∷ behind) (c ∷ cs) [] h k = absurd k
-same_constraints names are (row ∷ behind) (c ∷ cs) (d ∷ ds) h k =
-    ap₂ (λ (x : Constraint) (xs : List Constraint). x ∷ xs) (one_rule names row.bytes c d are h.0.rule k.0.rule) (same_constraints names are behind cs ds h.1 k.1)
+one_constraint : (names : List (List ℕ)) (row : Row) (c d : Constraint ℕ) → SpellsConstraint names row c → SpellsConstraint names row d → c ≡ d
+one_constraint names row c d h k =
+    h.indices ∙ ap (renamed (index_or_end names)) (one_rule row.bytes h.rule k.rule h.spelled k.spelled) ∙ sym k.indices
+
+same_constraints : (names : List (List ℕ)) (behind : List Row) (cs ds : List (Constraint ℕ)) → AllZip (SpellsConstraint names) behind cs → AllZip (SpellsConstraint names) behind ds → cs ≡ ds
+same_constraints names [] [] [] h k = refl
+same_constraints names [] [] (d ∷ ds) h k = absurd k
+same_constraints names [] (c ∷ cs) ds h k = absurd h
+same_constraints names (row ∷ behind) [] ds h k = absurd h
+same_constraints names (row ∷ behind) (c ∷ cs) [] h k = absurd k
+same_constraints names (row ∷ behind) (c ∷ cs) (d ∷ ds) h k =
+    ap₂ (λ (x : Constraint ℕ) (xs : List (Constraint ℕ)). x ∷ xs) (one_constraint names row c d h.0 k.0) (same_constraints names behind cs ds h.1 k.1)
 
 -- the tree without its constraints is the one that was read first
 bare_again : (bare tree : Tree) → bare.constraints ≡ [] → tree ≡ record bare { constraints = tree.constraints } → record tree { constraints = [] } ≡ bare
 bare_again bare tree none same =
-    ap (λ (t : Tree). record t { constraints = [] }) same ∙ ap (λ (cs : List Constraint). record bare { constraints = cs }) (sym none)
+    ap (λ (t : Tree). record t { constraints = [] }) same ∙ ap (λ (cs : List (Constraint ℕ)). record bare { constraints = cs }) (sym none)
 
 pub model_found : (text : List ℕ) (bare tree : Tree) (behind : List Row) → features_after (rows text) ≡ Ok (record { tree = bare; behind = behind }) → bare.constraints ≡ [] → ReadsBehind bare behind tree → Spells text tree
 model_found text bare tree behind read none reads = record {
@@ -57,16 +61,16 @@ tree_of f (Err e) = f
 same_features : (r : Result Features UvlFault) (f g : Features) → r ≡ Ok f → r ≡ Ok g → f ≡ g
 same_features r f g h k = ap (tree_of f) (sym h ∙ k)
 
-pub model_only : (text : List ℕ) (bare tree other : Tree) (behind : List Row) → features_after (rows text) ≡ Ok (record { tree = bare; behind = behind }) → AreNames bare.names → ReadsBehind bare behind tree → Spells text other → tree ≡ other
-model_only text bare tree other behind read are reads spells =
+pub model_only : (text : List ℕ) (bare tree other : Tree) (behind : List Row) → features_after (rows text) ≡ Ok (record { tree = bare; behind = behind }) → ReadsBehind bare behind tree → Spells text other → tree ≡ other
+model_only text bare tree other behind read reads spells =
     let both = same_features (features_after (rows text)) (record { tree = bare; behind = behind }) (record { tree = record other { constraints = [] }; behind = spells.behind }) read spells.features in
     let bare_is : bare ≡ record other { constraints = [] } = ap (λ (f : Features). f.tree) both in
     let behind_is : behind ≡ spells.behind = ap (λ (f : Features). f.behind) both in
     let here : AllZip (SpellsConstraint bare.names) behind other.constraints =
     subst (λ (rs : List Row). AllZip (SpellsConstraint bare.names) rs other.constraints) (sym behind_is)
     (subst (λ (t : Tree). AllZip (SpellsConstraint t.names) spells.behind other.constraints) (sym bare_is) spells.constraints) in
-    let constraints_are : tree.constraints ≡ other.constraints = same_constraints bare.names are behind tree.constraints other.constraints reads.constraints here in
-    reads.same ∙ ap (λ (t : Tree). record t { constraints = tree.constraints }) bare_is ∙ ap (λ (cs : List Constraint). record other { constraints = cs }) constraints_are
+    let constraints_are : tree.constraints ≡ other.constraints = same_constraints bare.names behind tree.constraints other.constraints reads.constraints here in
+    reads.same ∙ ap (λ (t : Tree). record t { constraints = tree.constraints }) bare_is ∙ ap (λ (cs : List (Constraint ℕ)). record other { constraints = cs }) constraints_are
 
 ok_no_err : (r : Result Features UvlFault) (f : Features) (e : UvlFault) → r ≡ Ok f → r ≡ Err e → ⊥
 ok_no_err r f e h k = let w : Ok f ≡ Err e = sym h ∙ k in cc
@@ -91,7 +95,7 @@ no_fault_behind text bare tree behind (Refused reason line column) read spells h
     absurd (h.faulty one.0 one.1)
 
 -- the fault of a row is that of the rows, if those before it are read
-pub row_fault : (names : List (List ℕ)) (behind before after : List Row) (row : Row) (read : List Constraint) (fault : UvlFault) → behind ≡ before ++ row ∷ after → AllZip (SpellsConstraint names) before read → IsRowFault names row fault → IsFaultBehind names behind fault
+pub row_fault : (names : List (List ℕ)) (behind before after : List Row) (row : Row) (read : List (Constraint ℕ)) (fault : UvlFault) → behind ≡ before ++ row ∷ after → AllZip (SpellsConstraint names) before read → IsRowFault names row fault → IsFaultBehind names behind fault
 row_fault names behind before after row read Memory parts spelled h = tt
 row_fault names behind before after row read Ended parts spelled h = absurd h
 row_fault names behind before after row read (Refused reason line column) parts spelled h = record {
@@ -105,6 +109,7 @@ row_fault names behind before after row read (Refused reason line column) parts 
   line_is = h.1;
   positive = h.2;
   within = h.3;
+  why = h.4;
 }
 
 -- the first fault of a text

@@ -104,6 +104,6 @@ module _ (row : Row) (behind : List Row) where
       ∙ ap (λ (o : Option Stop). after_front row o (features_after behind)) err
 
 -- constraints may be added
-pub same_more : (first old new : Tree) (cs : List Constraint) → old ≡ record first { constraints = old.constraints } → new ≡ record old { constraints = cs } → new ≡ record first { constraints = new.constraints }
+pub same_more : (first old new : Tree) (cs : List (Constraint ℕ)) → old ≡ record first { constraints = old.constraints } → new ≡ record old { constraints = cs } → new ≡ record first { constraints = new.constraints }
 same_more first old new cs h k =
-    k ∙ ap (λ (t : Tree). record t { constraints = cs }) h ∙ ap (λ (xs : List Constraint). record first { constraints = xs }) (sym (ap (λ (t : Tree). t.constraints) k))
+    k ∙ ap (λ (t : Tree). record t { constraints = cs }) h ∙ ap (λ (xs : List (Constraint ℕ)). record first { constraints = xs }) (sym (ap (λ (t : Tree). t.constraints) k))

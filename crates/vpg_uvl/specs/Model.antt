@@ -1,14 +1,15 @@
 -- Which feature tree a text in the Universal Variability Language (UVL) spells, and its first fault. The profile:
 -- features with names of this project, groups, attributes that say nothing of constraints, and constraints over
 -- features.
-use Rattle.std.specs.Prelude.{ℕ, ◌+◌, ◌-◌, ◌<◌, ◌≤◌, ◌≡◌, false, if◌then◌else◌, List, [], ◌∷◌, ◌++◌, length, Option, Some, None, Result, Ok, Err, codes, ◌⊎◌, ⊤}
+use Rattle.std.specs.Prelude.{ℕ, ◌+◌, ◌-◌, ◌<◌, ◌≤◌, ◌≡◌, true, false, if◌then◌else◌, List, [], ◌∷◌, ◌++◌, length, Option, Some, None, Result, Ok, Err, codes, ◌⊎◌, ⊤}
 use Rattle.std.specs.List.{AllZip}
-use Rattle.vpg_rules.specs.Constraint.{Constraint}
+use Rattle.vpg_rules.specs.Constraint.{Constraint, renamed, IsBelow}
 use Rattle.vpg_rules.specs.Grammar as rules
+use Rattle.vpg_rules.specs.Grammar.{NamedRule, index_or_end}
 use Rattle.vpg_tree.specs.Tree.{Tree}
 use Rattle.vpg_uvl.specs.Rows.{Row, rows, is_head, indentation}
 use Rattle.vpg_uvl.specs.Arrows.{is_chained}
-use Rattle.vpg_uvl.specs.Items.{Stop, NoMember}
+use Rattle.vpg_uvl.specs.Items.{Stop, NoMember, Reason, Indentation, UnknownFeature, Chain}
 use Rattle.vpg_uvl.specs.Nesting.{Growth, last_of, ends_in_head, grown, rooted, front_stop}
 use Rattle.vpg_uvl.specs.declared.fault.UvlFault.{UvlFault}
 use Rattle.vpg_uvl.specs.declared.fault.UvlFault.TheVariants.{Refused, Ended, Memory}
@@ -55,10 +56,18 @@ features_after (row ∷ behind) =
     if is_head (codes "features") row.bytes then features_of behind
     else after_front row (front_stop row.bytes) further
 
--- a row below `constraints`: it is indented, spells a rule over the features, and has no chain of `=>`
-pub record SpellsConstraint (names : List (List ℕ)) (row : Row) (c : Constraint) : Type 0 where
+-- each name in the rule is one of a feature
+abbrev pub IsOverFeatures : List (List ℕ) → NamedRule → Type 0
+IsOverFeatures names rule = IsBelow (length names) (renamed (index_or_end names) rule)
+
+-- a row below `constraints`: it is indented, spells a rule over the features, whose names stand as their indices, and
+-- has no chain of `=>`
+pub record SpellsConstraint (names : List (List ℕ)) (row : Row) (c : Constraint ℕ) : Type 0 where
   pub indented : 0 < indentation row.bytes
-  pub rule : rules.Spells names row.bytes c
+  pub rule : NamedRule
+  pub spelled : rules.Spells row.bytes rule
+  pub over_features : IsOverFeatures names rule
+  pub indices : c ≡ renamed (index_or_end names) rule
   pub no_chain : is_chained 0 row.bytes ≡ false
 
 -- the tree with the constraints that rows spell
@@ -73,16 +82,26 @@ pub record Spells (text : List ℕ) (tree : Tree) : Type 0 where
   pub features : features_after (rows text) ≡ Ok (record { tree = record tree { constraints = [] }; behind = behind })
   pub constraints : AllZip (SpellsConstraint tree.names) behind tree.constraints
 
--- The fault is of the first constraint's row that spells no rule over the features; the column lies in the row, or
--- just after it.
-pub record IsConstraintFault (names : List (List ℕ)) (behind : List Row) (line column : ℕ) : Type 0 where
+-- Why a row spells no constraint: it is not indented, it has a chain of `=>`, it spells a rule with a name that no
+-- feature has, or else it spells no rule.
+abbrev pub HasReason : List (List ℕ) → Row → Reason → Type 0
+HasReason names row Indentation = indentation row.bytes ≡ 0
+HasReason names row Chain = is_chained 0 row.bytes ≡ true
+HasReason names row UnknownFeature =
+    (rule : NamedRule) × rules.Spells row.bytes rule × (IsOverFeatures names rule → ⊥)
+HasReason names row _ = (rule : NamedRule) → rules.Spells row.bytes rule → ⊥
+
+-- The fault is of the first row that spells no constraint; the column lies in the row, or just after it.
+pub record IsConstraintFault (names : List (List ℕ)) (behind : List Row) (reason : Reason)
+    (line column : ℕ) : Type 0 where
   pub before : List Row
   pub row : Row
   pub after : List Row
   pub parts : behind ≡ before ++ row ∷ after
-  pub read : List Constraint
+  pub read : List (Constraint ℕ)
   pub spelled : AllZip (SpellsConstraint names) before read
-  pub faulty : (c : Constraint) → SpellsConstraint names row c → ⊥
+  pub faulty : (c : Constraint ℕ) → SpellsConstraint names row c → ⊥
+  pub why : HasReason names row reason
   pub line_is : row.number ≡ line
   pub positive : 0 < column
   pub within : column ≤ length row.bytes + 1
@@ -91,7 +110,7 @@ pub record IsConstraintFault (names : List (List ℕ)) (behind : List Row) (line
 abbrev pub IsFaultBehind : List (List ℕ) → List Row → UvlFault → Type 0
 IsFaultBehind names behind Memory = ⊤
 IsFaultBehind names behind Ended = ⊥
-IsFaultBehind names behind (Refused reason line column) = IsConstraintFault names behind line column
+IsFaultBehind names behind (Refused reason line column) = IsConstraintFault names behind reason line column
 
 -- The first fault of a text: that of the rows up to `constraints`, or else that of the first faulty row after it.
 abbrev pub IsFirstFault : List ℕ → UvlFault → Type 0

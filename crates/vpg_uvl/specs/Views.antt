@@ -7,9 +7,9 @@ use Rattle.vpg_features.specs.Names.{IsFeatureName}
 use Rattle.vpg_rules.specs.Constraint.{Constraint}
 use Rattle.vpg_tree.specs.Tree.{Tree}
 use Rattle.vpg_uvl.specs.Rows.{Row, rows_from}
-use Rattle.vpg_uvl.specs.Items.{Item, head, named, Stop}
+use Rattle.vpg_uvl.specs.Items.{Item, head, named, Stop, Reason, Indentation, UnknownFeature, Chain}
 use Rattle.vpg_uvl.specs.Nesting.{Open, Growth}
-use Rattle.vpg_uvl.specs.Model.{Features, SpellsConstraint}
+use Rattle.vpg_uvl.specs.Model.{Features, SpellsConstraint, HasReason}
 use Rattle.vpg_uvl.specs.declared.fault.UvlFault.{UvlFault}
 use Rattle.vpg_uvl.specs.declared.fault.UvlFault.TheVariants.{Refused, Ended, Memory}
 use Rattle.vpg_uvl.specs.declared.row.Row as code_row
@@ -78,6 +78,23 @@ features_in f = record { tree = f.tree; behind = rows_left f.behind }
 abbrev pub IsReadingFault : Result Features UvlFault → UvlFault → Type 0
 IsReadingFault read fault = (fault ≡ Memory) ⊎ (read ≡ Err fault)
 
+-- a reason of a row that spells no rule
+abbrev pub IsOfRule : Reason → Type 0
+IsOfRule Indentation = ⊥
+IsOfRule UnknownFeature = ⊥
+IsOfRule Chain = ⊥
+IsOfRule _ = ⊤
+
+abbrev pub TellsRule : UvlFault → Type 0
+TellsRule Memory = ⊤
+TellsRule Ended = ⊤
+TellsRule (Refused reason line column) = IsOfRule reason
+
+abbrev pub Tells : Reason → UvlFault → Type 0
+Tells reason Memory = ⊥
+Tells reason Ended = ⊥
+Tells reason (Refused told line column) = told ≡ reason
+
 -- a refusal within a row
 abbrev pub IsPlaced : Row → UvlFault → Type 0
 IsPlaced row Memory = ⊥
@@ -90,5 +107,5 @@ abbrev pub IsRowFault : List (List ℕ) → Row → UvlFault → Type 0
 IsRowFault names row Memory = ⊤
 IsRowFault names row Ended = ⊥
 IsRowFault names row (Refused reason line column) =
-    ((c : Constraint) → SpellsConstraint names row c → ⊥) × (row.number ≡ line) × (0 < column)
-    × (column ≤ length row.bytes + 1)
+    ((c : Constraint ℕ) → SpellsConstraint names row c → ⊥) × (row.number ≡ line) × (0 < column)
+    × (column ≤ length row.bytes + 1) × HasReason names row reason

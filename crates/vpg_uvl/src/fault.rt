@@ -33,7 +33,7 @@ pub enum Reason {
     TooMany,
     /// A row where the first member of a group has to stand.
     NoMember,
-    /// A name in a constraint that no feature has.
+    /// A constraint that is a rule, with a name that no feature has.
     UnknownFeature,
     /// An attribute in a constraint.
     Attribute,

@@ -1,6 +1,5 @@
 //! Reading a feature model.
 ghost use Rattle.std.specs.Prelude.{◌≡◌, ◌+◌, ◌<◌, ◌^◌, [], length, IfOk, IfErr, OnOk, MatchResult, Ok};
-ghost use Rattle.vpg_features.specs.Names.{AreNames};
 ghost use Rattle.vpg_tree.specs.Tree.{Tree as FeatureTree};
 ghost use Rattle.vpg_uvl.specs.Items.{Stop as StopOfRow};
 ghost use Rattle.vpg_uvl.specs.Model.{Spells, IsFirstFault, IsFaultBehind, fault_at, finished, features_from, features_of, features_after, ReadsBehind};
@@ -149,17 +148,12 @@ fn with_constraints(alloc: Global, features: Features) -> Result<Tree, UvlFault>
     requires room { features.behind.number + length features.behind.rest.now < 2 ^ 64 }
     requires none { features.tree.constraints ≡ [] }
     ensures read { IfOk result (ReadsBehind features.entry.tree (rows_left features.entry.behind)) }
-    ensures names { IfOk result (λ tree. AreNames tree.names) }
     ensures refused { IfErr result
         (IsFaultBehind features.entry.tree.names (rows_left features.entry.behind)) }
 {
     let Features { mut tree, behind } = features;
     match read_constraints(alloc, &mut tree, behind) {
-        Ok(()) => {
-            // The contract of `names` says that they are feature names, each once.
-            let _names = tree.names();
-            Ok(tree)
-        }
+        Ok(()) => Ok(tree),
         Err(fault) => Err(fault),
     }
 }

@@ -4,10 +4,7 @@ use Rattle.vpg_uvl.proofs.constraint.constraint.Goals as goal
 
 pub returns-in-Err-clause-refused : goal.returns-in-Err-clause-refused
 returns-in-Err-clause-refused c =
-    row_is_faulty c.args.names.now (row_of c.args.row) c.in-Err.fault c.fault_of.result c.fault_of.ensures.placed c.fault_of.ensures.memory (λ d spells. c.in-Err.ensures.only d spells)
+    row_is_faulty c.args.names.now (row_of c.args.row) c.in-Err.fault c.fault_of.result c.fault_of.ensures.placed c.fault_of.ensures.memory (λ d spells. c.in-Err.ensures.only d spells) c.fault_of.ensures.tells
 
 pub returns-in-Err-clause-only : goal.returns-in-Err-clause-only
-returns-in-Err-clause-only c d spells = c.fault_of.ensures.memory (c.in-Err.ensures.only d spells.rule)
-
-pub returns-else-is_chained-clause-only : goal.returns-else-is_chained-clause-only
-returns-else-is_chained-clause-only c d spells = c.in-Ok.ensures.only d spells.rule
+returns-in-Err-clause-only c d spells = c.fault_of.ensures.memory (c.in-Err.ensures.only spells.rule spells.spelled)

@@ -1,6 +1,3 @@
-use Rattle.std.proofs.Common.{ap, subst}
-use Rattle.vpg_features.specs.Names.{AreNames}
-use Rattle.vpg_tree.specs.Tree.{Tree}
 use Rattle.vpg_uvl.specs.Views.{rows_left, features_in}
 use Rattle.vpg_uvl.proofs.ModelProofs.{model_found, model_only, no_features_fault, no_fault_behind, first_fault, fault_behind}
 use Rattle.vpg_uvl.proofs.reading.read.Goals as goal
@@ -13,9 +10,7 @@ returns-in-Ok-with_constraints-clause-found c =
 pub returns-in-Ok-with_constraints-clause-only : goal.returns-in-Ok-with_constraints-clause-only
 returns-in-Ok-with_constraints-clause-only c tree spells =
     let f = c.in-Ok.features in
-    let same = c.in-Ok-with_constraints.ensures.read.same in
-    let are : AreNames f.tree.names = subst AreNames (ap (λ (t : Tree). t.names) same) c.in-Ok-with_constraints.ensures.names in
-    model_only c.args.text.now f.tree c.in-Ok-with_constraints.tree tree (rows_left f.behind) c.in-Ok.ensures.features are c.in-Ok-with_constraints.ensures.read spells
+    model_only c.args.text.now f.tree c.in-Ok-with_constraints.tree tree (rows_left f.behind) c.in-Ok.ensures.features c.in-Ok-with_constraints.ensures.read spells
 
 pub returns-in-Err-with_constraints-clause-only : goal.returns-in-Err-with_constraints-clause-only
 returns-in-Err-with_constraints-clause-only c tree spells =

@@ -30,7 +30,7 @@ loop-next-preserved c =
     record {
       before = i.before ++ row ∷ [];
       parts = rows_more (rows_left c.args.cursor) i.before (rows_left c.loop-next.left) (rows_left c.in-Some.next.behind) row i.parts c.in-Some.ensures.some;
-      spelled = subst (λ (cs : List Constraint). AllZip (SpellsConstraint c.args.tree.now.names) (i.before ++ row ∷ []) cs) (sym constraints_are)
+      spelled = subst (λ (cs : List (Constraint ℕ)). AllZip (SpellsConstraint c.args.tree.now.names) (i.before ++ row ∷ []) cs) (sym constraints_are)
           (zip_more (SpellsConstraint c.args.tree.now.names) i.before c.loop-next.tree.constraints row (constraint_of c.in-Ok.rule) i.spelled found);
       same = same_more c.args.tree.now c.loop-next.tree c.add_constraint.new.self (c.loop-next.tree.constraints ++ constraint_of c.in-Ok.rule ∷ []) i.same added;
       room = c.in-Some.ensures.room;
