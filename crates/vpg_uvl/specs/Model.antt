@@ -56,12 +56,12 @@ features_after (row ∷ behind) =
     if is_head (codes "features") row.bytes then features_of behind
     else after_front row (front_stop row.bytes) further
 
--- each name in the rule is one of a feature
+-- each name in the rule is that of a feature
 abbrev pub IsOverFeatures : List (List ℕ) → NamedRule → Type 0
 IsOverFeatures names rule = IsBelow (length names) (renamed (index_or_end names) rule)
 
--- a row below `constraints`: it is indented, spells a rule over the features, whose names stand as their indices, and
--- has no chain of `=>`
+-- A row below `constraints`: it is indented, has no chain of `=>`, and spells a rule over the features. The constraint
+-- has each feature's index for its name.
 pub record SpellsConstraint (names : List (List ℕ)) (row : Row) (c : Constraint ℕ) : Type 0 where
   pub indented : 0 < indentation row.bytes
   pub rule : NamedRule
