@@ -1,0 +1,5 @@
+pub mod Roles
+pub mod Model
+pub mod Formulas
+pub mod Trees
+pub mod View

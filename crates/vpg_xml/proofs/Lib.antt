@@ -1,0 +1,5 @@
+pub mod Turns
+pub mod StepCode
+pub mod Contents
+pub mod Pieces
+pub mod Faulty

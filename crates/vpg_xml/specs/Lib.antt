@@ -1,0 +1,6 @@
+pub mod Elements
+pub mod Tokens
+pub mod Nesting
+pub mod Faults
+pub mod Reading
+pub mod View
