@@ -78,7 +78,7 @@ pub record IsRedrawn (subject : Subject) (diagram : NamedDiagram) (game : NamedG
   pub written_is : written ≡ earlier ++ sight_drawing diagram game sight []
   pub drawn : IsSightDrawn subject diagram game sight diagram_text game_text picture
 
--- Why no page is drawn anew: the written text doesn't end in its picture, since the log was full, or memory ran out.
+-- If no page is drawn again, the fault is one of two: `LogFull` or `Memory`.
 abbrev pub IsUnseen : Fault → Type 0
 IsUnseen fault = (fault ≡ LogFull) ⊎ (fault ≡ Memory)
 
