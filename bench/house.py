@@ -31,7 +31,7 @@ BARS = (
     (("docs/FORMATS.md",), 6500),
     (("docs/PROOFS.md",), 2500),
     (("docs/DECISIONS.md",), 4500),
-    (("docs/ARCHITECTURE.md",), 3300),
+    (("docs/ARCHITECTURE.md",), 3400),
     (("docs/HOSTILE.md", "docs/OFFICE.md"), 2500),
     (("docs/GLOSSARY.md",), 1300),
     (("bench/README.md",), 2500),
