@@ -1,4 +1,4 @@
-//! How many products are left.
+//! Counts the products that are left.
 ghost use Rattle.std.specs.Prelude.{◌≡◌, ◌++◌, OnOk};
 ghost use Rattle.vpg_answers.specs.Answers.{Appends, TellsNumber};
 ghost use Rattle.vpg_answers.specs.Texts.{amount_text, number_line};

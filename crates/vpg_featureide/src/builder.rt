@@ -23,7 +23,7 @@ pub struct Member {
     pub is_mandatory: bool,
 }
 
-/// What the elements up to here are.
+/// The roles of the elements up to here.
 #[derive(Drop)]
 pub(crate) struct Builder {
     pub(crate) names: Names,

@@ -21,7 +21,7 @@ use vpg_xml::{Element, XmlFault, read_document};
 pub struct Model {
     /// The names of the features.
     pub names: Names,
-    /// What each feature asks of its children: `And`, `Or`, `Alternative`, or `Leaf`.
+    /// The kind of each feature's group of children: `And`, `Or`, `Alternative`, or `Leaf`.
     pub kinds: Vec<Role>,
     /// Where each feature below the root is, in order.
     pub members: Vec<Member>,

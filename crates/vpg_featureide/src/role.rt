@@ -2,7 +2,7 @@
 ghost use Rattle.std.specs.Prelude.{◌≡◌, bytes_eq};
 ghost use Rattle.vpg_featureide.specs.Roles.{feature_role, is_remark, remark_role, or_remark, is_operator, formula_role, whole_role, part_role, rule_role, role_under, is_feature};
 
-/// What an element of a feature model is.
+/// The role of an element in a feature model.
 #[derive(Clone, Copy, Debug, PartialEq, Eq)]
 pub enum Role {
     /// Outside the outermost element.

@@ -1,4 +1,4 @@
-//! What follows for the products of a diagram, step by step, and which decisions it rests on.
+//! Propagates decisions over a diagram step by step, and finds those that a conclusion rests on.
 //!
 //! `Partial::close` (`vpg_partial`) makes known what a whole list of decisions implies, from the first rule on. A
 //! search decides one feature after another, thousands of times. So here `grow` goes on from what is known already: it

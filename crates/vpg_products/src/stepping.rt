@@ -1,4 +1,4 @@
-//! What one rule says under what is known.
+//! Applies one rule to what is known.
 ghost use Rattle.std.specs.Prelude.{◌≡◌, ◌<◌, ◌≤◌, length, count_by, find, not, ◌&&◌};
 ghost use Rattle.std.specs.List.{AllByRecursion};
 ghost use Rattle.vpg_diagram.specs.Clauses.{IsClauseBelow, IsCountBelow, MeetsAll, MeetsClause, MeetsCount, feature_in, feature_out};
@@ -8,7 +8,7 @@ ghost use Rattle.vpg_products.specs.Stepping.{IsStep, if_out};
 use vpg_diagram::{Clause, Count, Literal};
 use vpg_guards::Tri;
 
-/// What a rule says under what is known.
+/// The conclusion of a rule from what is known.
 #[derive(Clone, Copy)]
 pub(crate) enum Step {
     /// Nothing more.

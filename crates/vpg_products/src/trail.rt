@@ -1,4 +1,4 @@
-//! How features became known.
+//! Notes by which rule each feature became known.
 use std::alloc::{AllocError, Global};
 
 /// A feature that became known, and the number of the rule that made it so; none if it was decided.

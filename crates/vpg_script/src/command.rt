@@ -99,7 +99,7 @@ pub enum PageQuestion {
     Forced,
     /// Whether no product is left.
     Empty,
-    /// How many products are left.
+    /// The number of products that are left.
     Number,
 }
 
