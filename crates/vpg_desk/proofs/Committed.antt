@@ -20,8 +20,11 @@ use Rattle.vpg_trail.specs.Shown.{Track}
 use Rattle.vpg_trail.specs.WellFormed.{LiftsStandAfter}
 use Rattle.vpg_trail.proofs.Lifting.{well_formed_lifts_stand}
 use Rattle.vpg_trail.proofs.PageLemmas.{choices_of-append, value_at-append, length-table_of, table_of-at}
-use Rattle.vpg_desk.specs.Book.{Book, Commit, Added, Refused, OtherGame, Outdated, IsSettledPage, committed, raises_of, first_missing, outdated_at, refuses_commit, Refusal}
-use Rattle.vpg_desk.specs.Commit.{IsOrderOf, handed_in, raised_by, commit_refusal}
+use Rattle.vpg_desk.specs.Book.{Book, Commit, Added, Refused, IsSettledPage, committed, raises_of, first_missing, outdated_at, refuses_commit}
+use Rattle.vpg_faults.specs.declared.refusal.Refusal.{Refusal}
+use Rattle.vpg_faults.specs.declared.refusal.Refusal.TheVariants.{OtherGame, Outdated}
+use Rattle.vpg_desk.specs.Commit.{IsOrderOf, handed_in, raised_by}
+use Rattle.vpg_faults.specs.Refusals.{commit_refusal}
 use Rattle.vpg_faults.specs.declared.fault.CommitFault.{CommitFault}
 use Rattle.vpg_faults.specs.declared.fault.CommitFault.TheVariants.{Memory}
 use Rattle.vpg_desk.specs.Cuts.{notes_of, cut_book, SuffixesBelow}

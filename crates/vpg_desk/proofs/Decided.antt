@@ -14,14 +14,16 @@ use Rattle.vpg_partial.specs.TableLaws.{IsKnownTable, AreChoicesOf}
 use Rattle.vpg_trail.specs.Page.{Literal, Decision, Entry as Step, Decided, literal_of, decisions_of, choices_of, decision_on}
 use Rattle.vpg_trail.specs.Shown.{Track}
 use Rattle.vpg_trail.proofs.PageLemmas.{choices_of-append}
-use Rattle.vpg_desk.specs.Book.{Refused, Changed, Decide, AlreadyDecided, UnknownFeature, Conflict, TooManyChanges, most_changes, with_choice, changed, IsSettledPage}
+use Rattle.vpg_desk.specs.Book.{Refused, Changed, Decide, most_changes, with_choice, changed, IsSettledPage}
+use Rattle.vpg_faults.specs.declared.refusal.Refusal.TheVariants.{AlreadyDecided, UnknownFeature, Conflict, TooManyChanges}
 use Rattle.vpg_desk.specs.Cuts.{cuts_of, notes_of, cut_book, SuffixesBelow}
 use Rattle.vpg_desk.specs.Trail.{StandsFor, book_of}
 use Rattle.vpg_desk.specs.declared.cuts.Cut.{Cut}
 use Rattle.vpg_desk.proofs.Changing.{end_cut, decided_stands}
 use Rattle.vpg_desk.specs.Desk.{family_of}
 use Rattle.vpg_desk.specs.DeskFields.{setting_in, book_in, notes_in, desk_of, IsDesk}
-use Rattle.vpg_desk.specs.Faults.{decide_refusal, ClosesWith, KnownRefusesNone}
+use Rattle.vpg_desk.specs.Faults.{ClosesWith, KnownRefusesNone}
+use Rattle.vpg_faults.specs.Refusals.{decide_refusal}
 use Rattle.vpg_desk.specs.Notes.{NotesHold}
 use Rattle.vpg_desk.specs.Setting.{HasConflict}
 use Rattle.vpg_desk.specs.State.{Replies, IsStep, IsReached}

@@ -8,7 +8,9 @@ use Rattle.vpg_diagram.specs.FeatureDiagram.{feature_count}
 use Rattle.vpg_measure.specs.Games.{GamesView, ArePageGames}
 use Rattle.vpg_trail.specs.Page.{Entry as Step, choices_of, has_decided, assumes, before_decision, after_decision, reset_all, retracted}
 use Rattle.vpg_trail.specs.Shown.{Track}
-use Rattle.vpg_desk.specs.Book.{Refusal, Refused, Changed, Retract, UnknownFeature, NotDecided, TooManyChanges, most_changes, changed, IsSettledPage}
+use Rattle.vpg_desk.specs.Book.{Refused, Changed, Retract, most_changes, changed, IsSettledPage}
+use Rattle.vpg_faults.specs.declared.refusal.Refusal.{Refusal}
+use Rattle.vpg_faults.specs.declared.refusal.Refusal.TheVariants.{UnknownFeature, NotDecided, TooManyChanges}
 use Rattle.vpg_desk.specs.Cuts.{cuts_of, notes_of, cut_book, SuffixesBelow}
 use Rattle.vpg_desk.specs.Desk.{family_of}
 use Rattle.vpg_desk.specs.DeskFields.{setting_in, book_in, notes_in, desk_of, IsDesk}

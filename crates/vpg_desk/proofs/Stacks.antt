@@ -10,7 +10,9 @@ use Rattle.vpg_trail.specs.Page.{Entry as Step}
 use Rattle.vpg_trail.specs.Shown.{entry_of, VertexBelow}
 use Rattle.vpg_trail.specs.WellFormed.{IsWellFormed, LiftsStandAfter}
 use Rattle.vpg_trail.proofs.Lifting.{well_formed_lifts_stand}
-use Rattle.vpg_desk.specs.Book.{Kept, Refusal, Sealed, NotNewest, Overtaken, NotNext, refuses_undo, refuses_redo, has_serial}
+use Rattle.vpg_desk.specs.Book.{Kept, refuses_undo, refuses_redo, has_serial}
+use Rattle.vpg_faults.specs.declared.refusal.Refusal.{Refusal}
+use Rattle.vpg_faults.specs.declared.refusal.Refusal.TheVariants.{Sealed, NotNewest, Overtaken, NotNext}
 use Rattle.vpg_desk.specs.Cuts.{cut_of, cuts_of, notes_of, serials_from_top, pages_of, SuffixesBelow}
 use Rattle.vpg_desk.specs.Trail.{Cut as Saved, FitOver, cuts_in_front_of, pages_over, spliced}
 use Rattle.vpg_desk.specs.declared.cuts.Cut.{Cut}

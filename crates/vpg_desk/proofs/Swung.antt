@@ -8,11 +8,12 @@ use Rattle.vpg_measure.specs.Games.{GamesView, ArePageGames}
 use Rattle.vpg_trail.specs.Page.{Entry as Step, choices_of}
 use Rattle.vpg_trail.specs.Shown.{Track}
 use Rattle.vpg_trail.specs.WellFormed.{IsWellFormed}
-use Rattle.vpg_desk.specs.Book.{Book, Kept, Undo, Redo, Undone, Redone, Refused, NotNewest as IsNotNewest, NotNext as IsNotNext, IsReply, serials_of, refuses_undo, refuses_redo, undone, redone, IsSettledPage}
+use Rattle.vpg_desk.specs.Book.{Book, Kept, Undo, Redo, Undone, Redone, Refused, IsReply, serials_of, refuses_undo, refuses_redo, undone, redone, IsSettledPage}
+use Rattle.vpg_faults.specs.declared.refusal.Refusal.TheVariants.{NotNewest as IsNotNewest, NotNext as IsNotNext}
 use Rattle.vpg_desk.specs.Cuts.{cut_of, cuts_of, notes_of, cut_book, serials_from_top, pages_of, SuffixesBelow, IsSwung}
 use Rattle.vpg_desk.specs.Desk.{family_of}
 use Rattle.vpg_desk.specs.DeskFields.{setting_in, book_in, desk_of, IsDesk}
-use Rattle.vpg_desk.specs.Faults.{undo_refusal, redo_refusal}
+use Rattle.vpg_faults.specs.Refusals.{undo_refusal, redo_refusal}
 use Rattle.vpg_desk.specs.Headline.{Tells}
 use Rattle.vpg_desk.specs.Notes.{NotedAre, NotesHold}
 use Rattle.vpg_desk.specs.Setting.{HasConflict}

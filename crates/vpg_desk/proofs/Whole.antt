@@ -6,7 +6,8 @@ use Rattle.vpg_players.specs.declared.player.Player.{Player}
 use Rattle.vpg_diagram.proofs.Lists.{All-front}
 use Rattle.vpg_trail.specs.Page.{Which, Hopeful, Dual, Entry, choices_of, AllStand, value_at, table_of}
 use Rattle.vpg_trail.proofs.PageLemmas.{table_of-at}
-use Rattle.vpg_desk.specs.Book.{Family, Book, Kept, opened, IsSettledPage, Refusal, Verdict, VerdictIs, Settled, IsSettled, IsReply, Told}
+use Rattle.vpg_desk.specs.Book.{Family, Book, Kept, opened, IsSettledPage, Verdict, VerdictIs, Settled, IsSettled, IsReply, Told}
+use Rattle.vpg_faults.specs.declared.refusal.Refusal.{Refusal}
 use Rattle.vpg_desk.specs.History.{Event, IsLegal, book_after, page_after, undo_of, redo_of}
 use Rattle.vpg_desk.specs.Lawful.{EachPage, PageIsBelow, IsMonotone, IsLawful, HandsIn, AllHandIn}
 use Rattle.vpg_desk.proofs.UndoRedo.{legal_parts, undo_restores, redo_restores, beginning_is_legal}

@@ -1,12 +1,10 @@
 -- The meaning of harvests for a desk.
-use Rattle.std.specs.Prelude.{◌≡◌, Bool, ◌++◌, List, map, Option, Some, None}
+use Rattle.std.specs.Prelude.{◌≡◌, Bool, ◌++◌, List, map}
 use Rattle.vpg_measure.specs.Orders.{OrderView, HarvestView}
 use Rattle.vpg_trail.specs.Page.{Hopeful, Dual, Entry, literal_of, raises}
 use Rattle.vpg_trail.specs.Shown.{Track}
-use Rattle.vpg_desk.specs.Book.{Harvest, Refusal, OtherGame, Outdated}
+use Rattle.vpg_desk.specs.Book.{Harvest}
 use Rattle.vpg_desk.specs.State.{DeskState}
-use Rattle.vpg_faults.specs.declared.fault.CommitFault.{CommitFault}
-use Rattle.vpg_faults.specs.declared.fault.CommitFault.TheVariants.{OtherGame as IsOther, Outdated as IsOutdated, Memory}
 
 -- the order's game and diagram are the desk's
 abbrev pub IsOrderOf : DeskState → OrderView → Type 0
@@ -16,12 +14,6 @@ IsOrderOf state order = (order.game ≡ state.game) × (order.diagram ≡ state.
 abbrev pub handed_in : Bool → HarvestView → Harvest
 handed_in is_of_this_desk harvest =
     record { is_of_this_desk = is_of_this_desk; decisions = harvest.order.decisions; hopeful = harvest.hopeful; dual = harvest.dual }
-
--- the book's refusal for a fault of commit; out of memory is none
-abbrev pub commit_refusal : CommitFault → Option Refusal
-commit_refusal IsOther = Some OtherGame
-commit_refusal (IsOutdated feature) = Some (Outdated feature)
-commit_refusal Memory = None
 
 -- the lifts that raise the entries' tables to the harvest's, first those of the hopeful table, then those of the dual
 abbrev pub raised_by : HarvestView → Track → List Entry

@@ -163,7 +163,8 @@ fn settles(was: bool, harvest: &Harvest, present: &PageGames) -> bool
 
 impl Desk {
     ghost use Rattle.vpg_desk.specs.Book.{Commit, Added, Refused, refuses_commit};
-    ghost use Rattle.vpg_desk.specs.Commit.{IsOrderOf, handed_in, commit_refusal};
+    ghost use Rattle.vpg_desk.specs.Commit.{IsOrderOf, handed_in};
+    ghost use Rattle.vpg_faults.specs.Refusals.{commit_refusal};
     ghost use Rattle.vpg_desk.specs.State.{IsStep, Replies};
 
     /// Raises the present tables to the harvest's, by one lift for each value above the present one, and returns the

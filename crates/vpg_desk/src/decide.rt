@@ -105,7 +105,8 @@ fn push_decision(
 
 impl Desk {
     ghost use Rattle.vpg_desk.specs.Book.{Decide, Changed, Refused};
-    ghost use Rattle.vpg_desk.specs.Faults.{decide_refusal, KnownRefusesNone};
+    ghost use Rattle.vpg_desk.specs.Faults.{KnownRefusesNone};
+    ghost use Rattle.vpg_faults.specs.Refusals.{decide_refusal};
     ghost use Rattle.vpg_desk.specs.State.{IsStep, Replies};
 
     /// Decides a feature in or out, as the next change, and returns the change's token. A feature that is known but not

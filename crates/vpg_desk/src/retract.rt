@@ -64,7 +64,7 @@ fn cut_out(
 
 impl Desk {
     ghost use Rattle.vpg_desk.specs.Book.{Retract, Changed, Refused};
-    ghost use Rattle.vpg_desk.specs.Faults.{retract_refusal};
+    ghost use Rattle.vpg_faults.specs.Refusals.{retract_refusal};
     ghost use Rattle.vpg_desk.specs.State.{IsStep, Replies};
 
     /// Retracts the decision on a feature, as the next change, and returns the change's token. Of the later entries it

@@ -9,7 +9,7 @@ ghost use Rattle.vpg_trail.specs.Page.{choices_of};
 ghost use Rattle.vpg_trail.specs.WellFormed.{IsWellFormed};
 ghost use Rattle.vpg_desk.specs.Book.{refuses_redo, refuses_undo};
 ghost use Rattle.vpg_desk.specs.Cuts.{IsSwung, SuffixesBelow, cuts_of, notes_of, pages_of, serials_from_top};
-ghost use Rattle.vpg_desk.specs.Faults.{redo_refusal, undo_refusal};
+ghost use Rattle.vpg_faults.specs.Refusals.{redo_refusal, undo_refusal};
 ghost use Rattle.vpg_desk.specs.Setting.{HasConflict};
 ghost use Rattle.vpg_desk.specs.State.{setting_between};
 ghost use Rattle.vpg_desk.specs.Trail.{FitOver, spliced, Cut as Saved};

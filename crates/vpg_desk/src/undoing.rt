@@ -11,7 +11,7 @@ use vpg_faults::{RedoFault, UndoFault};
 
 impl Desk {
     ghost use Rattle.vpg_desk.specs.Book.{Undo as AsksUndo, Redo as AsksRedo, Undone, Redone, Refused};
-    ghost use Rattle.vpg_desk.specs.Faults.{undo_refusal, redo_refusal};
+    ghost use Rattle.vpg_faults.specs.Refusals.{undo_refusal, redo_refusal};
     ghost use Rattle.vpg_desk.specs.History.{gives_undo, gives_redo};
     ghost use Rattle.vpg_desk.specs.State.{IsStep, Replies, Restores};
 

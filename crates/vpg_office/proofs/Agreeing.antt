@@ -1,7 +1,7 @@
 -- Pages that agree on their tops, and how calls keep them.
-use Rattle.std.proofs.Common.{◌≡◌, ◌⊎◌, ℕ, zero, suc, ◌+◌, ◌-◌, ◌<◌, ◌≤◌, ◌==◌, max, cond, not, Bool, true, false, ◌&&◌, List, [], ◌∷◌, ◌++◌, length, filter, None, Some, refl, sym, ap, ◌∙◌, subst, arith, length-append}
+use Rattle.std.proofs.Common.{◌≡◌, ℕ, zero, suc, ◌+◌, ◌-◌, ◌<◌, ◌≤◌, ◌==◌, max, cond, not, Bool, true, false, ◌&&◌, List, [], ◌∷◌, ◌++◌, length, filter, None, Some, refl, sym, ap, ◌∙◌, subst, arith, length-append}
 use Rattle.std.proofs.lemmas.List.Filters.{length-filter_both}
-use Rattle.vpg_trail.specs.Page.{Which, Entry, Decided, Lifted, same_table, value_at, decides, assumes, before_decision, after_decision, reset, reset_all, kept_after, retracted}
+use Rattle.vpg_trail.specs.Page.{Which, Entry, Decided, Lifted, same_table, value_at, assumes, before_decision, after_decision, reset, reset_all, kept_after, retracted}
 use Rattle.vpg_trail.proofs.PageLemmas.{value_at-append}
 use Rattle.vpg_desk.specs.Book.{Family, Book, Kept, Call, Decide, Retract, Undo, Redo, Keep, Forget, Order, Commit, Settled, Verdict, Page, Reply, Changed, Undone as UndoneIs, Redone as RedoneIs, Answers, IsReply, Refuses, after, next, is_refusal, in_front_of, refuses_undo, refuses_redo, serials_of, undone, undone_to, redone, redone_to}
 use Rattle.vpg_office.specs.Story.{call_of, reply_of}

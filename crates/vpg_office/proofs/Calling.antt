@@ -1,5 +1,5 @@
 -- What a call of the desk means for the log.
-use Rattle.std.proofs.Common.{Result, Ok, Err, IfOk, IfErr, ◌≡◌, ℕ, ◌+◌, ◌<◌, ◌≤◌, Bool, List, [], ◌∷◌, ◌++◌, length, drop, Option, Some, None, IfSome, refl, sym, ap, ◌∙◌, subst, arith, append_assoc, append-nil, length-append, option_map}
+use Rattle.std.proofs.Common.{Result, Ok, Err, IfOk, IfErr, ◌≡◌, ℕ, ◌+◌, ◌<◌, ◌≤◌, Bool, List, [], ◌∷◌, ◌++◌, length, drop, Option, Some, None, IfSome, refl, sym, ap, ◌∙◌, subst, arith, append_assoc, append-nil, length-append}
 use Rattle.std.specs.Prelude.{IfNone, OnOk}
 use mathlib.Core.List.{IsPrefix}
 use Rattle.boxcar.specs.Table.{Shelves}
@@ -7,7 +7,8 @@ use Rattle.vpg_diagram.specs.DiagramText.{NamedDiagram}
 use Rattle.vpg_game.specs.Game.{NamedGame}
 use Rattle.vpg_trail.specs.Page.{Entry as Step}
 use Rattle.vpg_desk.specs.Book as book
-use Rattle.vpg_desk.specs.Book.{Family, Book, Call, Reply, Refusal, Page, PageIs, opened, next, IsReply}
+use Rattle.vpg_desk.specs.Book.{Family, Book, Call, Reply, Page, PageIs, opened, next, IsReply}
+use Rattle.vpg_faults.specs.declared.refusal.Refusal.{Refusal}
 use Rattle.vpg_desk.specs.Desk.{family_of}
 use Rattle.vpg_desk.specs.History.{Event, book_after}
 use Rattle.vpg_desk.specs.Lawful.{HandsIn, IsLawful}
@@ -15,19 +16,17 @@ use Rattle.vpg_desk.specs.State.{DeskState, IsStep, Replies, setting_of}
 use Rattle.vpg_desk.proofs.Tokens.{counts_are_limited}
 use Rattle.vpg_measure.specs.Orders.{HarvestView}
 use Rattle.vpg_faults.specs.declared.fault.CommitFault.{CommitFault}
-use Rattle.vpg_office.specs.Faults.{Stops, Tells, CommitTells, Begins, logged}
+use Rattle.vpg_office.specs.Faults.{Stops, StandsFor, Tells, CommitTells, Begins, logged}
 use Rattle.vpg_office.specs.Fronts.{IsHistory, Extends, calls_by, event, family_between}
 use Rattle.vpg_office.specs.Kept.{IsChronicle}
 use Rattle.vpg_office.specs.Locked.{IsLog}
 use Rattle.vpg_office.specs.Made.{IsEntered, IsRefused, Leaves}
-use Rattle.vpg_office.specs.Story.{IsNamed, call_of, refusal_of, reply_of}
+use Rattle.vpg_office.specs.Story.{IsNamed, call_of, reply_of}
 use Rattle.vpg_office.specs.Token.{EndsWith}
 use Rattle.vpg_office.specs.declared.asked.Answer.{Answer}
 use Rattle.vpg_office.specs.declared.asked.Answer.TheVariants.{Refused, PageIs as Paged, VerdictIs as Judged}
 use Rattle.vpg_office.specs.declared.asked.SessionCall.{SessionCall}
 use Rattle.vpg_office.specs.declared.asked.SessionCall.TheVariants as ask
-use Rattle.vpg_office.specs.declared.asked.Cause.{Cause}
-use Rattle.vpg_office.specs.declared.calls.Because.{Because}
 use Rattle.vpg_office.specs.declared.chronicle.Chronicle.{Chronicle}
 use Rattle.vpg_office.specs.declared.fault.Fault.{Fault}
 use Rattle.vpg_office.specs.declared.fault.Fault.TheVariants.{LogFull, Doubled, Refused as DeskRefuses, Memory}
@@ -36,6 +35,13 @@ use Rattle.vpg_office.proofs.Stories.{book_more}
 pub then_some : {A : Type 0} (o : Option A) (P Q : A → Type 0) → ((a : A) → P a → Q a) → IfSome o P → IfSome o Q
 then_some (Some a) P Q so h = so a h
 then_some None P Q so h = tt
+
+-- the desk's own refusal is one call of the log
+one_logged : {L F : Type 0} (refusal : F → Option Refusal) (r : Refusal) (told : Fault L F) → StandsFor refusal r told → logged told ≡ 1
+one_logged refusal r (LogFull f) s = absurd s
+one_logged refusal r (Doubled f) s = absurd s
+one_logged refusal r (DeskRefuses fault) s = refl
+one_logged refusal r Memory s = absurd s
 
 pub ok_all : {T E : Type 0} (r : Result T E) (P : Type 0) → P → OnOk r P
 ok_all (Ok x) P p = p
@@ -208,19 +214,19 @@ module _ {row : Shelves} {game : NamedGame} {diagram : NamedDiagram} {limit : �
       log_after after new room_after desk_after total_after left_after session (call_of asked answer) (reply_of F (book_after F opened newest).present answer) kept is fits step.game step.diagram
       (step.step.1 ∙ ap (next (family_of (setting_of desk)) desk.book session (call_of asked answer)) same) t one
 
-  -- after the desk's refusal, or where the desk was out of memory
-  pub log_refused : {L F : Type 0} (why : Option (Because F)) (session : ℕ) (asked : SessionCall) (told : Fault L F) (front front_after : List Event) (after : Chronicle) (new : List Event) (room_after : ℕ) (desk_after : DeskState) (total_after left_after : ℕ) →
+  -- after the desk's refusal, or where memory ran out
+  pub log_refused : {L F : Type 0} (refusal : F → Option Refusal) (why : Option Refusal) (session : ℕ) (asked : SessionCall) (told : Fault L F) (front front_after : List Event) (after : Chronicle) (new : List Event) (room_after : ℕ) (desk_after : DeskState) (total_after left_after : ℕ) →
       left_after + logged told ≡ left → desk_after ≡ desk → total_after ≡ desk_after.book.tokens → room_after ≡ room → IsChronicle row game diagram after new →
       IfNone why ((told ≡ Memory) × (front_after ≡ front) × (new ≡ newest)) →
-      IfSome why (λ w. (told ≡ DeskRefuses w.fault) × (front_after ≡ new) × (new ≡ newest ++ event session (call_of asked (Refused w.cause)) (book.Refused (refusal_of w.cause)) ∷ [])) →
+      IfSome why (λ r. StandsFor refusal r told × (front_after ≡ new) × (new ≡ newest ++ event session (call_of asked (Refused r)) (book.Refused r) ∷ [])) →
       IsLog row game diagram limit after new desk_after room_after total_after left_after shown
-  log_refused {L} {F} None session asked told front front_after after new room_after desk_after total_after left_after untaken same t fits kept none some =
+  log_refused {L} {F} refusal None session asked told front front_after after new room_after desk_after total_after left_after untaken same t fits kept none some =
       let count : total_after ≡ total = t ∙ (λ k. (same k).book.tokens) ∙ sym i.counted in
       let all : left_after + logged {L = L} {F = F} Memory ≡ left = subst (λ (f : Fault L F). left_after + logged f ≡ left) none.0 untaken in
       coe 0 1 (k. IsLog row game diagram limit after new ((sym same) k) room_after ((sym count) k) left_after shown) (admitted none.2 fits (omega (arith, all)) kept)
-  log_refused {L} {F} (Some w) session asked told front front_after after new room_after desk_after total_after left_after untaken same t fits kept none some =
-      let one : left_after + logged {L = L} {F = F} (DeskRefuses w.fault) ≡ left = subst (λ (f : Fault L F). left_after + logged f ≡ left) some.0 untaken in
-      log_after after new room_after desk_after total_after left_after session (call_of asked (Refused w.cause)) (book.Refused (refusal_of w.cause)) kept some.2 fits
+  log_refused {L} {F} refusal (Some r) session asked told front front_after after new room_after desk_after total_after left_after untaken same t fits kept none some =
+      let one : left_after + 1 ≡ left = subst (λ (n : ℕ). left_after + n ≡ left) (one_logged refusal r told some.0) untaken in
+      log_after after new room_after desk_after total_after left_after session (call_of asked (Refused r)) (book.Refused r) kept some.2 fits
       (λ k. (same k).game) (λ k. (same k).diagram) (λ k. (same k).book) t one
 
 -- a page has the entries of the desk's present page
@@ -237,26 +243,26 @@ commit_stops game diagram limit harvest session front newest (Doubled g) p h s =
 commit_stops game diagram limit harvest session front newest (DeskRefuses fault) p h s = absurd s
 commit_stops game diagram limit harvest session front newest Memory p h s = refl
 
+-- what the desk's own fault leaves
+leaves_refused : {L F : Type 0} (game : NamedGame) (diagram : NamedDiagram) (limit : ℕ) (refusal : F → Option Refusal) (log front : List Event) (session : ℕ) (asked : SessionCall) (new : List Event) (r : Refusal) (told : Fault L F) → StandsFor refusal r told →
+    IsNamed game diagram asked (Refused r) → IsEntered game diagram log front session asked (Refused r) new → Leaves game diagram limit refusal log front session asked new told
+leaves_refused game diagram limit refusal log front session asked new r (LogFull g) s named entered = absurd s
+leaves_refused game diagram limit refusal log front session asked new r (Doubled g) s named entered = absurd s
+leaves_refused game diagram limit refusal log front session asked new r (DeskRefuses fault) s named entered = (r, (s, (named, entered)))
+leaves_refused game diagram limit refusal log front session asked new r Memory s named entered = absurd s
+
 -- what the desk's refusal leaves
 pub refused_leaves : {L F : Type 0} {row : Shelves} {game : NamedGame} {diagram : NamedDiagram} {chronicle : Chronicle} {new : List Event} (kept : IsChronicle row game diagram chronicle new)
-    (asked : SessionCall) (session : ℕ) (front front_after newest : List Event) (desk : DeskState) (limit : ℕ) (refusal : F → Option Refusal) (told : Fault L F) (why : Option (Because F)) → IsHistory (family_between game diagram) newest →
-    calls_by session (drop (length front) newest) ≡ 0 → IfSome why (λ w. IsRefused game diagram (refusal w.fault) desk asked w.cause) →
+    (asked : SessionCall) (session : ℕ) (front front_after newest : List Event) (desk : DeskState) (limit : ℕ) (refusal : F → Option Refusal) (told : Fault L F) (why : Option Refusal) → IsHistory (family_between game diagram) newest →
+    calls_by session (drop (length front) newest) ≡ 0 → IfSome why (IsRefused game diagram desk asked) →
     IfNone why ((told ≡ Memory) × (front_after ≡ front) × (new ≡ newest)) →
-    IfSome why (λ w. (told ≡ DeskRefuses w.fault) × (front_after ≡ new) × (new ≡ newest ++ event session (call_of asked (Refused w.cause)) (book.Refused (refusal_of w.cause)) ∷ [])) →
+    IfSome why (λ r. StandsFor refusal r told × (front_after ≡ new) × (new ≡ newest ++ event session (call_of asked (Refused r)) (book.Refused r) ∷ [])) →
     Leaves game diagram limit refusal newest front session asked front_after told
 refused_leaves {L} {F} {row} {game} {diagram} {chronicle} {new} kept asked session front front_after newest desk limit refusal told None h alone refused none some =
     subst (λ (f : Fault L F). Leaves game diagram limit refusal newest front session asked front_after f) (sym none.0) (none.1, (h, tt))
-refused_leaves {L} {F} {row} {game} {diagram} {chronicle} {new} kept asked session front front_after newest desk limit refusal told (Some w) h alone refused none some =
-    subst (λ (f : Fault L F). Leaves game diagram limit refusal newest front session asked front_after f) (sym some.0) (
-      w.cause,
-      (
-        refused.why,
-        (
-          refused.named,
-          record { is = some.1 ∙ some.2; none = alone; history = subst (IsHistory (family_between game diagram)) (sym some.1) (kept_history row game diagram chronicle new kept) },
-        ),
-      ),
-    )
+refused_leaves {L} {F} {row} {game} {diagram} {chronicle} {new} kept asked session front front_after newest desk limit refusal told (Some r) h alone refused none some =
+    leaves_refused game diagram limit refusal newest front session asked front_after r told some.0 refused.named
+    (record { is = some.1 ∙ some.2; none = alone; history = subst (IsHistory (family_between game diagram)) (sym some.1) (kept_history row game diagram chronicle new kept) })
 
 -- what is left where a call isn't taken in
 pub stops_leave : {L F : Type 0} (game : NamedGame) (diagram : NamedDiagram) (limit : ℕ) (refusal : F → Option Refusal) (log front : List Event) (session : ℕ) (asked : SessionCall) (f : Fault L F) → IsHistory (family_between game diagram) log →
@@ -268,13 +274,13 @@ stops_leave game diagram limit refusal log front session asked Memory h s = (ref
 
 -- what a call that gives nothing tells, of calls that the desk's answer doesn't change
 pub leaves_tells : {L F : Type 0} (game : NamedGame) (diagram : NamedDiagram) (limit : ℕ) (refusal : F → Option Refusal) (log front : List Event) (session : ℕ) (asked : SessionCall) (new : List Event) (call : Call) (f : Fault L F) →
-    ((r : Cause) → call_of asked (Refused r) ≡ call) → IsPrefix front log → Leaves game diagram limit refusal log front session asked new f → Tells (family_between game diagram) limit refusal call session front new f
+    ((r : Refusal) → call_of asked (Refused r) ≡ call) → IsPrefix front log → Leaves game diagram limit refusal log front session asked new f → Tells (family_between game diagram) limit refusal call session front new f
 leaves_tells {L} {F} game diagram limit refusal log front session asked new call (LogFull g) of p l =
     subst (λ (n : List Event). Tells {L = L} (family_between game diagram) limit refusal call session front n (LogFull g)) (sym l.0) (stops_tell {L = L} (family_between game diagram) limit refusal call session front log (LogFull g) p l.1.0 l.1.1)
 leaves_tells {L} {F} game diagram limit refusal log front session asked new call (Doubled g) of p l =
     subst (λ (n : List Event). Tells {L = L} (family_between game diagram) limit refusal call session front n (Doubled g)) (sym l.0) (stops_tell {L = L} (family_between game diagram) limit refusal call session front log (Doubled g) p l.1.0 l.1.1)
-leaves_tells game diagram limit refusal log front session asked new call (DeskRefuses fault) of p (cause, (why, (named, entered))) =
-    (refusal_of cause, (why, coe 0 1 (k. Extends (family_between game diagram) front session (of cause k) (book.Refused (refusal_of cause)) new) (entered_extends p entered)))
+leaves_tells game diagram limit refusal log front session asked new call (DeskRefuses fault) of p (r, (why, (named, entered))) =
+    (r, (why, coe 0 1 (k. Extends (family_between game diagram) front session (of r k) (book.Refused r) new) (entered_extends p entered)))
 leaves_tells game diagram limit refusal log front session asked new call Memory of p l = l.0
 
 -- and of a token's history
@@ -282,24 +288,14 @@ pub leaves_begins : {L F : Type 0} (game : NamedGame) (diagram : NamedDiagram) (
     Leaves game diagram limit refusal log front session asked new f → Begins history new f
 leaves_begins game diagram limit refusal log front session asked new history (LogFull g) p l = tt
 leaves_begins game diagram limit refusal log front session asked new history (Doubled g) p l = tt
-leaves_begins game diagram limit refusal log front session asked new history (DeskRefuses fault) p (cause, (why, (named, entered))) =
-    prefix_more history log new (event session (call_of asked (Refused cause)) (book.Refused (refusal_of cause))) p entered.is
+leaves_begins game diagram limit refusal log front session asked new history (DeskRefuses fault) p (r, (why, (named, entered))) =
+    prefix_more history log new (event session (call_of asked (Refused r)) (book.Refused r)) p entered.is
 leaves_begins game diagram limit refusal log front session asked new history Memory p l = tt
 
--- a fault's refusal is that of its cause
-pub why_is : {F : Type 0} (refusal : F → Option Refusal) (cause : Option Cause) (fault : F) (w : Because F) → option_map refusal_of cause ≡ refusal fault → (cause ≡ Some w.cause) × (w.fault ≡ fault) → refusal fault ≡ Some (refusal_of w.cause)
-why_is refusal cause fault w mapped is = sym mapped ∙ ap (option_map refusal_of) is.0
-
 -- the desk's refusal of a call that its answer doesn't change
-pub refused_is : {F : Type 0} (game : NamedGame) (diagram : NamedDiagram) (desk : DeskState) (asked : SessionCall) (call : Call) (refusal : F → Option Refusal) (cause : Option Cause) (fault : F) (why : Option (Because F)) →
-    ((r : Cause) → call_of asked (Refused r) ≡ call) → ((r : Cause) → HandsIn (IsLawful (family_between game diagram)) (call_of asked (Refused r)) × IsNamed game diagram asked (Refused r)) → option_map refusal_of cause ≡ refusal fault →
-    IfSome why (λ w. (cause ≡ Some w.cause) × (w.fault ≡ fault)) → IfSome (refusal fault) (λ r. Replies desk call (book.Refused r)) → IfSome why (λ w. IsRefused game diagram (refusal w.fault) desk asked w.cause)
-refused_is game diagram desk asked call refusal cause fault None of free mapped is replies = tt
-refused_is game diagram desk asked call refusal cause fault (Some w) of free mapped is replies =
-    let same = why_is refusal cause fault w mapped is in
-    record {
-      why = ap refusal is.1 ∙ same;
-      told = coe 0 1 (k. Replies desk ((sym (of w.cause)) k) (book.Refused (refusal_of w.cause))) (subst (λ (o : Option Refusal). IfSome o (λ r. Replies desk call (book.Refused r))) same replies);
-      hands = (free w.cause).0;
-      named = (free w.cause).1;
-    }
+pub refused_is : (game : NamedGame) (diagram : NamedDiagram) (desk : DeskState) (asked : SessionCall) (call : Call) (why : Option Refusal) →
+    ((r : Refusal) → call_of asked (Refused r) ≡ call) → ((r : Refusal) → HandsIn (IsLawful (family_between game diagram)) (call_of asked (Refused r)) × IsNamed game diagram asked (Refused r)) →
+    IfSome why (λ r. Replies desk call (book.Refused r)) → IfSome why (IsRefused game diagram desk asked)
+refused_is game diagram desk asked call None of free replies = tt
+refused_is game diagram desk asked call (Some r) of free replies =
+    record { told = coe 0 1 (k. Replies desk ((sym (of r)) k) (book.Refused r)) replies; hands = (free r).0; named = (free r).1 }

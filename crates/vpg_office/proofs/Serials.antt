@@ -1,9 +1,8 @@
 -- The serials of tokens: each that was given is noted.
-use Rattle.std.proofs.Common.{◌≡◌, ◌≢◌, ◌⊎◌, ℕ, zero, suc, ◌+◌, ◌-◌, ◌<◌, ◌≤◌, ◌==◌, max, Bool, true, false, true≢false, List, [], ◌∷◌, ◌++◌, length, take, slice_index, Option, Some, None, IfSome, refl, sym, ap, ◌∙◌, subst, arith, inl, inr, ⊎_elim, ne_eqb, length-append}
+use Rattle.std.proofs.Common.{◌≡◌, ◌≢◌, ◌⊎◌, ℕ, zero, suc, ◌+◌, ◌-◌, ◌<◌, ◌≤◌, max, Bool, false, true≢false, List, [], ◌∷◌, ◌++◌, length, take, slice_index, Option, Some, None, IfSome, refl, sym, ap, ◌∙◌, subst, arith, inl, inr, ne_eqb, length-append}
 use Rattle.std.specs.List.{list_any}
 use Rattle.std.specs.Prelude.{IsFalse}
 use Rattle.std.proofs.lemmas.Bool.{or_parts, or_from}
-use mathlib.Core.List.{IsPrefix}
 use Rattle.vpg_trail.specs.Page.{Entry as Step}
 use Rattle.vpg_desk.specs.Book.{Family, Book, Kept, Call, Decide, Retract, Undo, Redo, Keep, Forget, Order, Commit, Settled, Verdict, Page, Reply, Changed, Undone as UndoneIs, Redone as RedoneIs, Answers, IsReply, Refuses, next, refuses_undo, refuses_redo, serials_of, undone, redone}
 use Rattle.vpg_desk.specs.History.{Event, IsBeforeLast}

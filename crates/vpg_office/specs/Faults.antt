@@ -1,12 +1,14 @@
 -- Why calls of sessions are not made.
-use Rattle.std.specs.Prelude.{◌≡◌, ℕ, ◌<◌, ◌≤◌, Bool, List, length, drop, Option, Some, None, ⊤}
+use Rattle.std.specs.Prelude.{◌≡◌, ℕ, ◌<◌, ◌≤◌, Bool, List, length, drop, Option, Some, ⊤}
 use mathlib.Core.List.{IsPrefix}
 use Rattle.std.specs.Bool.{Decides}
 use Rattle.vpg_diagram.specs.DiagramText.{NamedDiagram}
 use Rattle.vpg_game.specs.Game.{NamedGame}
 use Rattle.vpg_measure.specs.Orders.{HarvestView}
-use Rattle.vpg_desk.specs.Book.{Family, Call, Commit, Refusal, Refused}
-use Rattle.vpg_desk.specs.Commit.{commit_refusal, handed_in}
+use Rattle.vpg_desk.specs.Book.{Family, Call, Commit, Refused}
+use Rattle.vpg_faults.specs.declared.refusal.Refusal.{Refusal}
+use Rattle.vpg_desk.specs.Commit.{handed_in}
+use Rattle.vpg_faults.specs.Refusals.{commit_refusal}
 use Rattle.vpg_faults.specs.declared.fault.CommitFault.{CommitFault}
 use Rattle.vpg_desk.specs.History.{Event}
 use Rattle.vpg_office.specs.Fronts.{IsHistory, Extends, Overtakes, calls_by, family_between}
@@ -34,6 +36,11 @@ Tells family limit refusal call session front new (DeskRefuses fault) =
     (r : Refusal) × ((refusal fault ≡ Some r) × Extends family front session call (Refused r) new)
 Tells family limit refusal call session front new Memory = new ≡ front
 
+-- the fault is the desk's own, and stands for this refusal
+abbrev pub StandsFor : {L F : Type 0} → (F → Option Refusal) → Refusal → Fault L F → Type 0
+StandsFor refusal r (DeskRefuses fault) = refusal fault ≡ Some r
+StandsFor refusal r _ = ⊥
+
 -- how many calls of the log a call with this fault is: one if the desk refused it, else none
 abbrev pub logged : {L F : Type 0} → Fault L F → ℕ
 logged (DeskRefuses fault) = 1
@@ -43,10 +50,6 @@ logged _ = 0
 abbrev pub Begins : {L F : Type 0} → List Event → List Event → Fault L F → Type 0
 Begins history new (DeskRefuses fault) = IsPrefix history new
 Begins history new _ = ⊤
-
--- none: the desk never refuses such a call
-abbrev pub never_refused : {F : Type 0} → F → Option Refusal
-never_refused fault = None
 
 -- As `Tells`, for a commit: the desk's own refusal says whether the harvest is of the office's game and diagram.
 abbrev pub CommitTells : {L : Type 0} → NamedGame → NamedDiagram → ℕ → HarvestView → ℕ → List Event → List Event →

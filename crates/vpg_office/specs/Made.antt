@@ -4,7 +4,8 @@ use Rattle.vpg_diagram.specs.DiagramText.{NamedDiagram}
 use Rattle.vpg_game.specs.Game.{NamedGame, graph_of}
 use Rattle.vpg_measure.specs.Games.{ArePageGames, GamesView}
 use Rattle.vpg_trail.specs.Page.{Decision, Entry, Hopeful, Dual, choices_of, decisions_of, table_of}
-use Rattle.vpg_desk.specs.Book.{Book, Refusal, Refused, opened}
+use Rattle.vpg_desk.specs.Book.{Book, Refused, opened}
+use Rattle.vpg_faults.specs.declared.refusal.Refusal.{Refusal}
 use Rattle.vpg_desk.specs.Desk.{family_of}
 use Rattle.vpg_desk.specs.Headline.{Tells}
 use Rattle.vpg_desk.specs.History.{Event, book_after}
@@ -13,11 +14,10 @@ use Rattle.vpg_desk.specs.Setting.{IsSetting}
 use Rattle.vpg_desk.specs.State.{DeskState, IsReached, IsStep, Replies, setting_between, setting_of}
 use Rattle.vpg_office.specs.Faults.{Stops}
 use Rattle.vpg_office.specs.Fronts.{IsHistory, calls_by, event, family_between}
-use Rattle.vpg_office.specs.Story.{IsNamed, call_of, refusal_of, reply_of}
+use Rattle.vpg_office.specs.Story.{IsNamed, call_of, reply_of}
 use Rattle.vpg_office.specs.declared.asked.Answer.{Answer}
 use Rattle.vpg_office.specs.declared.asked.Answer.TheVariants.{Refused as Answered}
 use Rattle.vpg_office.specs.declared.asked.SessionCall.{SessionCall}
-use Rattle.vpg_office.specs.declared.asked.Cause.{Cause}
 use Rattle.vpg_office.specs.declared.fault.Fault.{Fault}
 use Rattle.vpg_office.specs.declared.fault.Fault.TheVariants.{LogFull, Doubled, Refused as DeskRefuses, Memory}
 
@@ -29,13 +29,12 @@ pub record IsMade (game : NamedGame) (diagram : NamedDiagram) (desk : DeskState)
   pub hands : HandsIn (IsLawful (family_between game diagram)) (call_of asked answer)
   pub named : IsNamed game diagram asked answer
 
--- the desk refused the call for this cause
-pub record IsRefused (game : NamedGame) (diagram : NamedDiagram) (refusal : Option Refusal) (desk : DeskState)
-    (asked : SessionCall) (cause : Cause) : Type 0 where
-  pub why : refusal ≡ Some (refusal_of cause)
-  pub told : Replies desk (call_of asked (Answered cause)) (Refused (refusal_of cause))
-  pub hands : HandsIn (IsLawful (family_between game diagram)) (call_of asked (Answered cause))
-  pub named : IsNamed game diagram asked (Answered cause)
+-- the desk refused the call for this reason
+pub record IsRefused (game : NamedGame) (diagram : NamedDiagram) (desk : DeskState) (asked : SessionCall)
+    (refusal : Refusal) : Type 0 where
+  pub told : Replies desk (call_of asked (Answered refusal)) (Refused refusal)
+  pub hands : HandsIn (IsLawful (family_between game diagram)) (call_of asked (Answered refusal))
+  pub named : IsNamed game diagram asked (Answered refusal)
 
 -- the log goes on with the call, the session's only one since the front
 pub record IsEntered (game : NamedGame) (diagram : NamedDiagram) (log front : List Event) (session : ℕ)
@@ -50,10 +49,10 @@ pub record IsEntered (game : NamedGame) (diagram : NamedDiagram) (log front : Li
 abbrev pub Leaves : {L F : Type 0} → NamedGame → NamedDiagram → ℕ → (F → Option Refusal) → List Event → List Event → ℕ →
     SessionCall → List Event → Fault L F → Type 0
 Leaves game diagram limit refusal log front session asked new (DeskRefuses fault) =
-    (cause : Cause) ×
-    ((refusal fault ≡ Some (refusal_of cause)) ×
-    (IsNamed game diagram asked (Answered cause) ×
-    IsEntered game diagram log front session asked (Answered cause) new))
+    (r : Refusal) ×
+    ((refusal fault ≡ Some r) ×
+    (IsNamed game diagram asked (Answered r) ×
+    IsEntered game diagram log front session asked (Answered r) new))
 Leaves {L} {F} game diagram limit refusal log front session asked new (LogFull f) =
     (new ≡ front) ×
     (IsHistory (family_between game diagram) log × Stops {L = L} {F = F} limit front session log (LogFull f))

@@ -1,29 +1,17 @@
 //! How a session's call is carried out at the desk.
 ghost use Rattle.std.specs.Prelude.{◌≡◌, ◌+◌, ◌≤◌, Some, IfSome};
 
-use crate::asked::{Answer, Cause};
+use crate::asked::Answer;
 use crate::purse::Purse;
 use crate::terms::Terms;
 use std::sync::ledger::Share;
 use vpg_desk::Desk;
+use vpg_faults::{Refuses, Returned};
 
 /// The desk's result of a call, and its answer.
 pub struct Made<T> {
     pub(crate) given: T,
     pub(crate) answer: Answer,
-}
-
-/// Why the desk refuses a call.
-#[derive(Drop)]
-pub struct Because<F> {
-    pub(crate) cause: Cause,
-    pub(crate) fault: F,
-}
-
-/// A call that isn't made: the desk refused it, or was out of memory.
-pub struct Unmade<F, C> {
-    pub(crate) refused: Option<Because<F>>,
-    pub(crate) call: C,
 }
 
 /// The token that the desk gave, and the share that goes with it.
@@ -35,7 +23,8 @@ pub struct Issued<L: Terms, T> {
 /// A session's call, as the desk carries it out.
 pub trait Call<L: Terms> {
     ghost use Rattle.std.specs.Prelude.{◌≡◌, ◌≤◌, Option, IfOk, IfErr, IfSome, OnErr};
-    ghost use Rattle.vpg_desk.specs.Book.{Book, Refusal};
+    ghost use Rattle.vpg_desk.specs.Book.{Book};
+    ghost use Rattle.vpg_faults.specs.Refusals.{told_by};
     ghost use Rattle.vpg_desk.specs.State.{IsOpened};
     ghost use Rattle.vpg_office.specs.Made.{IsMade, IsRefused};
     ghost use Rattle.vpg_office.specs.declared.asked.Answer.{Answer};
@@ -45,7 +34,7 @@ pub trait Call<L: Terms> {
     type Given;
 
     /// Why the desk refuses it.
-    type Refused: Drop;
+    type Refused: Refuses;
 
     /// The call to the desk.
     ghost asks: { Self → SessionCall };
@@ -53,22 +42,20 @@ pub trait Call<L: Terms> {
     /// The answer with this result.
     ghost answers: { Self.Given → Answer };
 
-    /// The refusal of the book that a fault stands for.
-    ghost refusal: { Self.Refused → Option Refusal };
-
     /// When it may be made.
     ghost Takes: { Self → Type 0 };
 
     /// The facts about its result, by the book before.
     ghost Gives: { Self → Book → Self.Given → Type 0 };
 
-    /// Carries the call out. If it isn't made, desk and purse stay, and it comes back.
+    /// Carries the call out. If it isn't made, desk and purse stay, and it comes back, with the desk's fault, or with
+    /// none if memory ran out.
     fn carry_out(
         self,
         desk: &mut Desk,
         purse: &mut Purse<L>,
         session: u32,
-    ) -> Result<Made<Self::Given>, Unmade<Self::Refused, Self>>
+    ) -> Result<Made<Self::Given>, Returned<Option<Self::Refused>, Self>>
         requires of { (desk.old.game ≡ L.game) × (desk.old.diagram ≡ L.diagram) }
         requires opens { IsOpened L.game L.diagram }
         requires counted { purse.old ≡ desk.old.book.tokens }
@@ -80,19 +67,10 @@ pub trait Call<L: Terms> {
         ensures gives { IfOk result (λ m. Gives self desk.old.book m.given) }
         ensures counted { purse.new ≡ desk.new.book.tokens }
         ensures refused { IfErr result
-            (λ u. IfSome u.refused (λ w. IsRefused L.game L.diagram (refusal w.fault) desk.old (asks self) w.cause)) }
+            (λ u. IfSome (told_by Self.Refused.refusal_of u.fault)
+            (λ refusal. IsRefused L.game L.diagram desk.old (asks self) refusal)) }
         ensures same { OnErr result (desk.new ≡ desk.old) }
-        ensures back { IfErr result (λ u. u.call ≡ self) };
-}
-
-/// Returns the desk's refusal if there is a cause. Without one the desk was out of memory.
-pub(crate) fn reason<F: Drop>(cause: Option<Cause>, fault: F) -> Option<Because<F>>
-    ensures some { IfSome result (λ w. (cause ≡ Some w.cause) × (w.fault ≡ fault)) }
-{
-    match cause {
-        Some(cause) => Some(Because { cause, fault }),
-        None => None,
-    }
+        ensures back { IfErr result (λ u. u.value ≡ self) };
 }
 
 /// Returns the result of a call that gives a token for a change.

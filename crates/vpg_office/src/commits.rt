@@ -1,30 +1,20 @@
 //! Commits of lifters' harvests.
-ghost use Rattle.std.specs.Prelude.{◌≡◌, ℕ, Bool, true, IfOk, IfErr, OnOk, OnErr, IfSome, option_map};
+ghost use Rattle.std.specs.Prelude.{◌≡◌, ℕ, Bool, true, IfOk, IfErr, OnOk, OnErr, IfSome};
 ghost use Rattle.std.specs.Bool.{Decides};
 ghost use Rattle.vpg_desk.specs.Book as book;
-ghost use Rattle.vpg_desk.specs.Commit.{IsOrderOf, commit_refusal, handed_in};
+ghost use Rattle.vpg_desk.specs.Commit.{IsOrderOf, handed_in};
+ghost use Rattle.vpg_faults.specs.Refusals.{commit_refusal};
 ghost use Rattle.vpg_desk.specs.State.{IsStep, Replies};
-ghost use Rattle.vpg_office.specs.Story.{refusal_of};
 
-use crate::asked::{Answer, Cause};
-use crate::calls::{Call, Made, Unmade, reason};
+use crate::asked::Answer;
+use crate::calls::{Call, Made};
 use crate::purse::Purse;
 use crate::terms::Terms;
 use std::alloc::Global;
 use std::snapshot::Snapshot;
 use vpg_desk::{CommitFault, CommitRefused, Desk};
+use vpg_faults::Returned;
 use vpg_measure::Harvest;
-
-/// Returns why the desk refuses to commit, or none if it is out of memory.
-fn commit_cause(fault: CommitFault) -> Option<Cause>
-    ensures { option_map refusal_of result ≡ commit_refusal fault }
-{
-    match fault {
-        CommitFault::OtherGame => Some(Cause::OtherGame),
-        CommitFault::Outdated { feature } => Some(Cause::Outdated { feature }),
-        CommitFault::Memory => None,
-    }
-}
 
 /// Hands a harvest to the desk. One that is known to be of its game and diagram isn't compared with them.
 fn hand_in(
@@ -63,7 +53,6 @@ pub struct CommitCall {
 
 impl<L: Terms> Call<L> for CommitCall {
     ghost use Rattle.std.specs.Prelude.{◌≡◌, true};
-    ghost use Rattle.vpg_desk.specs.Commit.{commit_refusal};
     ghost use Rattle.vpg_office.specs.Story.{IsOf};
     ghost use Rattle.vpg_office.specs.declared.asked.Answer.TheVariants as answer;
     ghost use Rattle.vpg_office.specs.declared.asked.SessionCall.TheVariants as ask;
@@ -76,8 +65,6 @@ impl<L: Terms> Call<L> for CommitCall {
 
     ghost answers = { λ entries. answer.Added entries };
 
-    ghost refusal = { commit_refusal };
-
     ghost Takes = { λ c. (c.shown.value ≡ c.harvest) × (c.own ≡ true → IsOf L.game L.diagram c.harvest.order) };
 
     ghost Gives = { λ c b entries. IsOf L.game L.diagram c.harvest.order };
@@ -87,7 +74,7 @@ impl<L: Terms> Call<L> for CommitCall {
         desk: &mut Desk,
         _purse: &mut Purse<L>,
         _session: u32,
-    ) -> Result<Made<u32>, Unmade<CommitFault, CommitCall>> {
+    ) -> Result<Made<u32>, Returned<Option<CommitFault>, CommitCall>> {
         let CommitCall {
             alloc,
             harvest,
@@ -102,9 +89,9 @@ impl<L: Terms> Call<L> for CommitCall {
             }),
             Err(refused) => {
                 let CommitRefused { fault, harvest } = refused;
-                Err(Unmade {
-                    refused: reason(commit_cause(fault), fault),
-                    call: CommitCall {
+                Err(Returned {
+                    fault: Some(fault),
+                    value: CommitCall {
                         alloc,
                         harvest,
                         shown,

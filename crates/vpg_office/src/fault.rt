@@ -1,9 +1,6 @@
 //! Why calls of sessions are not made, and the values that come back.
-ghost use Rattle.std.specs.Prelude.{◌≡◌};
-
 use crate::front::Front;
 use crate::terms::Terms;
-use std::convert::Infallible;
 use std::fmt;
 use thiserror::Error;
 use vpg_desk::{CommitFault, DecideFault, RedoFault, RetractFault, UndoFault};
@@ -40,23 +37,4 @@ pub enum NotWatched {
     /// There is no memory for the log's sheet.
     #[error("Memory")]
     Memory,
-}
-
-/// The refusal of a call that the desk never refuses: there is none.
-pub type Never = Infallible;
-
-/// A fault, with the value that the call took.
-pub struct Returned<L: Terms, F, T> {
-    pub fault: Fault<L, F>,
-    pub value: T,
-}
-
-impl<L: Terms, F, T: Drop> Returned<L, F, T> {
-    /// Returns the fault alone.
-    pub(crate) fn into_fault(self) -> Fault<L, F>
-        ensures { result ≡ self.fault }
-    {
-        let Returned { fault, value: _ } = self;
-        fault
-    }
 }

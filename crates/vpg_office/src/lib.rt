@@ -36,7 +36,7 @@ mod unshared;
 mod work;
 
 pub use ended::{Ended, no_redo_is_out, no_undo_is_out};
-pub use fault::{Fault, Never, NotWatched, Returned};
+pub use fault::{Fault, NotWatched};
 pub use front::Front;
 pub use office::{NotOpened, Office, TokensOut, TooManySessions};
 pub use publishing::read;
@@ -47,4 +47,5 @@ pub use site::Site;
 pub use terms::Terms;
 pub use undo_token::Undo;
 pub use unshared::Unshared;
+pub use vpg_faults::{Never, Returned};
 pub use work::{NotBegun, Work, with_office};

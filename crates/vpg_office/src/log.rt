@@ -1,22 +1,23 @@
 //! The parts under the office's lock: the log with the desk that replays it, the purse of tokens, and the press. Each
 //! of the three has an invariant of its own; `specs/Locked.antt` joins them.
-ghost use Rattle.std.specs.Prelude.{◌≡◌, ◌+◌, ◌-◌, ◌<◌, ◌≤◌, ◌⊎◌, ℕ, List, [], ◌∷◌, ◌++◌, length, drop, true, false, Some, None, IfOk, IfErr, OnOk, OnErr, IfNone, IfSome, option_map};
+ghost use Rattle.std.specs.Prelude.{◌≡◌, ◌+◌, ◌-◌, ◌<◌, ◌≤◌, ◌⊎◌, ℕ, List, [], ◌∷◌, ◌++◌, length, drop, true, false, Some, None, IfOk, IfErr, OnOk, OnErr, IfNone, IfSome};
 ghost use mathlib.Core.List.{IsPrefix};
 ghost use Rattle.boxcar.specs.Table.{Shows};
 ghost use Rattle.vpg_desk.specs.Book as book;
 ghost use Rattle.vpg_desk.specs.Book.{opened, IsReply};
 ghost use Rattle.vpg_desk.specs.History.{book_after};
 ghost use Rattle.vpg_desk.specs.Lawful.{HandsIn, IsLawful};
-ghost use Rattle.vpg_office.specs.Faults.{Stops, logged};
+ghost use Rattle.vpg_faults.specs.Refusals.{told_by};
+ghost use Rattle.vpg_office.specs.Faults.{StandsFor, Stops, logged};
 ghost use Rattle.vpg_office.specs.Fronts.{IsHistory, calls_by, event, family_between};
 ghost use Rattle.vpg_office.specs.Kept.{HasRoom, IsChronicle, IsEntryOf, IsLacking, lines_of};
 ghost use Rattle.vpg_office.specs.Made.{IsEntered, Leaves};
-ghost use Rattle.vpg_office.specs.Story.{IsNamed, call_of, refusal_of, reply_of};
+ghost use Rattle.vpg_office.specs.Story.{IsNamed, call_of, reply_of};
 
 use crate::asked::{Answer, SessionCall};
-use crate::calls::{Because, Call, Made, Unmade};
+use crate::calls::{Call, Made};
 use crate::chronicle::{Chronicle, Row, has_call_since};
-use crate::fault::{Fault, Returned};
+use crate::fault::Fault;
 use crate::front::{Front, Place};
 use crate::purse::Purse;
 use crate::replay::{Replay, carry_out};
@@ -26,6 +27,7 @@ use std::alloc::Global;
 use std::marker::Model;
 use std::sync::Wait;
 use std::sync::ledger::Share;
+use vpg_faults::{Refuses, Returned};
 use vpg_watch::Press;
 
 /// The calls that were made, and their history.
@@ -192,14 +194,14 @@ impl<L: Terms> Calls<L> {
         self.left.give(made, 1, 0);
     }
 
-    /// Enters the desk's refusal, if there is one; else the desk was out of memory.
-    pub(crate) fn refuse<F: Drop>(
+    /// Enters the desk's refusal, if the fault is one; else memory ran out.
+    pub(crate) fn refuse<F: Refuses>(
         &mut self,
         request: &Request<'_>,
         made: &mut Share<L>,
         front: &mut Front<L>,
         place: Place,
-        refused: Option<Because<F>>,
+        fault: Option<F>,
     ) -> Fault<L, F>
         requires kept { IsChronicle L.shelves L.game L.diagram self.old.chronicle self.old.newest }
         requires room { HasRoom self.old.chronicle }
@@ -207,32 +209,35 @@ impl<L: Terms> Calls<L> {
             IsEntryOf (lines_of self.old.chronicle.told.items) request.now.session request.now.asked place.value }
         requires fits { length self.old.newest < L.limit }
         requires few { length self.old.newest < 1048576 }
-        requires reply { IfSome refused (λ w.
+        requires reply { IfSome (told_by F.refusal_of fault) (λ r.
             IsReply (family_between L.game L.diagram)
             (book_after (family_between L.game L.diagram) opened self.old.newest)
-            (call_of request.now.asked (Answer.Refused w.cause)) (book.Refused (refusal_of w.cause))) }
-        requires hands { IfSome refused (λ w.
+            (call_of request.now.asked (Answer.Refused r)) (book.Refused r)) }
+        requires hands { IfSome (told_by F.refusal_of fault) (λ r.
             HandsIn (IsLawful (family_between L.game L.diagram))
-            (call_of request.now.asked (Answer.Refused w.cause))) }
-        requires named { IfSome refused (λ w. IsNamed L.game L.diagram request.now.asked (Answer.Refused w.cause)) }
+            (call_of request.now.asked (Answer.Refused r))) }
+        requires named { IfSome (told_by F.refusal_of fault)
+            (λ r. IsNamed L.game L.diagram request.now.asked (Answer.Refused r)) }
         requires left { 1 < self.old.left.parts }
         ensures kept { IsChronicle L.shelves L.game L.diagram self.new.chronicle self.new.newest }
         ensures limit { self.new.room ≡ self.old.room }
-        ensures memory { IfNone refused
+        ensures memory { IfNone (told_by F.refusal_of fault)
             ((result ≡ Fault.Memory) × (front.new ≡ front.old) × (self.new.newest ≡ self.old.newest)) }
-        ensures refused { IfSome refused (λ w.
-            (result ≡ Fault.Refused w.fault) × (front.new ≡ self.new.newest) ×
+        ensures refused { IfSome (told_by F.refusal_of fault) (λ r.
+            StandsFor F.refusal_of r result × (front.new ≡ self.new.newest) ×
             (self.new.newest ≡ self.old.newest
-            ++ event request.now.session (call_of request.now.asked (Answer.Refused w.cause))
-            (book.Refused (refusal_of w.cause)) ∷ [])) }
+            ++ event request.now.session (call_of request.now.asked (Answer.Refused r))
+            (book.Refused r) ∷ [])) }
         ensures left { self.new.left.parts + logged result ≡ self.old.left.parts }
         ensures made { made.new.parts ≡ made.old.parts + logged result }
     {
-        let Some(because) = refused else {
+        let Some(fault) = fault else {
             return Fault::Memory;
         };
-        let Because { cause, fault } = because;
-        self.enter(request, made, front, place, Answer::Refused { cause });
+        let Some(refusal) = fault.refusal() else {
+            return Fault::Memory;
+        };
+        self.enter(request, made, front, place, Answer::Refused { refusal });
         Fault::Refused { fault }
     }
 }
@@ -300,7 +305,7 @@ impl<L: Terms> Log<L> {
         front: &mut Front<L>,
         asked: SessionCall,
         call: C,
-    ) -> Result<C::Given, Returned<L, C::Refused, C>>
+    ) -> Result<C::Given, Returned<Fault<L, C::Refused>, C>>
         requires row { row.now ≡ L.shelves }
         requires seen { IsPrefix front.old self.old }
         requires asked { asked ≡ C.asks call }
@@ -310,8 +315,8 @@ impl<L: Terms> Log<L> {
         ensures gives { IfOk result
             (C.Gives call (book_after (family_between L.game L.diagram) opened self.old)) }
         ensures leaves { IfErr result
-            (λ b. Leaves L.game L.diagram L.limit C.refusal self.old front.old session (C.asks call) front.new
-            b.fault) }
+            (λ b. Leaves L.game L.diagram L.limit C.Refused.refusal_of self.old front.old session (C.asks call)
+            front.new b.fault) }
         ensures back { IfErr result (λ b. b.value ≡ call) }
         ensures counted { OnOk result (made.new.parts ≡ made.old.parts + 1) }
         ensures fault_counted { IfErr result (λ b. made.new.parts ≡ made.old.parts + logged b.fault) }
@@ -337,10 +342,10 @@ impl<L: Terms> Log<L> {
                 self.calls.enter(&request, made, front, place, answer);
                 Ok(given)
             }
-            Err(unmade) => {
-                let Unmade { refused, call } = unmade;
-                let fault = self.calls.refuse(&request, made, front, place, refused);
-                Err(Returned { fault, value: call })
+            Err(back) => {
+                let Returned { fault, value } = back;
+                let fault = self.calls.refuse(&request, made, front, place, fault);
+                Err(Returned { fault, value })
             }
         }
     }

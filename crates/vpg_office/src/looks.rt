@@ -1,12 +1,12 @@
 //! Calls that look at the desk, and leave it.
 use crate::asked::Answer;
-use crate::calls::{Call, Made, Unmade};
-use crate::fault::Never;
+use crate::calls::{Call, Made};
 use crate::purse::Purse;
 use crate::terms::Terms;
 use std::alloc::Global;
 use std::sync::Arc;
 use vpg_desk::Desk;
+use vpg_faults::{Never, Returned};
 use vpg_measure::{Order, PageGames};
 use vpg_trail::Page;
 use vpg_verdict::Verdict;
@@ -17,7 +17,6 @@ pub struct SettledCall;
 
 impl<L: Terms> Call<L> for SettledCall {
     ghost use Rattle.std.specs.Prelude.{⊤};
-    ghost use Rattle.vpg_office.specs.Faults.{never_refused};
     ghost use Rattle.vpg_office.specs.declared.asked.Answer.TheVariants as answer;
     ghost use Rattle.vpg_office.specs.declared.asked.SessionCall.TheVariants as ask;
 
@@ -29,8 +28,6 @@ impl<L: Terms> Call<L> for SettledCall {
 
     ghost answers = { λ r. answer.IsSettled r };
 
-    ghost refusal = { never_refused };
-
     ghost Takes = { λ c. ⊤ };
 
     ghost Gives = { λ c b r. ⊤ };
@@ -40,7 +37,7 @@ impl<L: Terms> Call<L> for SettledCall {
         desk: &mut Desk,
         _purse: &mut Purse<L>,
         _session: u32,
-    ) -> Result<Made<bool>, Unmade<Never, SettledCall>> {
+    ) -> Result<Made<bool>, Returned<Option<Never>, SettledCall>> {
         let settled = desk.settled();
         Ok(Made {
             given: settled,
@@ -59,7 +56,6 @@ impl<L: Terms> Call<L> for VerdictCall {
     ghost use Rattle.std.specs.Prelude.{◌<◌, length};
     ghost use Rattle.vpg_desk.specs.Headline.{VerdictMeans};
     ghost use Rattle.vpg_desk.specs.State.{setting_between};
-    ghost use Rattle.vpg_office.specs.Faults.{never_refused};
     ghost use Rattle.vpg_office.specs.declared.asked.Answer.TheVariants as answer;
     ghost use Rattle.vpg_office.specs.declared.asked.SessionCall.TheVariants as ask;
 
@@ -71,8 +67,6 @@ impl<L: Terms> Call<L> for VerdictCall {
 
     ghost answers = { λ r. answer.VerdictIs r.hopeless r.sure };
 
-    ghost refusal = { never_refused };
-
     ghost Takes = { λ c. c.vertex < length L.game.vertices };
 
     ghost Gives = { λ c b r.
@@ -83,7 +77,7 @@ impl<L: Terms> Call<L> for VerdictCall {
         desk: &mut Desk,
         _purse: &mut Purse<L>,
         _session: u32,
-    ) -> Result<Made<Verdict>, Unmade<Never, VerdictCall>> {
+    ) -> Result<Made<Verdict>, Returned<Option<Never>, VerdictCall>> {
         let verdict = desk.verdict(self.vertex);
         let answer = Answer::VerdictIs {
             hopeless: verdict.hopeless,
@@ -105,7 +99,6 @@ pub struct PageCall {
 impl<L: Terms> Call<L> for PageCall {
     ghost use Rattle.std.specs.Arc.{arc_value};
     ghost use Rattle.std.specs.Prelude.{⊤};
-    ghost use Rattle.vpg_office.specs.Faults.{never_refused};
     ghost use Rattle.vpg_office.specs.Made.{IsPage};
     ghost use Rattle.vpg_office.specs.declared.asked.Answer.TheVariants as answer;
     ghost use Rattle.vpg_office.specs.declared.asked.SessionCall.TheVariants as ask;
@@ -118,8 +111,6 @@ impl<L: Terms> Call<L> for PageCall {
 
     ghost answers = { λ r. answer.PageIs };
 
-    ghost refusal = { never_refused };
-
     ghost Takes = { λ c. ⊤ };
 
     ghost Gives = { λ c b r.
@@ -130,11 +121,11 @@ impl<L: Terms> Call<L> for PageCall {
         desk: &mut Desk,
         _purse: &mut Purse<L>,
         _session: u32,
-    ) -> Result<Made<(Page, Arc<PageGames>)>, Unmade<Never, PageCall>> {
+    ) -> Result<Made<(Page, Arc<PageGames>)>, Returned<Option<Never>, PageCall>> {
         let Ok(games) = desk.games().clone() else {
-            return Err(Unmade {
-                refused: None,
-                call: self,
+            return Err(Returned {
+                fault: None,
+                value: self,
             });
         };
         match desk.page(self.alloc) {
@@ -142,9 +133,9 @@ impl<L: Terms> Call<L> for PageCall {
                 given: (page, games),
                 answer: Answer::PageIs,
             }),
-            Err(_) => Err(Unmade {
-                refused: None,
-                call: self,
+            Err(_) => Err(Returned {
+                fault: None,
+                value: self,
             }),
         }
     }
@@ -160,7 +151,6 @@ impl<L: Terms> Call<L> for OrderCall {
     ghost use Rattle.std.specs.Prelude.{◌≡◌, ⊤, length};
     ghost use Rattle.vpg_game.specs.Game.{graph_of};
     ghost use Rattle.vpg_trail.specs.Page.{Hopeful, Dual, decisions_of, table_of};
-    ghost use Rattle.vpg_office.specs.Faults.{never_refused};
     ghost use Rattle.vpg_office.specs.Story.{IsOf};
     ghost use Rattle.vpg_office.specs.declared.asked.Answer.TheVariants as answer;
     ghost use Rattle.vpg_office.specs.declared.asked.SessionCall.TheVariants as ask;
@@ -172,8 +162,6 @@ impl<L: Terms> Call<L> for OrderCall {
     ghost asks = { λ c. ask.Order };
 
     ghost answers = { λ r. answer.Ordered };
-
-    ghost refusal = { never_refused };
 
     ghost Takes = { λ c. ⊤ };
 
@@ -187,15 +175,15 @@ impl<L: Terms> Call<L> for OrderCall {
         desk: &mut Desk,
         _purse: &mut Purse<L>,
         _session: u32,
-    ) -> Result<Made<Order>, Unmade<Never, OrderCall>> {
+    ) -> Result<Made<Order>, Returned<Option<Never>, OrderCall>> {
         match desk.order(self.alloc) {
             Ok(order) => Ok(Made {
                 given: order,
                 answer: Answer::Ordered,
             }),
-            Err(_) => Err(Unmade {
-                refused: None,
-                call: self,
+            Err(_) => Err(Returned {
+                fault: None,
+                value: self,
             }),
         }
     }

@@ -6,19 +6,21 @@ ghost use Rattle.vpg_desk.specs.Book.{Book, Settled, IsSettled};
 ghost use Rattle.vpg_desk.specs.Desk.{family_of};
 ghost use Rattle.vpg_desk.specs.State.{IsOpened, Replies, setting_of};
 ghost use Rattle.vpg_trail.specs.Shown.{entry_of};
+ghost use Rattle.vpg_faults.specs.Refusals.{told_by};
 ghost use Rattle.vpg_office.specs.Made.{IsMade, IsRefused};
 ghost use Rattle.vpg_office.specs.Told.{AgreeOnTops, AreAlike, AreVerdictsOf, Leads, only_appends, raises_to_top as to_top};
 ghost use Rattle.vpg_office.specs.declared.asked.Answer.{Answer};
 
 use crate::alike::Alike;
 use crate::asked::SessionCall;
-use crate::calls::{Call, Made, Unmade};
+use crate::calls::{Call, Made};
 use crate::purse::Purse;
 use crate::terms::Terms;
 use std::alloc::{AllocError, Global};
 use std::marker::Model;
 use std::sync::Arc;
 use vpg_desk::Desk;
+use vpg_faults::Returned;
 use vpg_trail::Entry;
 use vpg_verdict::Which;
 use vpg_watch::Verdicts;
@@ -195,7 +197,7 @@ pub(crate) fn carry_out<L: Terms, C: Call<L>>(
     desk: &mut Replay,
     purse: &mut Purse<L>,
     session: u32,
-) -> Result<Made<C::Given>, Unmade<C::Refused, C>>
+) -> Result<Made<C::Given>, Returned<Option<C::Refused>, C>>
     requires of { (desk.old.game ≡ L.game) × (desk.old.diagram ≡ L.diagram) }
     requires opens { IsOpened L.game L.diagram }
     requires counted { purse.old ≡ desk.old.book.tokens }
@@ -208,9 +210,10 @@ pub(crate) fn carry_out<L: Terms, C: Call<L>>(
     ensures gives { IfOk result (λ m. C.Gives call desk.old.book m.given) }
     ensures counted { purse.new ≡ desk.new.book.tokens }
     ensures refused { IfErr result
-        (λ u. IfSome u.refused (λ w. IsRefused L.game L.diagram (C.refusal w.fault) desk.old (C.asks call) w.cause)) }
+        (λ u. IfSome (told_by C.Refused.refusal_of u.fault)
+        (λ refusal. IsRefused L.game L.diagram desk.old (C.asks call) refusal)) }
     ensures same { OnErr result (desk.new ≡ desk.old) }
-    ensures back { IfErr result (λ u. u.call ≡ call) }
+    ensures back { IfErr result (λ u. u.value ≡ call) }
 {
     let before = desk.desk.entries().len();
     match call.carry_out(&mut desk.desk, purse, session) {

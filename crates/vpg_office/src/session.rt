@@ -12,8 +12,9 @@ ghost use Rattle.vpg_desk.specs.History.{Event, book_after, page_after};
 ghost use Rattle.vpg_desk.specs.Lawful.{PageIsBelow};
 ghost use Rattle.vpg_desk.specs.Setting.{IsSetting};
 ghost use Rattle.vpg_desk.specs.State.{IsReached, setting_between};
-ghost use Rattle.vpg_desk.specs.Faults.{decide_refusal, redo_refusal, retract_refusal, undo_refusal};
-ghost use Rattle.vpg_office.specs.Faults.{Begins, CommitTells, Tells, logged, never_refused};
+ghost use Rattle.vpg_faults.specs.Refusals.{decide_refusal, redo_refusal, retract_refusal, undo_refusal};
+ghost use Rattle.vpg_office.specs.Faults.{Begins, CommitTells, Tells, logged};
+ghost use Rattle.vpg_faults.specs.Refusals.{never_refused};
 ghost use Rattle.vpg_office.specs.Fronts.{Extends, GoesBackTo, family_between};
 ghost use Rattle.vpg_office.specs.Kept.{HasOwn};
 ghost use Rattle.vpg_office.specs.Made.{IsEntered, Leaves};
@@ -23,7 +24,7 @@ use crate::asked::SessionCall;
 use crate::calls::Call;
 use crate::changes::{DecideCall, RetractCall};
 use crate::commits::CommitCall;
-use crate::fault::{Fault, Never, Returned};
+use crate::fault::Fault;
 use crate::front::{Front, Own};
 use crate::looks::{OrderCall, PageCall, SettledCall, VerdictCall};
 use crate::office::Office;
@@ -37,6 +38,7 @@ use std::snapshot::Snapshot;
 use std::sync::ledger::Share;
 use std::sync::{Arc, MutexGuard, Wait};
 use vpg_desk::{CommitFault, DecideFault, RedoFault, RetractFault, UndoFault};
+use vpg_faults::{Never, Returned};
 use vpg_measure::{Harvest, Order, PageGames};
 use vpg_trail::Page;
 use vpg_verdict::Verdict;
@@ -160,7 +162,7 @@ impl<L: Terms> Session<L> {
         office: &Office<L>,
         front: &mut Front<L>,
         token: Undo<L>,
-    ) -> Result<Redo<L>, Returned<L, UndoFault, Undo<L>>>
+    ) -> Result<Redo<L>, Returned<Fault<L, UndoFault>, Undo<L>>>
         ensures done { IfOk result
             (λ t. Extends (family_between L.game L.diagram) front.old self.old.number (book.Undo token.serial)
             (book.Undone t.serial) front.new × (t.history ≡ front.new)) }
@@ -204,7 +206,7 @@ impl<L: Terms> Session<L> {
         office: &Office<L>,
         front: &mut Front<L>,
         token: Redo<L>,
-    ) -> Result<Undo<L>, Returned<L, RedoFault, Redo<L>>>
+    ) -> Result<Undo<L>, Returned<Fault<L, RedoFault>, Redo<L>>>
         ensures done { IfOk result
             (λ t. Extends (family_between L.game L.diagram) front.old self.old.number (book.Redo token.serial)
             (book.Redone t.serial) front.new × (t.history ≡ front.new)) }
@@ -246,7 +248,7 @@ impl<L: Terms> Session<L> {
         office: &Office<L>,
         front: &mut Front<L>,
         token: Undo<L>,
-    ) -> Result<(), Returned<L, Never, Undo<L>>>
+    ) -> Result<(), Returned<Fault<L, Never>, Undo<L>>>
         ensures done { OnOk result
             (Extends (family_between L.game L.diagram) front.old self.old.number
             (book.Keep token.serial) book.Spent front.new) }
@@ -287,7 +289,7 @@ impl<L: Terms> Session<L> {
         office: &Office<L>,
         front: &mut Front<L>,
         token: Redo<L>,
-    ) -> Result<(), Returned<L, Never, Redo<L>>>
+    ) -> Result<(), Returned<Fault<L, Never>, Redo<L>>>
         ensures done { OnOk result
             (Extends (family_between L.game L.diagram) front.old self.old.number
             (book.Forget token.serial) book.Spent front.new) }
@@ -501,7 +503,7 @@ impl<L: Terms> Session<L> {
         office: &Office<L>,
         front: &mut Front<L>,
         harvest: Harvest,
-    ) -> Result<u32, Returned<L, CommitFault, Harvest>>
+    ) -> Result<u32, Returned<Fault<L, CommitFault>, Harvest>>
         ensures done { IfOk result
             (λ added. Extends (family_between L.game L.diagram) front.old self.old.number
             (book.Commit (handed_in true harvest)) (book.Added added) front.new) }
@@ -525,7 +527,7 @@ impl<L: Terms> Session<L> {
         office: &Office<L>,
         front: &mut Front<L>,
         harvest: Harvest,
-    ) -> Result<u32, Returned<L, CommitFault, Harvest>>
+    ) -> Result<u32, Returned<Fault<L, CommitFault>, Harvest>>
         requires ours { IsOf L.game L.diagram harvest.order }
         ensures done { IfOk result
             (λ added. Extends (family_between L.game L.diagram) front.old self.old.number
@@ -549,7 +551,7 @@ impl<L: Terms> Session<L> {
         front: &mut Front<L>,
         harvest: Harvest,
         own: bool,
-    ) -> Result<u32, Returned<L, CommitFault, Harvest>>
+    ) -> Result<u32, Returned<Fault<L, CommitFault>, Harvest>>
         requires { own ≡ true → IsOf L.game L.diagram harvest.order }
         ensures done { IfOk result
             (λ added. Extends (family_between L.game L.diagram) front.old self.old.number
@@ -601,7 +603,7 @@ impl<L: Terms> Session<L> {
         asked: SessionCall,
         call: C,
         sheet: Option<Global>,
-    ) -> Result<C::Given, Returned<L, C::Refused, C>>
+    ) -> Result<C::Given, Returned<Fault<L, C::Refused>, C>>
         requires asked { asked ≡ C.asks call }
         requires takes { C.Takes call }
         ensures made { IfOk result
@@ -614,7 +616,8 @@ impl<L: Terms> Session<L> {
             (λ b. (log : List Event) ×
             (IsPrefix front.old log ×
             (IfSome own (HasOwn log) ×
-            Leaves L.game L.diagram L.limit C.refusal log front.old self.old.number (C.asks call) front.new b.fault))) }
+            Leaves L.game L.diagram L.limit C.Refused.refusal_of log front.old self.old.number (C.asks call)
+            front.new b.fault))) }
         ensures back { IfErr result (λ b. b.value ≡ call) }
         ensures same { self.new.number ≡ self.old.number }
         ensures counted { OnOk result (self.new.calls ≡ self.old.calls + 1) }

@@ -1,16 +1,13 @@
 //! Calls that take a token.
-ghost use Rattle.std.specs.Prelude.{◌≡◌, IfErr, IfSome, OnOk, option_map};
+ghost use Rattle.std.specs.Prelude.{◌≡◌, IfErr, IfSome, OnOk};
 ghost use mathlib.Core.List.{IsPrefix};
-ghost use Rattle.vpg_desk.specs.Faults.{redo_refusal, undo_refusal};
 ghost use Rattle.vpg_office.specs.Fronts.{family_between};
 ghost use Rattle.vpg_office.specs.Kept.{HasOwn, IsChronicle, IsLastGiven, Lacking, OwnIsLacking};
-ghost use Rattle.vpg_office.specs.Story.{refusal_of};
 
-use crate::asked::{Answer, Cause};
-use crate::calls::{Call, Issued, Made, Unmade, reason};
+use crate::asked::Answer;
+use crate::calls::{Call, Issued, Made};
 use crate::chronicle::Row;
 use crate::closing::{forget_one, keep_one};
-use crate::fault::Never;
 use crate::front::{Front, Own, Place};
 use crate::log::Calls;
 use crate::purse::Purse;
@@ -19,28 +16,7 @@ use crate::terms::Terms;
 use crate::undo_token::Undo;
 use std::alloc::Global;
 use vpg_desk::{Desk, RedoFault, RedoRefused, UndoFault, UndoRefused};
-
-/// Returns why the desk refuses to undo, or none if it is out of memory.
-fn undo_cause(fault: UndoFault) -> Option<Cause>
-    ensures { option_map refusal_of result ≡ undo_refusal fault }
-{
-    match fault {
-        UndoFault::Sealed => Some(Cause::Sealed),
-        UndoFault::NotNewest { newest } => Some(Cause::NotNewest { newest }),
-        UndoFault::Memory => None,
-    }
-}
-
-/// Returns why the desk refuses to redo, or none if it is out of memory.
-fn redo_cause(fault: RedoFault) -> Option<Cause>
-    ensures { option_map refusal_of result ≡ redo_refusal fault }
-{
-    match fault {
-        RedoFault::Overtaken => Some(Cause::Overtaken),
-        RedoFault::NotNext { next } => Some(Cause::NotNext { next }),
-        RedoFault::Memory => None,
-    }
-}
+use vpg_faults::{Never, Returned};
 
 /// A front that the log lacks, by the place at its end. Without a place, the token's front doesn't end with the log's
 /// last call that gave a token of the serial.
@@ -112,7 +88,6 @@ pub struct UndoCall<L: Terms> {
 
 impl<L: Terms> Call<L> for UndoCall<L> {
     ghost use Rattle.std.specs.Prelude.{◌≡◌, ⊤, IsTrue};
-    ghost use Rattle.vpg_desk.specs.Faults.{undo_refusal};
     ghost use Rattle.vpg_desk.specs.History.{gives_undo};
     ghost use Rattle.vpg_office.specs.Token.{EndsWith};
     ghost use Rattle.vpg_office.specs.declared.asked.Answer.TheVariants as answer;
@@ -126,8 +101,6 @@ impl<L: Terms> Call<L> for UndoCall<L> {
 
     ghost answers = { λ g. answer.Undone g.token };
 
-    ghost refusal = { undo_refusal };
-
     ghost Takes = { λ c. ⊤ };
 
     ghost Gives = { λ c b g. (g.share.amount ≡ 1) × ((g.share.parts ≡ 1) ×
@@ -139,7 +112,7 @@ impl<L: Terms> Call<L> for UndoCall<L> {
         desk: &mut Desk,
         purse: &mut Purse<L>,
         _session: u32,
-    ) -> Result<Made<Issued<L, vpg_desk::Redo>>, Unmade<UndoFault, UndoCall<L>>> {
+    ) -> Result<Made<Issued<L, vpg_desk::Redo>>, Returned<Option<UndoFault>, UndoCall<L>>> {
         let UndoCall { alloc, token } = self;
         let Undo {
             token,
@@ -164,9 +137,9 @@ impl<L: Terms> Call<L> for UndoCall<L> {
                     place,
                     share,
                 };
-                Err(Unmade {
-                    refused: reason(undo_cause(fault), fault),
-                    call: UndoCall { alloc, token },
+                Err(Returned {
+                    fault: Some(fault),
+                    value: UndoCall { alloc, token },
                 })
             }
         }
@@ -181,7 +154,6 @@ pub struct RedoCall<L: Terms> {
 
 impl<L: Terms> Call<L> for RedoCall<L> {
     ghost use Rattle.std.specs.Prelude.{◌≡◌, ⊤, IsTrue};
-    ghost use Rattle.vpg_desk.specs.Faults.{redo_refusal};
     ghost use Rattle.vpg_desk.specs.History.{gives_redo};
     ghost use Rattle.vpg_office.specs.Token.{EndsWith};
     ghost use Rattle.vpg_office.specs.declared.asked.Answer.TheVariants as answer;
@@ -195,8 +167,6 @@ impl<L: Terms> Call<L> for RedoCall<L> {
 
     ghost answers = { λ g. answer.Redone g.token };
 
-    ghost refusal = { redo_refusal };
-
     ghost Takes = { λ c. ⊤ };
 
     ghost Gives = { λ c b g. (g.share.amount ≡ 1) × ((g.share.parts ≡ 1) ×
@@ -208,7 +178,7 @@ impl<L: Terms> Call<L> for RedoCall<L> {
         desk: &mut Desk,
         purse: &mut Purse<L>,
         _session: u32,
-    ) -> Result<Made<Issued<L, vpg_desk::Undo>>, Unmade<RedoFault, RedoCall<L>>> {
+    ) -> Result<Made<Issued<L, vpg_desk::Undo>>, Returned<Option<RedoFault>, RedoCall<L>>> {
         let RedoCall { alloc, token } = self;
         let Redo {
             token,
@@ -233,9 +203,9 @@ impl<L: Terms> Call<L> for RedoCall<L> {
                     place,
                     share,
                 };
-                Err(Unmade {
-                    refused: reason(redo_cause(fault), fault),
-                    call: RedoCall { alloc, token },
+                Err(Returned {
+                    fault: Some(fault),
+                    value: RedoCall { alloc, token },
                 })
             }
         }
@@ -249,7 +219,6 @@ pub struct KeepCall<L: Terms> {
 
 impl<L: Terms> Call<L> for KeepCall<L> {
     ghost use Rattle.std.specs.Prelude.{⊤};
-    ghost use Rattle.vpg_office.specs.Faults.{never_refused};
     ghost use Rattle.vpg_office.specs.declared.asked.Answer.TheVariants as answer;
     ghost use Rattle.vpg_office.specs.declared.asked.SessionCall.TheVariants as ask;
 
@@ -261,8 +230,6 @@ impl<L: Terms> Call<L> for KeepCall<L> {
 
     ghost answers = { λ g. answer.Spent };
 
-    ghost refusal = { never_refused };
-
     ghost Takes = { λ c. ⊤ };
 
     ghost Gives = { λ c b g. ⊤ };
@@ -272,7 +239,7 @@ impl<L: Terms> Call<L> for KeepCall<L> {
         desk: &mut Desk,
         purse: &mut Purse<L>,
         _session: u32,
-    ) -> Result<Made<()>, Unmade<Never, KeepCall<L>>> {
+    ) -> Result<Made<()>, Returned<Option<Never>, KeepCall<L>>> {
         let KeepCall { token } = self;
         keep_one(desk, purse, token);
         Ok(Made {
@@ -289,7 +256,6 @@ pub struct ForgetCall<L: Terms> {
 
 impl<L: Terms> Call<L> for ForgetCall<L> {
     ghost use Rattle.std.specs.Prelude.{⊤};
-    ghost use Rattle.vpg_office.specs.Faults.{never_refused};
     ghost use Rattle.vpg_office.specs.declared.asked.Answer.TheVariants as answer;
     ghost use Rattle.vpg_office.specs.declared.asked.SessionCall.TheVariants as ask;
 
@@ -301,8 +267,6 @@ impl<L: Terms> Call<L> for ForgetCall<L> {
 
     ghost answers = { λ g. answer.Spent };
 
-    ghost refusal = { never_refused };
-
     ghost Takes = { λ c. ⊤ };
 
     ghost Gives = { λ c b g. ⊤ };
@@ -312,7 +276,7 @@ impl<L: Terms> Call<L> for ForgetCall<L> {
         desk: &mut Desk,
         purse: &mut Purse<L>,
         _session: u32,
-    ) -> Result<Made<()>, Unmade<Never, ForgetCall<L>>> {
+    ) -> Result<Made<()>, Returned<Option<Never>, ForgetCall<L>>> {
         let ForgetCall { token } = self;
         forget_one(desk, purse, token);
         Ok(Made {

@@ -1,7 +1,8 @@
 use Rattle.std.proofs.Common.{Bool, true, refl}
 use Rattle.std.specs.Bool.{Decides}
 use Rattle.vpg_desk.specs.Book as book
-use Rattle.vpg_desk.specs.Commit.{IsOrderOf, commit_refusal, handed_in}
+use Rattle.vpg_desk.specs.Commit.{IsOrderOf, handed_in}
+use Rattle.vpg_faults.specs.Refusals.{commit_refusal}
 use Rattle.vpg_desk.specs.State.{Replies}
 use Rattle.vpg_office.proofs.Calling.{ok_all}
 use Rattle.vpg_office.proofs.Committing.{refused_then}

@@ -1,6 +1,7 @@
 use Rattle.std.proofs.Common.{◌≡◌, Bool, true, subst}
 use Rattle.std.specs.Bool.{Decides}
-use Rattle.vpg_desk.specs.Book.{Commit, Refused, OtherGame}
+use Rattle.vpg_desk.specs.Book.{Commit, Refused}
+use Rattle.vpg_faults.specs.declared.refusal.Refusal.TheVariants.{OtherGame}
 use Rattle.vpg_desk.specs.Commit.{IsOrderOf, handed_in}
 use Rattle.vpg_desk.specs.DeskFields.{desk_of}
 use Rattle.vpg_desk.specs.State.{DeskState, Replies}

@@ -11,10 +11,12 @@ use Rattle.vpg_measure.specs.Games.{AreGamesOf, ArePageGames}
 use Rattle.vpg_measure.specs.TwoGames.{IsProgressOf}
 use Rattle.vpg_trail.specs.Page.{Which, Decided, decisions_of, choices_of, decision_on, table_of}
 use Rattle.vpg_trail.specs.Shown.{entry_of}
-use Rattle.vpg_desk.specs.Book.{Decide, Changed, Refused, UnknownFeature, AlreadyDecided, TooManyChanges, IsSettledPage}
+use Rattle.vpg_desk.specs.Book.{Decide, Changed, Refused, IsSettledPage}
+use Rattle.vpg_faults.specs.declared.refusal.Refusal.TheVariants.{UnknownFeature, AlreadyDecided, TooManyChanges}
 use Rattle.vpg_desk.specs.Desk.{family_of}
 use Rattle.vpg_desk.specs.DeskFields.{desk_of, setting_in}
-use Rattle.vpg_desk.specs.Faults.{decide_refusal, ClosesWith}
+use Rattle.vpg_desk.specs.Faults.{ClosesWith}
+use Rattle.vpg_faults.specs.Refusals.{decide_refusal}
 use Rattle.vpg_desk.specs.State.{DeskState, Replies, IsStep}
 use Rattle.vpg_faults.specs.declared.fault.DecideFault.TheVariants.{Memory}
 use Rattle.vpg_desk.specs.Cuts.{cuts_of, notes_of, cut_book, SuffixesBelow}

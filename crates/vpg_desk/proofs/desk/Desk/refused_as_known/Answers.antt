@@ -7,7 +7,8 @@ use Rattle.vpg_guards.specs.declared.tri.Tri.TheVariants.{Unknown}
 use Rattle.vpg_measure.specs.Games.{GamesView}
 use Rattle.vpg_partial.specs.KnownTable.{is_known_as, literals_in}
 use Rattle.vpg_trail.specs.Page.{decision_on}
-use Rattle.vpg_desk.specs.Book.{Decide, Refused, Conflict, TooManyChanges}
+use Rattle.vpg_desk.specs.Book.{Decide, Refused}
+use Rattle.vpg_faults.specs.declared.refusal.Refusal.TheVariants.{Conflict, TooManyChanges}
 use Rattle.vpg_desk.specs.Faults.{KnownRefusesNone}
 use Rattle.vpg_desk.specs.State.{DeskState, Replies}
 use Rattle.vpg_desk.proofs.Decided.{decide_known_other, decide_known_same, decide_not_known}

@@ -7,7 +7,8 @@ use Rattle.vpg_measure.specs.Games.{ArePageGames}
 use Rattle.vpg_trail.specs.Page.{Entry as Step, choices_of, has_decided, assumes, reset_all, before_decision, after_decision, retracted}
 use Rattle.vpg_trail.specs.Shown.{entry_of, VertexBelow}
 use Rattle.vpg_trail.specs.WellFormed.{LiftsStandAfter}
-use Rattle.vpg_desk.specs.Book.{Retract, Changed, Refused, UnknownFeature, NotDecided, TooManyChanges}
+use Rattle.vpg_desk.specs.Book.{Retract, Changed, Refused}
+use Rattle.vpg_faults.specs.declared.refusal.Refusal.TheVariants.{UnknownFeature, NotDecided, TooManyChanges}
 use Rattle.vpg_desk.specs.DeskFields.{desk_of}
 use Rattle.vpg_desk.specs.Setting.{HasConflict}
 use Rattle.vpg_desk.specs.State.{DeskState, Replies, IsStep, setting_between}

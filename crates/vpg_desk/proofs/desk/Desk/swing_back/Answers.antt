@@ -6,7 +6,7 @@ use Rattle.vpg_trail.specs.Page.{choices_of}
 use Rattle.vpg_desk.specs.Book.{Undo, Undone, Refused, refuses_undo}
 use Rattle.vpg_desk.specs.Cuts.{cuts_of, notes_of, pages_of, serials_from_top}
 use Rattle.vpg_desk.specs.DeskFields.{desk_of}
-use Rattle.vpg_desk.specs.Faults.{undo_refusal}
+use Rattle.vpg_faults.specs.Refusals.{undo_refusal}
 use Rattle.vpg_desk.specs.Setting.{HasConflict}
 use Rattle.vpg_desk.specs.State.{DeskState, IsStep, Replies, setting_between}
 use Rattle.vpg_desk.specs.Trail.{Cut as Saved, FitOver, spliced}

@@ -7,7 +7,8 @@ use Rattle.std.specs.Arc.{arc_value}
 use Rattle.vpg_game.specs.Game.{NamedGame}
 use Rattle.vpg_game.proofs.Graphs.{same_count}
 use Rattle.vpg_measure.specs.Orders.{OrderView}
-use Rattle.vpg_desk.specs.Book.{Commit, Added, Refused, Outdated, first_missing, outdated_at, refuses_commit}
+use Rattle.vpg_desk.specs.Book.{Commit, Added, Refused, first_missing, outdated_at, refuses_commit}
+use Rattle.vpg_faults.specs.declared.refusal.Refusal.TheVariants.{Outdated}
 use Rattle.vpg_desk.specs.Commit.{IsOrderOf, handed_in, raised_by}
 use Rattle.vpg_desk.specs.DeskFields.{desk_of}
 use Rattle.vpg_desk.specs.State.{DeskState, IsStep, Replies}

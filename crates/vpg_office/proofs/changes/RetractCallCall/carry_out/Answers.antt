@@ -1,7 +1,7 @@
 use Rattle.std.proofs.Common.{◌≡◌, ◌+◌, refl, sym, ap, ◌∙◌}
 use Rattle.vpg_desk.specs.Book as book
 use Rattle.vpg_desk.specs.Book.{Book}
-use Rattle.vpg_desk.specs.Faults.{retract_refusal}
+use Rattle.vpg_faults.specs.Refusals.{retract_refusal}
 use Rattle.vpg_office.specs.Made.{IsMade}
 use Rattle.vpg_office.specs.declared.asked.SessionCall.TheVariants as ask
 use Rattle.vpg_office.proofs.Calling.{refused_is}
@@ -18,7 +18,7 @@ returns-in-Ok-clause-counted g c =
 
 pub returns-in-Err-clause-refused : goal.returns-in-Err-clause-refused
 returns-in-Err-clause-refused g c =
-    refused_is g.L.Terms.game g.L.Terms.diagram c.args.desk.now (ask.Retract c.args.self.feature) (book.Retract c.args.self.feature) retract_refusal c.retract_cause.result c.in-Err.fault c.reason.result (λ r. refl) (λ r. (tt, tt)) c.retract_cause.ensures c.reason.ensures.some c.in-Err.ensures.refused
+    refused_is g.L.Terms.game g.L.Terms.diagram c.args.desk.now (ask.Retract c.args.self.feature) (book.Retract c.args.self.feature) (retract_refusal c.in-Err.fault) (λ r. refl) (λ r. (tt, tt)) c.in-Err.ensures.refused
 
 pub returns-in-Err-clause-counted : goal.returns-in-Err-clause-counted
 returns-in-Err-clause-counted g c = c.requires.counted ∙ (λ k. ((sym c.in-Err.ensures.err) k).book.tokens)

@@ -5,6 +5,7 @@ use Rattle.vpg_measure.specs.Orders.{HarvestView}
 use Rattle.vpg_desk.specs.Book as book
 use Rattle.vpg_desk.specs.Book.{Book}
 use Rattle.vpg_desk.specs.Commit.{handed_in}
+use Rattle.vpg_faults.specs.Refusals.{commit_refusal}
 use Rattle.vpg_desk.specs.Lawful.{IsLawful}
 use Rattle.vpg_desk.specs.State.{IsStep}
 use Rattle.vpg_office.specs.Fronts.{family_between}
@@ -33,9 +34,9 @@ returns-in-Ok-clause-counted g c =
 pub returns-in-Err-clause-refused : goal.returns-in-Err-clause-refused
 returns-in-Err-clause-refused g c =
     let shown = c.requires.takes.0 in
-    refused_harvest g.L.Terms.game g.L.Terms.diagram c.args.desk.now c.requires.opens c.requires.of c.args.self.harvest c.order.ensures.harvest (ask.Commit c.args.self.shown) c.commit_cause.result c.in-Err.refused.fault c.reason.result
+    refused_harvest g.L.Terms.game g.L.Terms.diagram c.args.desk.now c.requires.opens c.requires.of c.args.self.harvest c.order.ensures.harvest (ask.Commit c.args.self.shown) (commit_refusal c.in-Err.refused.fault)
     (λ r k. book.Commit (handed_in (not (tells_other r)) (shown k))) (λ r is. subst (λ (h : HarvestView). Decides (not (tells_other r)) (IsOf g.L.Terms.game g.L.Terms.diagram h.order)) (sym shown) is)
-    c.commit_cause.ensures c.reason.ensures.some c.in-Err.ensures.refused
+    c.in-Err.ensures.refused
 
 pub hand_in-requires : goal.hand_in-requires
 hand_in-requires g c = record { own = λ own. let is = c.requires.takes.1 own in (is.0 ∙ sym c.requires.of.0, is.1 ∙ sym c.requires.of.1) }

@@ -2,10 +2,11 @@ use Rattle.std.proofs.Common.{arith, IfSome, sym, ap, ◌∙◌}
 use Rattle.vpg_desk.specs.Book as book
 use Rattle.vpg_desk.specs.Book.{Book, opened, IsReply}
 use Rattle.vpg_desk.specs.History.{book_after}
+use Rattle.vpg_faults.specs.Refusals.{told_by}
 use Rattle.vpg_desk.specs.Lawful.{HandsIn, IsLawful}
 use Rattle.vpg_office.specs.Fronts.{family_between}
 use Rattle.vpg_office.specs.Made.{IsEntered, IsMade, IsRefused, Leaves}
-use Rattle.vpg_office.specs.Story.{IsNamed, call_of, refusal_of}
+use Rattle.vpg_office.specs.Story.{IsNamed, call_of}
 use Rattle.vpg_office.specs.declared.asked.Answer.TheVariants.{Refused}
 use Rattle.vpg_office.proofs.Calling.{admitted, few_tokens, log_history, log_made, log_refused, more_left, refused_leaves, reply_here, seen_here, stops_leave, then_some, told_here}
 use Rattle.vpg_office.proofs.log.Log.make.Goals as goal
@@ -105,43 +106,43 @@ pub returns-in-Err-clause-leaves : goal.returns-in-Err-clause-leaves
 returns-in-Err-clause-leaves g c =
     let i = admitted c.self.invariant c.admit.ensures.newest c.admit.ensures.limit c.admit.ensures.left c.admit.ensures.kept in
     let log = c.admit.ensures.newest ∙ c.self.view_is in
-    coe 0 1 (k. Leaves g.L.Terms.game g.L.Terms.diagram g.L.Terms.limit g.C.Call.refusal (log k) c.args.front.now c.args.session (c.requires.asked k) c.args.front.now c.in-Err.fault)
-    (stops_leave g.L.Terms.game g.L.Terms.diagram g.L.Terms.limit g.C.Call.refusal c.admit.new.self.newest c.args.front.now c.args.session c.args.asked c.in-Err.fault (log_history i) c.in-Err.ensures.err)
+    coe 0 1 (k. Leaves g.L.Terms.game g.L.Terms.diagram g.L.Terms.limit g.C.Refused.Refuses.refusal_of (log k) c.args.front.now c.args.session (c.requires.asked k) c.args.front.now c.in-Err.fault)
+    (stops_leave g.L.Terms.game g.L.Terms.diagram g.L.Terms.limit g.C.Refused.Refuses.refusal_of c.admit.new.self.newest c.args.front.now c.args.session c.args.asked c.in-Err.fault (log_history i) c.in-Err.ensures.err)
 
 pub refuse-fault-requires-clause-reply : goal.refuse-fault-requires-clause-reply
 refuse-fault-requires-clause-reply g c =
     let i = admitted c.self.invariant c.admit.ensures.newest c.admit.ensures.limit c.admit.ensures.left c.admit.ensures.kept in
-    let refused = coe 0 1 (k. IfSome c.in-Err-carry_out.unmade.refused (λ w. IsRefused g.L.Terms.game g.L.Terms.diagram (g.C.Call.refusal w.fault) c.self.inside.desk ((sym c.requires.asked) k) w.cause)) c.in-Err-carry_out.ensures.refused in
+    let refused = coe 0 1 (k. IfSome (told_by g.C.Refused.Refuses.refusal_of c.in-Err-carry_out.back.fault) (IsRefused g.L.Terms.game g.L.Terms.diagram c.self.inside.desk ((sym c.requires.asked) k))) c.in-Err-carry_out.ensures.refused in
     let F = family_between g.L.Terms.game g.L.Terms.diagram in
-    then_some c.in-Err-carry_out.unmade.refused (λ w. IsRefused g.L.Terms.game g.L.Terms.diagram (g.C.Call.refusal w.fault) c.self.inside.desk c.args.asked w.cause)
-    (λ w. IsReply F (book_after F opened c.admit.new.self.newest) (call_of c.args.asked (Refused w.cause)) (book.Refused (refusal_of w.cause)))
-    (λ w is. told_here i (call_of c.args.asked (Refused w.cause)) (book.Refused (refusal_of w.cause)) is.told) refused
+    then_some (told_by g.C.Refused.Refuses.refusal_of c.in-Err-carry_out.back.fault) (IsRefused g.L.Terms.game g.L.Terms.diagram c.self.inside.desk c.args.asked)
+    (λ r. IsReply F (book_after F opened c.admit.new.self.newest) (call_of c.args.asked (Refused r)) (book.Refused r))
+    (λ r is. told_here i (call_of c.args.asked (Refused r)) (book.Refused r) is.told) refused
 
 pub refuse-fault-requires-clause-hands : goal.refuse-fault-requires-clause-hands
 refuse-fault-requires-clause-hands g c =
-    let refused = coe 0 1 (k. IfSome c.in-Err-carry_out.unmade.refused (λ w. IsRefused g.L.Terms.game g.L.Terms.diagram (g.C.Call.refusal w.fault) c.self.inside.desk ((sym c.requires.asked) k) w.cause)) c.in-Err-carry_out.ensures.refused in
-    then_some c.in-Err-carry_out.unmade.refused (λ w. IsRefused g.L.Terms.game g.L.Terms.diagram (g.C.Call.refusal w.fault) c.self.inside.desk c.args.asked w.cause)
-    (λ w. HandsIn (IsLawful (family_between g.L.Terms.game g.L.Terms.diagram)) (call_of c.args.asked (Refused w.cause))) (λ w is. is.hands) refused
+    let refused = coe 0 1 (k. IfSome (told_by g.C.Refused.Refuses.refusal_of c.in-Err-carry_out.back.fault) (IsRefused g.L.Terms.game g.L.Terms.diagram c.self.inside.desk ((sym c.requires.asked) k))) c.in-Err-carry_out.ensures.refused in
+    then_some (told_by g.C.Refused.Refuses.refusal_of c.in-Err-carry_out.back.fault) (IsRefused g.L.Terms.game g.L.Terms.diagram c.self.inside.desk c.args.asked)
+    (λ r. HandsIn (IsLawful (family_between g.L.Terms.game g.L.Terms.diagram)) (call_of c.args.asked (Refused r))) (λ r is. is.hands) refused
 
 pub refuse-fault-requires-clause-named : goal.refuse-fault-requires-clause-named
 refuse-fault-requires-clause-named g c =
-    let refused = coe 0 1 (k. IfSome c.in-Err-carry_out.unmade.refused (λ w. IsRefused g.L.Terms.game g.L.Terms.diagram (g.C.Call.refusal w.fault) c.self.inside.desk ((sym c.requires.asked) k) w.cause)) c.in-Err-carry_out.ensures.refused in
-    then_some c.in-Err-carry_out.unmade.refused (λ w. IsRefused g.L.Terms.game g.L.Terms.diagram (g.C.Call.refusal w.fault) c.self.inside.desk c.args.asked w.cause)
-    (λ w. IsNamed g.L.Terms.game g.L.Terms.diagram c.args.asked (Refused w.cause)) (λ w is. is.named) refused
+    let refused = coe 0 1 (k. IfSome (told_by g.C.Refused.Refuses.refusal_of c.in-Err-carry_out.back.fault) (IsRefused g.L.Terms.game g.L.Terms.diagram c.self.inside.desk ((sym c.requires.asked) k))) c.in-Err-carry_out.ensures.refused in
+    then_some (told_by g.C.Refused.Refuses.refusal_of c.in-Err-carry_out.back.fault) (IsRefused g.L.Terms.game g.L.Terms.diagram c.self.inside.desk c.args.asked)
+    (λ r. IsNamed g.L.Terms.game g.L.Terms.diagram c.args.asked (Refused r)) (λ r is. is.named) refused
 
 pub invariant_of-self-in-Err-carry_out : goal.invariant_of-self-in-Err-carry_out
 invariant_of-self-in-Err-carry_out g c =
     let i = admitted c.self.invariant c.admit.ensures.newest c.admit.ensures.limit c.admit.ensures.left c.admit.ensures.kept in
-    log_refused i c.in-Err-carry_out.unmade.refused c.args.session c.args.asked c.refuse-fault.result c.args.front.now c.refuse-fault.new.front c.refuse-fault.new.self.chronicle c.refuse-fault.new.self.newest c.refuse-fault.new.self.room c.carry_out.new.desk c.carry_out.new.purse c.refuse-fault.new.self.left.parts
+    log_refused i g.C.Refused.Refuses.refusal_of (told_by g.C.Refused.Refuses.refusal_of c.in-Err-carry_out.back.fault) c.args.session c.args.asked c.refuse-fault.result c.args.front.now c.refuse-fault.new.front c.refuse-fault.new.self.chronicle c.refuse-fault.new.self.newest c.refuse-fault.new.self.room c.carry_out.new.desk c.carry_out.new.purse c.refuse-fault.new.self.left.parts
     c.refuse-fault.ensures.left c.in-Err-carry_out.ensures.same c.carry_out.ensures.counted c.refuse-fault.ensures.limit c.refuse-fault.ensures.kept c.refuse-fault.ensures.memory c.refuse-fault.ensures.refused
 
 pub returns-clause-leaves : goal.returns-clause-leaves
 returns-clause-leaves g c =
     let i = admitted c.self.invariant c.admit.ensures.newest c.admit.ensures.limit c.admit.ensures.left c.admit.ensures.kept in
-    let refused = coe 0 1 (k. IfSome c.in-Err-carry_out.unmade.refused (λ w. IsRefused g.L.Terms.game g.L.Terms.diagram (g.C.Call.refusal w.fault) c.self.inside.desk ((sym c.requires.asked) k) w.cause)) c.in-Err-carry_out.ensures.refused in
+    let refused = coe 0 1 (k. IfSome (told_by g.C.Refused.Refuses.refusal_of c.in-Err-carry_out.back.fault) (IsRefused g.L.Terms.game g.L.Terms.diagram c.self.inside.desk ((sym c.requires.asked) k))) c.in-Err-carry_out.ensures.refused in
     let log = c.admit.ensures.newest ∙ c.self.view_is in
-    coe 0 1 (k. Leaves g.L.Terms.game g.L.Terms.diagram g.L.Terms.limit g.C.Call.refusal (log k) c.args.front.now c.args.session (c.requires.asked k) c.refuse-fault.new.front c.refuse-fault.result)
-    (refused_leaves c.refuse-fault.ensures.kept c.args.asked c.args.session c.args.front.now c.refuse-fault.new.front c.admit.new.self.newest c.self.inside.desk g.L.Terms.limit g.C.Call.refusal c.refuse-fault.result c.in-Err-carry_out.unmade.refused
+    coe 0 1 (k. Leaves g.L.Terms.game g.L.Terms.diagram g.L.Terms.limit g.C.Refused.Refuses.refusal_of (log k) c.args.front.now c.args.session (c.requires.asked k) c.refuse-fault.new.front c.refuse-fault.result)
+    (refused_leaves c.refuse-fault.ensures.kept c.args.asked c.args.session c.args.front.now c.refuse-fault.new.front c.admit.new.self.newest c.self.inside.desk g.L.Terms.limit g.C.Refused.Refuses.refusal_of c.refuse-fault.result (told_by g.C.Refused.Refuses.refusal_of c.in-Err-carry_out.back.fault)
     (log_history i) c.in-Ok.ensures.none refused c.refuse-fault.ensures.memory c.refuse-fault.ensures.refused)
 
 pub returns-clause-back : goal.returns-clause-back

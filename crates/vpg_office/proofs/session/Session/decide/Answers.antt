@@ -1,7 +1,7 @@
 use Rattle.std.proofs.Common.{refl, sym, ap, eq-eqb, ◌≡◌, ◌+◌}
 use Rattle.std.specs.Prelude.{IsTrue}
 use Rattle.vpg_desk.specs.Book as book
-use Rattle.vpg_desk.specs.Faults.{decide_refusal}
+use Rattle.vpg_faults.specs.Refusals.{decide_refusal}
 use Rattle.vpg_desk.specs.History.{gives_undo}
 use Rattle.vpg_office.specs.Faults.{Tells, logged}
 use Rattle.vpg_office.specs.Fronts.{Extends, family_between}

@@ -1,7 +1,7 @@
 use Rattle.std.proofs.Common.{refl, ap, ◌∙◌}
 use mathlib.Core.List.{IsPrefix}
 use Rattle.vpg_desk.specs.Book as book
-use Rattle.vpg_office.specs.Faults.{never_refused}
+use Rattle.vpg_faults.specs.Refusals.{never_refused}
 use Rattle.vpg_office.specs.Fronts.{event}
 use Rattle.vpg_office.specs.declared.asked.SessionCall.TheVariants as ask
 use Rattle.vpg_office.proofs.Calling.{entered_extends, leaves_tells, prefix_more}

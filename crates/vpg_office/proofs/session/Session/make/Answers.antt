@@ -43,15 +43,15 @@ returns-clause-made g c =
 pub returns-clause-leaves : goal.returns-clause-leaves
 returns-clause-leaves g c =
     let log = c.deref_mut.ensures.value in
-    err_then c.make-answer.result (λ b. Leaves g.L.Terms.game g.L.Terms.diagram g.L.Terms.limit g.C.Call.refusal c.deref_mut.result.now c.args.front.now c.self.inside.number (g.C.Call.asks c.args.call) c.make-answer.new.front b.fault)
-    (λ b. (l : List Event) × (IsPrefix c.args.front.now l × (IfSome c.args.own (HasOwn l) × Leaves g.L.Terms.game g.L.Terms.diagram g.L.Terms.limit g.C.Call.refusal l c.args.front.now c.args.self.now.number (g.C.Call.asks c.args.call) c.make-answer.new.front b.fault)))
+    err_then c.make-answer.result (λ b. Leaves g.L.Terms.game g.L.Terms.diagram g.L.Terms.limit g.C.Refused.Refuses.refusal_of c.deref_mut.result.now c.args.front.now c.self.inside.number (g.C.Call.asks c.args.call) c.make-answer.new.front b.fault)
+    (λ b. (l : List Event) × (IsPrefix c.args.front.now l × (IfSome c.args.own (HasOwn l) × Leaves g.L.Terms.game g.L.Terms.diagram g.L.Terms.limit g.C.Refused.Refuses.refusal_of l c.args.front.now c.args.self.now.number (g.C.Call.asks c.args.call) c.make-answer.new.front b.fault)))
     (λ b left. (
       (mutex_guard_value c.log_with-log.result),
       (
         c.log_with-log.ensures.front,
         (
           c.log_with-log.ensures.own,
-          coe 0 1 (k. Leaves g.L.Terms.game g.L.Terms.diagram g.L.Terms.limit g.C.Call.refusal (log k) c.args.front.now ((c.self.view_is k).number) (g.C.Call.asks c.args.call) c.make-answer.new.front b.fault) left,
+          coe 0 1 (k. Leaves g.L.Terms.game g.L.Terms.diagram g.L.Terms.limit g.C.Refused.Refuses.refusal_of (log k) c.args.front.now ((c.self.view_is k).number) (g.C.Call.asks c.args.call) c.make-answer.new.front b.fault) left,
         ),
       ),
     )) c.make-answer.ensures.leaves

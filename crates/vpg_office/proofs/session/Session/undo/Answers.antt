@@ -2,7 +2,7 @@ use Rattle.std.proofs.Common.{refl, sym, ap, ◌∙◌, eq-eqb}
 use Rattle.std.specs.Prelude.{IsTrue}
 use mathlib.Core.List.{IsPrefix}
 use Rattle.vpg_desk.specs.Book as book
-use Rattle.vpg_desk.specs.Faults.{undo_refusal}
+use Rattle.vpg_faults.specs.Refusals.{undo_refusal}
 use Rattle.vpg_desk.specs.History.{gives_redo}
 use Rattle.vpg_office.specs.Fronts.{Extends, event, family_between}
 use Rattle.vpg_office.specs.Kept.{IsLastGiven}

@@ -2,7 +2,8 @@ use Rattle.std.proofs.Common.{refl, sym, ◌≡◌, ◌+◌}
 use Rattle.vpg_desk.specs.Book as book
 use Rattle.vpg_desk.specs.Headline.{VerdictMeans}
 use Rattle.vpg_desk.specs.State.{setting_between}
-use Rattle.vpg_office.specs.Faults.{Tells, never_refused, logged}
+use Rattle.vpg_office.specs.Faults.{Tells, logged}
+use Rattle.vpg_faults.specs.Refusals.{never_refused}
 use Rattle.vpg_office.specs.Fronts.{family_between}
 use Rattle.vpg_office.specs.declared.asked.SessionCall.TheVariants as ask
 use Rattle.vpg_office.proofs.Calling.{entered_extends, leaves_tells, verdict_leaves}

@@ -4,7 +4,7 @@ use Rattle.vpg_desk.specs.Book as book
 use Rattle.vpg_desk.specs.Book.{Book}
 use Rattle.vpg_desk.specs.Desk.{family_of}
 use Rattle.vpg_desk.specs.History.{gives_undo}
-use Rattle.vpg_desk.specs.Faults.{undo_refusal}
+use Rattle.vpg_faults.specs.Refusals.{undo_refusal}
 use Rattle.vpg_desk.specs.State.{IsStep, Replies, setting_of}
 use Rattle.vpg_office.specs.Token.{EndsWith, TokenView}
 use Rattle.vpg_office.specs.declared.asked.SessionCall.TheVariants as ask
@@ -48,7 +48,7 @@ invariant_of-token g c = (
 
 pub returns-in-Err-clause-refused : goal.returns-in-Err-clause-refused
 returns-in-Err-clause-refused g c =
-    refused_is g.L.Terms.game g.L.Terms.diagram c.args.desk.now (ask.Undo c.args.self.token.serial) (book.Undo c.args.self.token.serial) undo_refusal c.undo_cause.result c.in-Err.refused.fault c.reason.result (λ r. refl) (λ r. (tt, tt)) c.undo_cause.ensures c.reason.ensures.some
+    refused_is g.L.Terms.game g.L.Terms.diagram c.args.desk.now (ask.Undo c.args.self.token.serial) (book.Undo c.args.self.token.serial) (undo_refusal c.in-Err.refused.fault) (λ r. refl) (λ r. (tt, tt))
     (subst (λ (t : TokenView). IfSome (undo_refusal c.in-Err.refused.fault) (λ r. Replies c.args.desk.now (book.Undo t.serial) (book.Refused r))) c.token.view_is c.in-Err.ensures.refused)
 
 pub returns-in-Err-clause-counted : goal.returns-in-Err-clause-counted
