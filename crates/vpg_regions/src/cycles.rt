@@ -49,14 +49,6 @@ fn own_vertices(
     own.list()
 }
 
-// Whether a component is more than one vertex without a move to itself.
-fn has_cycle(solution: &Solution<'_>, members: &[u32]) -> bool {
-    match members.first() {
-        Some(first) => 1 < members.len() || solution.graph.successors(*first).contains(first),
-        None => false,
-    }
-}
-
 // The members of other priorities.
 fn lesser(
     alloc: Global,
@@ -149,6 +141,7 @@ impl Cycles {
         Ok(())
     }
 
+    // Looks at the component between two ends, unless it is a vertex without a move to itself.
     fn look_between(
         &mut self,
         alloc: Global,
@@ -156,20 +149,23 @@ impl Cycles {
         from: usize,
         to: usize,
     ) -> Result<(), AllocError> {
+        if let Some(v) = self.components.single(from, to)
+            && !solution.graph.successors(v).contains(&v)
+        {
+            return Ok(());
+        }
         let members = self.components.between(alloc, from, to)?;
         self.look(alloc, solution, &members)
     }
 
-    // Looks at a component. If its greatest priority is the player's, it is won; else it falls into smaller ones.
+    // Looks at a component that has a cycle. If its greatest priority is the player's, it is won; else it falls into
+    // smaller ones.
     fn look(
         &mut self,
         alloc: Global,
         solution: &mut Solution<'_>,
         members: &[u32],
     ) -> Result<(), AllocError> {
-        if !has_cycle(solution, members) {
-            return Ok(());
-        }
         let greatest = solution.graph.greatest_priority(members);
         if player_of(greatest) == self.player {
             self.win(solution, members, greatest);

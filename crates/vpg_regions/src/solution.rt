@@ -358,6 +358,36 @@ impl<'a> Solution<'a> {
         Ok(())
     }
 
+    // A move by which the owner of a vertex wins, if the vertex is a component of its own.
+    fn winning_move(&self, v: u32) -> Option<u32> {
+        let owner = self.graph.owner(v);
+        for w in self.graph.successors(v) {
+            let is_winning = if *w == v {
+                player_of(self.graph.priority(v)) == owner
+            } else {
+                self.winner.get(*w) == Some(owner)
+            };
+            if is_winning {
+                return Some(*w);
+            }
+        }
+        None
+    }
+
+    /// Gives a vertex its winner, if it is a component of its own. Each of its other moves must lead to a vertex that
+    /// was given to a player.
+    pub fn win_alone(&mut self, v: u32, budget: &mut Budget) {
+        budget.spend(self.graph.successors(v).len());
+        let owner = self.graph.owner(v);
+        match self.winning_move(v) {
+            Some(w) => {
+                self.choice.set(v, Some(w));
+                self.winner.set(v, Some(owner));
+            }
+            None => self.winner.set(v, Some(owner.opponent())),
+        }
+    }
+
     /// Returns the winners and the choices.
     pub fn finish(self) -> (PerVertex<Option<Player>>, Choices) {
         let Solution {

@@ -444,14 +444,31 @@ impl Learning {
             let Some(to) = self.components.ends.get(at) else {
                 break;
             };
-            let members = self.components.between(alloc, from, to)?;
-            self.learn(alloc, &moves, player, &members)?;
+            self.learn_between(alloc, &moves, player, from, to)?;
             from = to;
         }
         Ok(())
     }
 
-    // Learns a component as a tangle, if it has a cycle and no move on within the region.
+    // Learns the component between two ends, unless it is a vertex without a move to itself.
+    fn learn_between(
+        &mut self,
+        alloc: Global,
+        moves: &Moves<'_>,
+        player: Player,
+        from: usize,
+        to: usize,
+    ) -> Result<(), AllocError> {
+        if let Some(v) = self.components.single(from, to)
+            && !moves.has_loop(v)
+        {
+            return Ok(());
+        }
+        let members = self.components.between(alloc, from, to)?;
+        self.learn(alloc, moves, player, &members)
+    }
+
+    // Learns a component with a cycle as a tangle, if it has no move on within the region.
     fn learn(
         &mut self,
         alloc: Global,
@@ -477,18 +494,14 @@ impl Learning {
         Ok(())
     }
 
-    // Whether a component has a cycle and no move on within the region.
+    // Whether a component has no move on within the region.
     fn is_tangle(&self, moves: &Moves<'_>, members: &[u32]) -> bool {
-        let mut has_cycle = 1 < members.len();
         for v in members {
             if self.leads_on(moves, *v) {
                 return false;
             }
-            if moves.free(*v).contains(v) || moves.chosen(*v) == Some(*v) {
-                has_cycle = true;
-            }
         }
-        has_cycle
+        true
     }
 
     // Whether a move leads to a closed vertex outside the component.

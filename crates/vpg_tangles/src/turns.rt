@@ -8,10 +8,13 @@ use vpg_regions::{
 };
 
 /// The number of times that the recursion may look at a whole game in its first turn, and at a component. At a small
-/// component it may look as often as the others do before their first step.
-const FIRST_PASSES: u64 = 4;
+/// component it may look as often as the others do before their first step. Where few vertices are left of a graph it
+/// may look as often as the components of all take.
+const FIRST_PASSES: u64 = 3;
 
 const COMPONENT_PASSES: u64 = 2;
+
+const GRAPH_PASSES: u64 = 5;
 
 /// The number of times that tangles, and then weights, may look at a component in their first turn, and the least that
 /// they may look at.
@@ -20,7 +23,7 @@ const FIRST_TURN: u64 = 32;
 const LEAST_TURN: u64 = 1 << 20;
 
 // How a game is solved.
-#[derive(Clone, Copy)]
+#[derive(Clone, Copy, PartialEq, Eq)]
 enum Way {
     Recursion,
     Tangles,
@@ -56,20 +59,31 @@ fn size_of(graph: &Graph, vertices: &[u32]) -> u64 {
     size
 }
 
+// The number of looks in the recursion's first turn at a component.
+fn passes_of(graph: &Graph, first: Way, size: u64) -> u64 {
+    if first == Way::Recursion {
+        size.saturating_mul(COMPONENT_PASSES)
+            .max(u64::from(graph.vertices()))
+    } else {
+        0
+    }
+}
+
 // Solves the present game, which is of some of these vertices, by turns, each longer than the one before it, until one
-// ends or the budget is spent. Returns whether all is solved.
+// ends or the budget is spent. The recursion has the first turn, or none until the others had theirs. Returns whether
+// all is solved.
 fn take_turns(
     alloc: Global,
     solution: &mut Solution<'_>,
+    first: Way,
     vertices: &[u32],
     budget: &mut Budget,
 ) -> Result<bool, AllocError> {
     let size = size_of(solution.graph, vertices);
-    let least = u64::from(solution.graph.vertices());
-    let mut passes = size.saturating_mul(COMPONENT_PASSES).max(least);
+    let mut passes = passes_of(solution.graph, first, size);
     let mut turn = size.saturating_mul(FIRST_TURN).max(LEAST_TURN);
     for _ in 0..u64::MAX {
-        if take_turn(alloc, solution, Way::Recursion, vertices, passes, budget)?
+        if (0 < passes && take_turn(alloc, solution, Way::Recursion, vertices, passes, budget)?)
             || take_turn(alloc, solution, Way::Tangles, vertices, turn, budget)?
             || take_turn(alloc, solution, Way::Weights, vertices, turn, budget)?
         {
@@ -88,15 +102,39 @@ fn take_turns(
 fn solve_component(
     alloc: Global,
     solution: &mut Solution<'_>,
+    first: Way,
     members: &[u32],
     budget: &mut Budget,
 ) -> Result<bool, AllocError> {
     solution.revive(members);
     solution.win_exits(alloc, members, budget)?;
     let rest = solution.living(alloc, members)?;
-    let solved = rest.is_empty() || take_turns(alloc, solution, &rest, budget)?;
+    let solved = rest.is_empty() || take_turns(alloc, solution, first, &rest, budget)?;
     solution.leave(members);
     Ok(solved)
+}
+
+// Solves the component between two ends; returns whether all of it is solved. The recursion, which failed at so many
+// vertices, is not tried at most of them again.
+fn solve_between(
+    alloc: Global,
+    solution: &mut Solution<'_>,
+    components: &Components,
+    from: usize,
+    to: usize,
+    budget: &mut Budget,
+) -> Result<bool, AllocError> {
+    if let Some(v) = components.single(from, to) {
+        solution.win_alone(v, budget);
+        return Ok(true);
+    }
+    let members = components.between(alloc, from, to)?;
+    let first = if components.found.len() / 2 < members.len() {
+        Way::Tangles
+    } else {
+        Way::Recursion
+    };
+    solve_component(alloc, solution, first, &members, budget)
 }
 
 // Solves the present game component by component, until one is not solved. The solved ones are easier than the rest.
@@ -111,8 +149,7 @@ fn solve_apart(
     solution.leave(&living);
     let mut from = 0;
     for to in components.ends.items() {
-        let members = components.between(alloc, from, *to)?;
-        if !solve_component(alloc, solution, &members, budget)? {
+        if !solve_between(alloc, solution, &components, from, *to, budget)? {
             break;
         }
         from = *to;
@@ -160,7 +197,10 @@ fn solve_whole(
     solution.win_dead_ends(alloc, Player::Even, budget)?;
     solution.win_dead_ends(alloc, Player::Odd, budget)?;
     let all = solution.all_living(alloc)?;
-    let most = size_of(solution.graph, &all).saturating_mul(FIRST_PASSES);
+    let least = u64::from(solution.graph.vertices()).saturating_mul(GRAPH_PASSES);
+    let most = size_of(solution.graph, &all)
+        .saturating_mul(FIRST_PASSES)
+        .max(least);
     if take_turn(alloc, solution, Way::Recursion, &all, most, budget)? {
         return Ok(());
     }
@@ -182,7 +222,7 @@ pub fn solve_part(
     solution.give(Player::Odd, lost);
     solution.leave(&all);
     solution.forget(members);
-    solve_component(alloc, &mut solution, members, budget)?;
+    solve_component(alloc, &mut solution, Way::Recursion, members, budget)?;
     let (winner, choice) = solution.finish();
     Ok(Regions::of(winner, choice))
 }

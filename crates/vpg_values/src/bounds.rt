@@ -38,9 +38,12 @@ impl Raises {
         RankedBounds { bounds, ranks }
     }
 
-    fn into_parts(self) -> (PerVertex<u64>, Vec<u32>) {
-        let Raises { bounds, exceeding } = self;
-        (bounds, exceeding)
+    fn into_bounds(self) -> PerVertex<u64> {
+        let Raises {
+            bounds,
+            exceeding: _,
+        } = self;
+        bounds
     }
 }
 
@@ -106,15 +109,15 @@ fn follows(ground: &GuessGround, bounds: &PerVertex<u64>, v: u32, w: u32) -> boo
     ground.even.reaches(v, bounds.get(v), bounds.get(w))
 }
 
-// Solves the game of the vertices to be raised: Odd has the edges over which the bound follows.
+// Solves the game of some vertices to be raised: Odd has the edges over which the bound follows, and wins elsewhere.
 fn solve_raising(
     alloc: Global,
     ground: &GuessGround,
     bounds: &PerVertex<u64>,
-    exceeding: Vec<u32>,
+    vertices: Vec<u32>,
     budget: &mut Budget,
 ) -> Result<Solved, AllocError> {
-    let mut game = Subgame::new(alloc, &ground.graph, exceeding)?;
+    let mut game = Subgame::new(alloc, &ground.graph, vertices)?;
     write_raising(ground, bounds, &mut game);
     game.solve(alloc, budget)
 }
@@ -151,6 +154,27 @@ fn move_of(ground: &GuessGround, bounds: &PerVertex<u64>, solved: &Solved, v: u3
     None
 }
 
+// Ranks these vertices along Odd's choices, where the others have theirs.
+fn rank_along(
+    alloc: Global,
+    ground: &GuessGround,
+    choice: &Choices,
+    vertices: &[u32],
+    ranks: &mut PerVertex<u64>,
+    budget: &mut Budget,
+) -> Result<(), AllocError> {
+    let mut evaluation = Evaluation::new(alloc, ground.graph.vertices())?;
+    evaluation.run(
+        alloc,
+        &ground.graph,
+        &ground.odd,
+        choice,
+        vertices,
+        ranks,
+        budget,
+    )
+}
+
 // Ranks of these vertices along Odd's choices.
 fn ranks_along(
     alloc: Global,
@@ -159,18 +183,8 @@ fn ranks_along(
     raised: &[u32],
     budget: &mut Budget,
 ) -> Result<PerVertex<u64>, AllocError> {
-    let vertices = ground.graph.vertices();
-    let mut ranks = PerVertex::of(alloc, vertices, 0)?;
-    let mut evaluation = Evaluation::new(alloc, vertices)?;
-    evaluation.run(
-        alloc,
-        &ground.graph,
-        &ground.odd,
-        choice,
-        raised,
-        &mut ranks,
-        budget,
-    )?;
+    let mut ranks = PerVertex::of(alloc, ground.graph.vertices(), 0)?;
+    rank_along(alloc, ground, choice, raised, &mut ranks, budget)?;
     Ok(ranks)
 }
 
@@ -250,87 +264,109 @@ fn straight_choices(
     straight.choices(alloc)
 }
 
-// Whether all of these vertices have ranks below the top.
-fn are_ranked(ground: &GuessGround, ranks: &PerVertex<u64>, vertices: &[u32]) -> bool {
+// Those of some vertices without a rank below the top.
+fn unranked(
+    alloc: Global,
+    ground: &GuessGround,
+    ranks: &PerVertex<u64>,
+    vertices: &[u32],
+) -> Result<Vec<u32>, AllocError> {
+    let mut unranked = Found::none(alloc);
     for v in vertices {
         if ground.odd.top <= ranks.get(*v) {
-            return false;
+            unranked.add(*v);
         }
     }
-    true
+    unranked.list()
 }
 
-// Ranks along Odd's straight moves, if they show all bounds. No game is solved.
-fn straight_ranks(
-    alloc: Global,
-    ground: &GuessGround,
-    guess: &Guess,
-    raises: &Raises,
-    table: &[u64],
-    budget: &mut Budget,
-) -> Result<Option<PerVertex<u64>>, AllocError> {
-    let choice = straight_choices(alloc, ground, guess, raises, table)?;
-    let ranks = ranks_along(alloc, ground, &choice, &raises.exceeding, budget)?;
-    Ok(if are_ranked(ground, &ranks, &raises.exceeding) {
-        Some(ranks)
-    } else {
-        None
-    })
-}
-
-// Ranks of the vertices that Odd wins, along its moves.
-fn ranks_won(
-    alloc: Global,
-    ground: &GuessGround,
-    bounds: &PerVertex<u64>,
-    solved: &Solved,
-    budget: &mut Budget,
-) -> Result<PerVertex<u64>, AllocError> {
-    let mut choice = Choices::none(alloc, ground.graph.vertices())?;
-    let mut found = Found::none(alloc);
-    for v in solved.vertices() {
-        if solved.winner(*v) == Some(Player::Odd) {
-            choice.set(*v, move_of(ground, bounds, solved, *v));
-            found.add(*v);
-        }
-    }
-    let raised = found.list()?;
-    ranks_along(alloc, ground, &choice, &raised, budget)
-}
-
-// Ranks of the vertices that Odd wins; the others keep their value.
-fn rank(
-    alloc: Global,
-    ground: &GuessGround,
+// Bounds, Odd's moves that give them, and the ranks along these.
+struct Ranking {
     bounds: PerVertex<u64>,
-    solved: &Solved,
-    table: &[u64],
-    budget: &mut Budget,
-) -> Result<RankedBounds, AllocError> {
-    let mut bounds = bounds;
-    let ranks = ranks_won(alloc, ground, &bounds, solved, budget)?;
-    for v in solved.vertices() {
-        if solved.winner(*v) != Some(Player::Odd) {
-            bounds.set(*v, value_in(table, *v));
-        }
-    }
-    Ok(RankedBounds { bounds, ranks })
+    choice: Choices,
+    ranks: PerVertex<u64>,
 }
 
-// Ranks by a game over the vertices to be raised.
+// Not derived: a derived `drop` would be proved again at each exit that owns such a value.
+impl Drop for Ranking {
+    fn drop(self) {
+        let Ranking {
+            bounds: _,
+            choice: _,
+            ranks: _,
+        } = self;
+    }
+}
+
+impl Ranking {
+    // Takes Odd's moves where it wins a game; elsewhere there the table's values stay. Returns the vertices that it
+    // wins, which have no ranks yet.
+    fn take_over(
+        &mut self,
+        alloc: Global,
+        ground: &GuessGround,
+        solved: &Solved,
+        table: &[u64],
+    ) -> Result<Vec<u32>, AllocError> {
+        let mut won = Found::none(alloc);
+        for v in solved.vertices() {
+            self.ranks.set(*v, 0);
+            if solved.winner(*v) == Some(Player::Odd) {
+                self.choice
+                    .set(*v, move_of(ground, &self.bounds, solved, *v));
+                won.add(*v);
+            } else {
+                self.bounds.set(*v, value_in(table, *v));
+            }
+        }
+        won.list()
+    }
+
+    // Ranks these vertices, where the others have theirs.
+    fn rank(
+        &mut self,
+        alloc: Global,
+        ground: &GuessGround,
+        vertices: &[u32],
+        budget: &mut Budget,
+    ) -> Result<(), AllocError> {
+        rank_along(
+            alloc,
+            ground,
+            &self.choice,
+            vertices,
+            &mut self.ranks,
+            budget,
+        )
+    }
+
+    fn into_bounds(self) -> RankedBounds {
+        let Ranking {
+            bounds,
+            choice: _,
+            ranks,
+        } = self;
+        RankedBounds { bounds, ranks }
+    }
+}
+
+// Ranks by a game over those vertices that have none along Odd's straight moves.
 fn rank_by_game(
     alloc: Global,
     ground: &GuessGround,
-    raises: Raises,
+    ranking: Ranking,
+    unranked: Vec<u32>,
     table: &[u64],
     budget: &mut Budget,
 ) -> Result<RankedBounds, AllocError> {
-    let (bounds, exceeding) = raises.into_parts();
-    let solved = solve_raising(alloc, ground, &bounds, exceeding, budget)?;
-    rank(alloc, ground, bounds, &solved, table, budget)
+    let mut ranking = ranking;
+    let solved = solve_raising(alloc, ground, &ranking.bounds, unranked, budget)?;
+    let won = ranking.take_over(alloc, ground, &solved, table)?;
+    ranking.rank(alloc, ground, &won, budget)?;
+    Ok(ranking.into_bounds())
 }
 
-// Ranks by straight moves, and by a game if those do not suffice.
+// Ranks by straight moves, and by a game where those do not suffice.
 fn rank_raises(
     alloc: Global,
     ground: &GuessGround,
@@ -339,10 +375,18 @@ fn rank_raises(
     table: &[u64],
     budget: &mut Budget,
 ) -> Result<RankedBounds, AllocError> {
-    match straight_ranks(alloc, ground, guess, &raises, table, budget)? {
-        Some(ranks) => Ok(raises.with_ranks(ranks)),
-        None => rank_by_game(alloc, ground, raises, table, budget),
+    let choice = straight_choices(alloc, ground, guess, &raises, table)?;
+    let ranks = ranks_along(alloc, ground, &choice, &raises.exceeding, budget)?;
+    let unranked = unranked(alloc, ground, &ranks, &raises.exceeding)?;
+    if unranked.is_empty() {
+        return Ok(raises.with_ranks(ranks));
     }
+    let ranking = Ranking {
+        bounds: raises.into_bounds(),
+        choice,
+        ranks,
+    };
+    rank_by_game(alloc, ground, ranking, unranked, table, budget)
 }
 
 /// Returns bounds and ranks for the top where Odd is guessed to win, or nothing if that raises nothing.
