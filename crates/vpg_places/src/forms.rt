@@ -162,7 +162,7 @@ fn departure_behind(words: &[Word<'_>], parts: usize, rest: Option<Part>) -> Opt
 }
 
 /// Returns where the words of an assertion depart from its form, if the first is right. At least one verdict follows a
-/// vertex; `full` and `settled` stand alone.
+/// vertex, an exact one alone; `full` and `settled` stand alone.
 fn departure_of_asserted(words: &[Word<'_>]) -> Option<Departure> {
     let rest = Some(Part::Verdict);
     match words {
@@ -171,6 +171,9 @@ fn departure_of_asserted(words: &[Word<'_>]) -> Option<Departure> {
             place: 1,
             expected: rest,
         }),
+        [_, word, ..] if is_one_of(word.bytes, &["won", "lost", "mixed"]) => {
+            departure_behind(words, 2, None)
+        }
         _ => departure_behind(words, 1, rest),
     }
 }

@@ -1,11 +1,13 @@
 -- Lines and numbers.
-use Rattle.std.proofs.Common.{◌≡◌, ℕ, suc, ◌+◌, ◌*◌, ◌<◌, ◌≤◌, Bool, true, false, not, ◌==◌, cond, nat_lt, List, [], ◌∷◌, length, take, drop, Option, Some, None, position, min, unwrap_or, ◌-◌, ◌⊎◌, inl, inr, refl, sym, ap, ◌∙◌, subst, arith, one-add, eqb-true}
+use Rattle.std.proofs.Common.{◌≡◌, ℕ, suc, ◌+◌, ◌*◌, ◌<◌, ◌≤◌, Bool, true, false, not, cond, nat_lt, List, [], ◌∷◌, length, take, drop, Option, Some, None, position, min, unwrap_or, ◌-◌, ◌⊎◌, inl, inr, refl, sym, ap, ◌∙◌, subst, arith, one-add}
 use Rattle.std.specs.List.{slice_split, onto_first, position_or_len}
 use Rattle.std.specs.Char.{digit_value}
 use Rattle.std.specs.Option.{SomeIff}
-use Rattle.std.specs.Str.Lines.{lines, lines_of_parts, strip_carriage_return}
 use Rattle.std.specs.Str.Parse.{digits_value_after}
 use Rattle.std.proofs.lemmas.Bool.{cases_Bool, ltb-true, ltb-false}
+use Rattle.std.proofs.lemmas.List.{length-take, length-drop}
+use Rattle.vpg_uvl.specs.Rows.{ends_line, rows_from, parts_of}
+use Rattle.vpg_uvl.specs.Views.{row_then}
 
 -- numbers that agree below a bound agree there with more digits
 min_step : (x y d c : ℕ) → min x c ≡ min y c → min (x * 10 + d) c ≡ min (y * 10 + d) c
@@ -14,9 +16,6 @@ min_step x y d c e = omega (arith, e)
 pub bounded_digits : (ds : List ℕ) (x y c : ℕ) → min x c ≡ min y c → min (digits_value_after 10 x ds) c ≡ min (digits_value_after 10 y ds) c
 bounded_digits [] x y c e = e
 bounded_digits (d ∷ ds) x y c e = bounded_digits ds (x * 10 + digit_value d) (y * 10 + digit_value d) c (min_step x y (digit_value d) c e)
-
-abbrev pub ends_line : ℕ → Bool
-ends_line b = b == 10
 
 end_here : (b : ℕ) (bs : List ℕ) → ends_line b ≡ true → position_or_len ends_line (b ∷ bs) ≡ 0
 end_here b bs e = ap (λ t. cond (not t) (1 + position_or_len ends_line bs) 0) e
@@ -48,42 +47,59 @@ split_none (b ∷ bs) l = go (cases_Bool (ends_line b)) (split_none bs)
     go (inl t) ih = absurd (let z = end_here b bs t in omega (arith, z, l))
     go (inr f) ih = ap (λ x. cond x ([] ∷ slice_split ends_line bs) (onto_first b (slice_split ends_line bs))) f ∙ ap (onto_first b) (ih (let z = end_later b bs f in omega (arith, z, l)))
 
--- a list splits into one part or more
-some_part : (bytes : List ℕ) → (part : List ℕ) × (more : List (List ℕ)) × (slice_split ends_line bytes ≡ part ∷ more)
-some_part bytes = go (cases_Bool (nat_lt (position_or_len ends_line bytes) (length bytes)))
-  where
-    go : (nat_lt (position_or_len ends_line bytes) (length bytes) ≡ true) ⊎ (nat_lt (position_or_len ends_line bytes) (length bytes) ≡ false) → (part : List ℕ) × (more : List (List ℕ)) × (slice_split ends_line bytes ≡ part ∷ more)
-    go (inl t) = (take (position_or_len ends_line bytes) bytes, slice_split ends_line (drop (suc (position_or_len ends_line bytes)) bytes), split_at bytes (position_or_len ends_line bytes) refl (ltb-true (position_or_len ends_line bytes) (length bytes) t))
-    go (inr f) = (bytes, [], split_none bytes (ltb-false (position_or_len ends_line bytes) (length bytes) f))
-
-pub line_ends : (bytes : List ℕ) (k : ℕ) → position ends_line bytes ≡ Some k → lines bytes ≡ strip_carriage_return (take k bytes) ∷ lines (drop (suc k) bytes)
-line_ends bytes k e = go (cases_Bool (nat_lt n (length bytes)))
+pub part_ends : (bytes : List ℕ) (k : ℕ) → position ends_line bytes ≡ Some k → parts_of bytes ≡ take k bytes ∷ parts_of (drop (suc k) bytes)
+part_ends bytes k e = go (cases_Bool (nat_lt n (length bytes)))
   where
     n : ℕ
     n = position_or_len ends_line bytes
 
-    go : (nat_lt n (length bytes) ≡ true) ⊎ (nat_lt n (length bytes) ≡ false) → lines bytes ≡ strip_carriage_return (take k bytes) ∷ lines (drop (suc k) bytes)
+    go : (nat_lt n (length bytes) ≡ true) ⊎ (nat_lt n (length bytes) ≡ false) → parts_of bytes ≡ take k bytes ∷ parts_of (drop (suc k) bytes)
     go (inl t) =
         let w : Some n ≡ Some k = sym (ap (λ b. cond b (Some n) None) t) ∙ e in
         let z : n ≡ k = cc in
-        let p = some_part (drop (suc k) bytes) in
-        ap lines_of_parts (split_at bytes k z (subst (λ (x : ℕ). x < length bytes) z (ltb-true n (length bytes) t)) ∙ ap (λ ps. take k bytes ∷ ps) p.2)
-        ∙ ap (λ ps. strip_carriage_return (take k bytes) ∷ lines_of_parts ps) (sym p.2)
+        split_at bytes k z (subst (λ (x : ℕ). x < length bytes) z (ltb-true n (length bytes) t))
     go (inr f) = let w : ◌≡◌ {A = Option ℕ} None (Some k) = sym (ap (λ b. cond b (Some n) None) f) ∙ e in absurd (cc)
 
-pub line_is_last : (bytes : List ℕ) → 0 < length bytes → position ends_line bytes ≡ None → lines bytes ≡ bytes ∷ lines []
-line_is_last bytes some e = go (cases_Bool (nat_lt n (length bytes)))
+pub part_is_last : (bytes : List ℕ) → position ends_line bytes ≡ None → parts_of bytes ≡ bytes ∷ []
+part_is_last bytes e = go (cases_Bool (nat_lt n (length bytes)))
   where
     n : ℕ
     n = position_or_len ends_line bytes
 
-    last : (xs : List ℕ) → 0 < length xs → (length xs == 0 ≡ true) ⊎ (length xs == 0 ≡ false) → lines_of_parts (xs ∷ []) ≡ xs ∷ []
-    last xs l (inl t) = absurd (let z = eqb-true (length xs) 0 t in omega (arith, z, l))
-    last xs l (inr f) = ap (λ b. cond b [] (xs ∷ [])) f
-
-    go : (nat_lt n (length bytes) ≡ true) ⊎ (nat_lt n (length bytes) ≡ false) → lines bytes ≡ bytes ∷ []
+    go : (nat_lt n (length bytes) ≡ true) ⊎ (nat_lt n (length bytes) ≡ false) → parts_of bytes ≡ bytes ∷ []
     go (inl t) = let w : ◌≡◌ {A = Option ℕ} (Some n) None = sym (ap (λ b. cond b (Some n) None) t) ∙ e in absurd (cc)
-    go (inr f) = ap lines_of_parts (split_none bytes (ltb-false n (length bytes) f)) ∙ last bytes some (cases_Bool (length bytes == 0))
+    go (inr f) = split_none bytes (ltb-false n (length bytes) f)
+
+position_within : (bytes : List ℕ) (k : ℕ) → position ends_line bytes ≡ Some k → k < length bytes
+position_within bytes k e = go (cases_Bool (nat_lt n (length bytes)))
+  where
+    n : ℕ
+    n = position_or_len ends_line bytes
+
+    go : (nat_lt n (length bytes) ≡ true) ⊎ (nat_lt n (length bytes) ≡ false) → k < length bytes
+    go (inl t) =
+        let w : Some n ≡ Some k = sym (ap (λ b. cond b (Some n) None) t) ∙ e in
+        let z : n ≡ k = cc in
+        subst (λ (x : ℕ). x < length bytes) z (ltb-true n (length bytes) t)
+    go (inr f) = let w : ◌≡◌ {A = Option ℕ} None (Some k) = sym (ap (λ b. cond b (Some n) None) f) ∙ e in absurd (cc)
+
+length_of_part : (bytes : List ℕ) (k : ℕ) → k < length bytes → length (take k bytes) + 1 ≡ length bytes - length (drop (suc k) bytes)
+length_of_part bytes k lt = omega (arith, lt, length-take k bytes, length-drop (suc k) bytes)
+
+-- the rows of a text are those of its first part, and of what stands after the line feed
+pub rows_of_part : (start : ℕ) (text rest : List ℕ) (k : ℕ) → position ends_line text ≡ Some k → drop (suc k) text ≡ rest
+    → rows_from start (parts_of text) ≡ row_then start (take k text) (rows_from (start + (length text - length rest)) (parts_of rest))
+rows_of_part start text rest k e is =
+    ap (rows_from start) (part_ends text k e ∙ ap (λ (bs : List ℕ). take k text ∷ parts_of bs) is)
+    ∙ ap (λ (n : ℕ). row_then start (take k text) (rows_from n (parts_of rest)))
+    (let same : length (take k text) + 1 ≡ length text - length rest = length_of_part text k (position_within text k e) ∙ ap (λ (bs : List ℕ). length text - length bs) is in omega (arith, same))
+
+-- a text without a line feed is one part
+pub rows_of_last : (start : ℕ) (text rest : List ℕ) → position ends_line text ≡ None → [] ≡ rest
+    → rows_from start (parts_of text) ≡ row_then start text (rows_from (start + (length text - length rest)) (parts_of rest))
+rows_of_last start text rest e is =
+    ap (rows_from start) (part_is_last text e)
+    ∙ ap (λ (bs : List ℕ). row_then start text (rows_from (start + (length text - length bs)) (parts_of bs))) is
 
 -- a digit's value is 36 at most
 below_if : (b : Bool) (x y n : ℕ) → x ≤ n → y ≤ n → cond b x y ≤ n

@@ -1,5 +1,6 @@
 -- A text spells one tree, and its faults.
-use Rattle.std.proofs.Common.{◌≡◌, ℕ, List, [], ◌∷◌, ◌++◌, Result, Ok, Err, inl, inr, refl, sym, ap, ap₂, subst, ◌∙◌, append_assoc}
+use Rattle.std.proofs.Common.{◌≡◌, ℕ, List, [], ◌∷◌, ◌++◌, Option, Some, None, Result, Ok, Err, inl, inr, refl, sym, ap, ap₂, subst, ◌∙◌, append_assoc}
+use Rattle.vpg_uvl.specs.Items.{Comment}
 use Rattle.std.proofs.lemmas.List.{append-nil}
 use Rattle.std.specs.List.{AllZip}
 use Rattle.vpg_rules.specs.Constraint.{Constraint, renamed}
@@ -8,11 +9,14 @@ use Rattle.vpg_rules.specs.Grammar.{NamedRule, index_or_end}
 use Rattle.vpg_rules.proofs.Levels.{rule_again}
 use Rattle.vpg_rules.proofs.Marks.{some_is}
 use Rattle.vpg_tree.specs.Tree.{Tree}
-use Rattle.vpg_uvl.specs.Rows.{Row, rows}
-use Rattle.vpg_uvl.specs.Model.{Features, SpellsConstraint, ReadsBehind, Spells, IsFaultBehind, IsFirstFault, features_after}
+use Rattle.vpg_uvl.specs.Rows.{Row, rows, rows_from, parts_of}
+use Rattle.vpg_uvl.specs.Quotes.{unquoted}
+use Rattle.vpg_uvl.specs.Arrows.{grouped}
+use Rattle.vpg_uvl.specs.Comments.{plain, open_comment}
+use Rattle.vpg_uvl.specs.Model.{Features, SpellsConstraint, ReadsBehind, Spells, IsFaultBehind, IsFaultOfRows, IsFaultBy, IsTextFault, TextFault, Refused, Ended, Memory, features_after, told, IsFirstFault}
 use Rattle.vpg_uvl.specs.Views.{IsReadingFault, IsRowFault}
 use Rattle.vpg_uvl.specs.declared.fault.UvlFault.{UvlFault}
-use Rattle.vpg_uvl.specs.declared.fault.UvlFault.TheVariants.{Refused, Ended, Memory}
+use Rattle.vpg_uvl.specs.declared.fault.UvlFault.TheVariants as faults
 
 one_of_zip : {A B : Type 0} (R : A → B → Type 0) (before : List A) (x : A) (after : List A) (ys : List B) → AllZip R (before ++ x ∷ after) ys → (y : B) × R x y
 one_of_zip R [] x after [] h = absurd h
@@ -31,7 +35,7 @@ one_rule text c d s t = some_is c d (sym (rule_again text c s) ∙ rule_again te
 
 one_constraint : (names : List (List ℕ)) (row : Row) (c d : Constraint ℕ) → SpellsConstraint names row c → SpellsConstraint names row d → c ≡ d
 one_constraint names row c d h k =
-    h.indices ∙ ap (renamed (index_or_end names)) (one_rule row.bytes h.rule k.rule h.spelled k.spelled) ∙ sym k.indices
+    h.indices ∙ ap (renamed (index_or_end names)) (one_rule (grouped (unquoted row.bytes)) h.rule k.rule h.spelled.spelled k.spelled.spelled) ∙ sym k.indices
 
 same_constraints : (names : List (List ℕ)) (behind : List Row) (cs ds : List (Constraint ℕ)) → AllZip (SpellsConstraint names) behind cs → AllZip (SpellsConstraint names) behind ds → cs ≡ ds
 same_constraints names [] [] [] h k = refl
@@ -47,8 +51,9 @@ bare_again : (bare tree : Tree) → bare.constraints ≡ [] → tree ≡ record 
 bare_again bare tree none same =
     ap (λ (t : Tree). record t { constraints = [] }) same ∙ ap (λ (cs : List (Constraint ℕ)). record bare { constraints = cs }) (sym none)
 
-pub model_found : (text : List ℕ) (bare tree : Tree) (behind : List Row) → features_after (rows text) ≡ Ok (record { tree = bare; behind = behind }) → bare.constraints ≡ [] → ReadsBehind bare behind tree → Spells text tree
-model_found text bare tree behind read none reads = record {
+pub model_found : (text : List ℕ) (bare tree : Tree) (behind : List Row) → open_comment text ≡ None → features_after (rows text) ≡ Ok (record { tree = bare; behind = behind }) → bare.constraints ≡ [] → ReadsBehind bare behind tree → Spells text tree
+model_found text bare tree behind closed read none reads = record {
+  closed = closed;
   behind = behind;
   features = read ∙ ap (λ (t : Tree). Ok (record { tree = t; behind = behind })) (sym (bare_again bare tree none reads.same));
   constraints = subst (λ (t : Tree). AllZip (SpellsConstraint t.names) behind tree.constraints) (sym reads.same) reads.constraints;
@@ -58,7 +63,7 @@ abbrev tree_of : {E : Type 0} → Features → Result Features E → Features
 tree_of f (Ok g) = g
 tree_of f (Err e) = f
 
-same_features : (r : Result Features UvlFault) (f g : Features) → r ≡ Ok f → r ≡ Ok g → f ≡ g
+same_features : (r : Result Features TextFault) (f g : Features) → r ≡ Ok f → r ≡ Ok g → f ≡ g
 same_features r f g h k = ap (tree_of f) (sym h ∙ k)
 
 pub model_only : (text : List ℕ) (bare tree other : Tree) (behind : List Row) → features_after (rows text) ≡ Ok (record { tree = bare; behind = behind }) → ReadsBehind bare behind tree → Spells text other → tree ≡ other
@@ -72,19 +77,19 @@ model_only text bare tree other behind read reads spells =
     let constraints_are : tree.constraints ≡ other.constraints = same_constraints bare.names behind tree.constraints other.constraints reads.constraints here in
     reads.same ∙ ap (λ (t : Tree). record t { constraints = tree.constraints }) bare_is ∙ ap (λ (cs : List (Constraint ℕ)). record other { constraints = cs }) constraints_are
 
-ok_no_err : (r : Result Features UvlFault) (f : Features) (e : UvlFault) → r ≡ Ok f → r ≡ Err e → ⊥
+ok_no_err : (r : Result Features TextFault) (f : Features) (e : TextFault) → r ≡ Ok f → r ≡ Err e → ⊥
 ok_no_err r f e h k = let w : Ok f ≡ Err e = sym h ∙ k in cc
 
 -- a text that spells a tree has no fault up to `constraints`
-pub no_features_fault : (text : List ℕ) (tree : Tree) (fault : UvlFault) → Spells text tree → IsReadingFault (features_after (rows text)) fault → fault ≡ Memory
+pub no_features_fault : (text : List ℕ) (tree : Tree) (fault : TextFault) → Spells text tree → IsReadingFault (features_after (rows text)) fault → fault ≡ Memory
 no_features_fault text tree fault spells (inl memory) = memory
 no_features_fault text tree fault spells (inr read) = absurd (ok_no_err (features_after (rows text)) _ fault spells.features read)
 
 -- nor behind it
-pub no_fault_behind : (text : List ℕ) (bare tree : Tree) (behind : List Row) (fault : UvlFault) → features_after (rows text) ≡ Ok (record { tree = bare; behind = behind }) → Spells text tree → IsFaultBehind bare.names behind fault → fault ≡ Memory
+pub no_fault_behind : (text : List ℕ) (bare tree : Tree) (behind : List Row) (fault : TextFault) → features_after (rows text) ≡ Ok (record { tree = bare; behind = behind }) → Spells text tree → IsFaultBehind bare.names behind fault → fault ≡ Memory
 no_fault_behind text bare tree behind Memory read spells h = refl
 no_fault_behind text bare tree behind Ended read spells h = absurd h
-no_fault_behind text bare tree behind (Refused reason line column) read spells h =
+no_fault_behind text bare tree behind (Refused reason at) read spells h =
     let both = same_features (features_after (rows text)) (record { tree = bare; behind = behind }) (record { tree = record tree { constraints = [] }; behind = spells.behind }) read spells.features in
     let bare_is : bare ≡ record tree { constraints = [] } = ap (λ (f : Features). f.tree) both in
     let behind_is : spells.behind ≡ h.before ++ h.row ∷ h.after = sym (ap (λ (f : Features). f.behind) both) ∙ h.parts in
@@ -95,10 +100,10 @@ no_fault_behind text bare tree behind (Refused reason line column) read spells h
     absurd (h.faulty one.0 one.1)
 
 -- the fault of a row is that of the rows, if those before it are read
-pub row_fault : (names : List (List ℕ)) (behind before after : List Row) (row : Row) (read : List (Constraint ℕ)) (fault : UvlFault) → behind ≡ before ++ row ∷ after → AllZip (SpellsConstraint names) before read → IsRowFault names row fault → IsFaultBehind names behind fault
+pub row_fault : (names : List (List ℕ)) (behind before after : List Row) (row : Row) (read : List (Constraint ℕ)) (fault : TextFault) → behind ≡ before ++ row ∷ after → AllZip (SpellsConstraint names) before read → IsRowFault names row fault → IsFaultBehind names behind fault
 row_fault names behind before after row read Memory parts spelled h = tt
 row_fault names behind before after row read Ended parts spelled h = absurd h
-row_fault names behind before after row read (Refused reason line column) parts spelled h = record {
+row_fault names behind before after row read (Refused reason at) parts spelled h = record {
   before = before;
   row = row;
   after = after;
@@ -106,19 +111,39 @@ row_fault names behind before after row read (Refused reason line column) parts 
   read = read;
   spelled = spelled;
   faulty = h.0;
-  line_is = h.1;
-  positive = h.2;
-  within = h.3;
-  why = h.4;
+  why = h.2;
+  from = h.1.0;
+  within = h.1.1;
 }
 
--- the first fault of a text
-pub first_fault : (text : List ℕ) (fault : UvlFault) → IsReadingFault (features_after (rows text)) fault → IsFirstFault text fault
-first_fault text fault (inl memory) = inl memory
-first_fault text fault (inr read) = inr (inl read)
+-- the rows of a text are those of the bytes without comments
+pub rows_without : (text bytes : List ℕ) → bytes ≡ plain text → rows text ≡ rows_from 0 (parts_of bytes)
+rows_without text bytes is = ap (λ (t : List ℕ). rows_from 0 (parts_of t)) (sym is)
 
-pub fault_behind : (text : List ℕ) (read : Features) (fault : UvlFault) → features_after (rows text) ≡ Ok read → IsFaultBehind read.tree.names read.behind fault → IsFirstFault text fault
-fault_behind text read fault is h = inr (inr (read, is, h))
+-- the fault of a text whose comments end
+by_rows : (text : List ℕ) (fault : TextFault) → open_comment text ≡ None → IsFaultOfRows (rows text) fault → IsTextFault text fault
+by_rows text fault closed h = inr (subst (λ (o : Option ℕ). IsFaultBy o (rows text) fault) (sym closed) h)
+
+pub fault_before : (text : List ℕ) (fault : TextFault) → open_comment text ≡ None → IsReadingFault (features_after (rows text)) fault → IsTextFault text fault
+fault_before text fault closed (inl memory) = inl memory
+fault_before text fault closed (inr read) = by_rows text fault closed (inl read)
+
+pub fault_behind : (text : List ℕ) (read : Features) (fault : TextFault) → open_comment text ≡ None → features_after (rows text) ≡ Ok read → IsFaultBehind read.tree.names read.behind fault → IsTextFault text fault
+fault_behind text read fault closed is h = by_rows text fault closed (inr (read, is, h))
+
+-- an open comment is a fault, and the text spells no tree
+pub comment_fault : (text : List ℕ) (at : ℕ) (fault : TextFault) → open_comment text ≡ Some at → fault ≡ Refused Comment at → IsTextFault text fault
+comment_fault text at fault is_open is = inr (subst (λ (o : Option ℕ). IsFaultBy o (rows text) fault) (sym is_open) is)
+
+pub comment_open : (text : List ℕ) (at : ℕ) (tree : Tree) → open_comment text ≡ Some at → Spells text tree → ⊥
+comment_open text at tree is_open spells = let w : None ≡ Some at = sym spells.closed ∙ is_open in absurd (cc)
+
+-- with its line and column
+pub first_told : (text : List ℕ) (fault : TextFault) (shown : UvlFault) → IsTextFault text fault → shown ≡ told text fault → IsFirstFault text shown
+first_told text fault shown h is = (fault, h, is)
+
+pub memory_told : (text : List ℕ) (fault : TextFault) (shown : UvlFault) → fault ≡ Memory → shown ≡ told text fault → shown ≡ faults.Memory
+memory_told text fault shown h is = is ∙ ap (told text) h
 
 -- one row more
 pub rows_more : (whole before left later : List Row) (row : Row) → whole ≡ before ++ left → left ≡ row ∷ later → whole ≡ (before ++ row ∷ []) ++ later

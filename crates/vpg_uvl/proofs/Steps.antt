@@ -10,7 +10,7 @@ use Rattle.vpg_uvl.specs.Rows.{Row, is_head, indentation, after_blanks}
 use Rattle.vpg_uvl.specs.Items.{Item, named, Stop, stopped, Reason, Syntax, Twice, TooMany, NoMember, item_of}
 use Rattle.vpg_uvl.specs.Nesting.{Open, Growth, narrower, last_of, with_feature, placed_below, placed_item, early_stop, grown_by, grown_at, grown, front_stop}
 use Rattle.vpg_uvl.specs.Model.{fault_at, finished, after_row, after_front, features_from, features_of, features_after}
-use Rattle.vpg_uvl.specs.declared.fault.UvlFault.TheVariants.{Refused}
+use Rattle.vpg_uvl.specs.declared.fault.TextFault.TheVariants.{Refused}
 
 pub not_false : (b : Bool) → not b ≡ false → b ≡ true
 not_false true e = refl
@@ -72,20 +72,20 @@ module _ (g : Growth) (indent : ℕ) (body : List ℕ) (parents : List Open) (pa
 
 -- the rows below the root's
 module _ (g : Growth) (row : Row) (behind : List Row) where
-  from_cons : features_from g (row ∷ behind) ≡ cond (is_head (codes "constraints") row.bytes) (finished g behind (Refused NoMember row.number 1)) (after_row row (grown g row.bytes) (λ h. features_from h behind))
+  from_cons : features_from g (row ∷ behind) ≡ cond (is_head (codes "constraints") row.bytes) (finished g behind (Refused NoMember row.start)) (after_row row (grown g row.bytes) (λ h. features_from h behind))
   from_cons = refl
 
-  pub step_head : is_head (codes "constraints") row.bytes ≡ true → features_from g (row ∷ behind) ≡ finished g behind (Refused NoMember row.number 1)
-  step_head is = ap (λ (b : Bool). cond b (finished g behind (Refused NoMember row.number 1)) (after_row row (grown g row.bytes) (λ h. features_from h behind))) is
+  pub step_head : is_head (codes "constraints") row.bytes ≡ true → features_from g (row ∷ behind) ≡ finished g behind (Refused NoMember row.start)
+  step_head is = ap (λ (b : Bool). cond b (finished g behind (Refused NoMember row.start)) (after_row row (grown g row.bytes) (λ h. features_from h behind))) is
 
   pub step_row : (h : Growth) → is_head (codes "constraints") row.bytes ≡ false → grown g row.bytes ≡ Ok h → features_from g (row ∷ behind) ≡ features_from h behind
   step_row h is ok =
-      ap (λ (b : Bool). cond b (finished g behind (Refused NoMember row.number 1)) (after_row row (grown g row.bytes) (λ k. features_from k behind))) is
+      ap (λ (b : Bool). cond b (finished g behind (Refused NoMember row.start)) (after_row row (grown g row.bytes) (λ k. features_from k behind))) is
       ∙ ap (λ (r : Result Growth Stop). after_row row r (λ k. features_from k behind)) ok
 
   pub step_stop : (stop : Stop) → is_head (codes "constraints") row.bytes ≡ false → grown g row.bytes ≡ Err stop → features_from g (row ∷ behind) ≡ Err (fault_at row stop)
   step_stop stop is err =
-      ap (λ (b : Bool). cond b (finished g behind (Refused NoMember row.number 1)) (after_row row (grown g row.bytes) (λ k. features_from k behind))) is
+      ap (λ (b : Bool). cond b (finished g behind (Refused NoMember row.start)) (after_row row (grown g row.bytes) (λ k. features_from k behind))) is
       ∙ ap (λ (r : Result Growth Stop). after_row row r (λ k. features_from k behind)) err
 
 -- the rows before `features`

@@ -1,5 +1,5 @@
 -- The rows below `features`: the head of a group, or a feature. Words and attributes are those of the Universal
--- Variability Language; names are those of features here.
+-- Variability Language; names are those of features here, plain or between double quotes.
 use Rattle.std.specs.Prelude.{ℕ, ◌^◌, Bool, true, not, ◌&&◌, ◌||◌, ◌==◌, if◌then◌else◌, nat_le, List, [], ◌∷◌, length, take, drop, min, Option, Some, None, Result, Ok, Err, bytes_eq, codes, is_none}
 use Rattle.std.specs.List.{list_all, list_any, prefix_len, slice_split}
 use Rattle.std.specs.Char.{is_ascii_digit}
@@ -9,7 +9,7 @@ use Rattle.vpg_tree.specs.declared.group.Kind.{Kind}
 use Rattle.vpg_tree.specs.declared.group.Kind.TheVariants.{Mandatory, Optional, Alternative, Or, Cardinality}
 use Rattle.vpg_uvl.specs.Rows.{is_blank, after_blanks, word_at, behind_word, is_nothing}
 pub use Rattle.vpg_uvl.specs.declared.fault.Reason.{Reason}
-pub use Rattle.vpg_uvl.specs.declared.fault.Reason.TheVariants.{Syntax, Indentation, Import, Level, Typed, FeatureCardinality, Attributes, AttributeConstraint, Quotes, Name, Range, Twice, TooMany, NoMember, UnknownFeature, Attribute, Arithmetic, Comparison, Text, Aggregate, Chain, TooDeep}
+pub use Rattle.vpg_uvl.specs.declared.fault.Reason.TheVariants.{Syntax, Indentation, Import, Level, Typed, FeatureCardinality, Attributes, AttributeConstraint, Quotes, Name, Range, Twice, TooMany, NoMember, UnknownFeature, Attribute, Arithmetic, Comparison, Text, Aggregate, Comment, TooDeep}
 
 -- the head of a group, or a feature
 pub data Item : Type 0 where
@@ -120,18 +120,42 @@ with_attributes name behind =
     if names_constraint behind then stopped AttributeConstraint behind
     else (if last_visible 0 behind == 125 then Ok (named name) else stopped Attributes behind)
 
--- A feature with this name, and what stands behind it.
-abbrev pub feature_behind : List ℕ → List ℕ → List ℕ → Result Item Stop
-feature_behind body name behind =
-    if is_nothing name then stopped (if first_byte body == 34 then Quotes else Syntax) body
-    else (if is_nothing behind then (if is_feature_name name then Ok (named name) else stopped Name body)
-    else (if is_type name then stopped Typed body
-    else (if not (is_feature_name name) then stopped Name body
+-- a feature with this name, and what stands behind it
+abbrev pub named_before : List ℕ → List ℕ → Result Item Stop
+named_before name behind =
+    if is_nothing behind then Ok (named name)
     else (if first_byte behind == 123 then with_attributes name behind
-    else stopped (if bytes_eq (name_at behind) (codes "cardinality") then FeatureCardinality else Syntax) behind))))
+    else stopped (if bytes_eq (name_at behind) (codes "cardinality") then FeatureCardinality else Syntax) behind)
+
+-- what stands behind an opening quote is a feature's name and a quote
+abbrev pub is_quoted_name : List ℕ → Bool
+is_quoted_name text =
+    is_feature_name (name_at text) && first_byte (drop (prefix_len is_name_byte text) text) == 34
+
+-- what stands behind a closing quote and the blanks after it, where a name comes before the quote
+abbrev pub behind_quote : List ℕ → List ℕ
+behind_quote text = after_blanks (drop 1 (drop (prefix_len is_name_byte text) text))
+
+-- A feature whose name stands between double quotes: what stands behind the first one.
+abbrev pub quoted_feature : List ℕ → List ℕ → Result Item Stop
+quoted_feature body text =
+    if is_quoted_name text then named_before (name_at text) (behind_quote text) else stopped Quotes body
+
+-- A feature whose name stands there, and what stands behind it.
+abbrev pub plain_feature : List ℕ → List ℕ → List ℕ → Result Item Stop
+plain_feature body name behind =
+    if is_nothing name then stopped Syntax body
+    else (if not (is_nothing behind) && is_type name then stopped Typed body
+    else (if is_feature_name name then named_before name behind else stopped Name body))
+
+-- the feature that a row is
+abbrev pub feature_of : List ℕ → Result Item Stop
+feature_of body =
+    if first_byte body == 34 then quoted_feature body (drop 1 body)
+    else plain_feature body (name_at body) (behind_name body)
 
 abbrev pub item_by : List ℕ → Option Kind → Result Item Stop
-item_by body None = feature_behind body (name_at body) (behind_name body)
+item_by body None = feature_of body
 item_by body (Some kind) =
     if not (is_nothing (behind_word body)) then stopped Syntax (behind_word body)
     else (if has_range kind then Ok (head kind) else stopped Range body)

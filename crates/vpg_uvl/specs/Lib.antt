@@ -1,6 +1,11 @@
+pub mod Comments
 pub mod Rows
+pub mod Places
 pub mod Items
 pub mod Nesting
+pub mod Quotes
 pub mod Arrows
 pub mod Model
 pub mod Views
+pub mod Attributes
+pub mod Laws

@@ -1,42 +1,37 @@
 -- The rows of a text in the Universal Variability Language (UVL; Sundermann et al. 2021): its lines without their
--- comments, and of these the ones that are not blank.
-use Rattle.std.specs.Prelude.{ℕ, ◌+◌, ◌*◌, ◌/◌, ◌^◌, min, Bool, true, false, not, ◌&&◌, ◌||◌, ◌==◌, if◌then◌else◌, List, [], ◌∷◌, take, drop, bytes_eq}
-use Rattle.std.specs.List.{list_all, prefix_len}
-use Rattle.std.specs.Str.Lines.{lines}
+-- comments, and of these the ones that are not blank. A comment over several lines joins what stands before and behind
+-- it to one row.
+use Rattle.std.specs.Prelude.{ℕ, ◌+◌, ◌*◌, ◌/◌, ◌^◌, min, Bool, true, false, not, ◌&&◌, ◌||◌, ◌==◌, if◌then◌else◌, List, [], ◌∷◌, length, take, drop, bytes_eq}
+use Rattle.std.specs.List.{list_all, prefix_len, slice_split}
+use Rattle.std.specs.Str.Lines.{strip_carriage_return}
+use Rattle.vpg_uvl.specs.Comments.{plain}
 
 -- a space or a tab
 abbrev pub is_blank : ℕ → Bool
 is_blank b = b == 32 || b == 9
 
-abbrev pub starts_with_slash : List ℕ → Bool
-starts_with_slash [] = false
-starts_with_slash (b ∷ bs) = b == 47
+abbrev pub ends_line : ℕ → Bool
+ends_line b = b == 10
 
--- a text that begins with `//`
-abbrev pub opens_comment : List ℕ → Bool
-opens_comment [] = false
-opens_comment (b ∷ bs) = b == 47 && starts_with_slash bs
-
--- the text before the first `//`
-abbrev pub before_comment : List ℕ → List ℕ
-before_comment [] = []
-before_comment (b ∷ bs) = if opens_comment (b ∷ bs) then [] else b ∷ before_comment bs
-
--- a line without its comment, and its number, from 1
+-- A line without its comments and without a carriage return at its end, or lines that a comment joins; and how many
+-- bytes of the text come before it.
 pub record Row : Type 0 where
-  pub number : ℕ
+  pub start : ℕ
   pub bytes : List ℕ
 
--- the rows of lines, from the number of the first line on
+-- the rows of parts, the first of which begins after so many bytes; a part ends before a line feed
 abbrev pub rows_from : ℕ → List (List ℕ) → List Row
-rows_from number [] = []
-rows_from number (line ∷ lines) =
-    if list_all is_blank (before_comment line) then rows_from (number + 1) lines
-    else record { number = number; bytes = before_comment line } ∷ rows_from (number + 1) lines
+rows_from start [] = []
+rows_from start (part ∷ parts) =
+    if list_all is_blank (strip_carriage_return part) then rows_from (start + length part + 1) parts
+    else record { start = start; bytes = strip_carriage_return part } ∷ rows_from (start + length part + 1) parts
+
+abbrev pub parts_of : List ℕ → List (List ℕ)
+parts_of text = slice_split ends_line text
 
 -- the rows of a text
 abbrev pub rows : List ℕ → List Row
-rows text = rows_from 1 (lines text)
+rows text = rows_from 0 (parts_of (plain text))
 
 -- the text after the blanks at its front
 abbrev pub after_blanks : List ℕ → List ℕ

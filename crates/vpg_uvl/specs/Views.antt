@@ -1,17 +1,18 @@
 -- The code's values as those of the definitions, for private contracts.
-use Rattle.std.specs.Prelude.{◌≡◌, ◌⊎◌, ◌+◌, ◌<◌, ◌≤◌, ℕ, Bool, true, false, List, [], length, Option, Result, Ok, Err, option_map, ⊤}
-use Rattle.std.specs.List.{AllByRecursion}
+use Rattle.std.specs.Prelude.{◌≡◌, ◌⊎◌, ◌+◌, ◌<◌, ◌≤◌, ℕ, Bool, true, false, if◌then◌else◌, List, [], ◌∷◌, length, Option, Result, Ok, Err, option_map, ⊤}
+use Rattle.std.specs.List.{AllByRecursion, list_all}
 use Rattle.std.specs.Borrow.{Bor}
-use Rattle.std.specs.Str.Lines.{lines}
+use Rattle.std.specs.Str.Lines.{strip_carriage_return}
 use Rattle.vpg_features.specs.Names.{IsFeatureName}
-use Rattle.vpg_rules.specs.Constraint.{Constraint}
+use Rattle.vpg_rules.specs.Constraint.{Constraint, renamed}
+use Rattle.vpg_rules.specs.Grammar.{NamedRule, index_or_end}
+use Rattle.vpg_rules.specs.View.{constraint_of}
+use Rattle.vpg_rules.specs.declared.rule.Rule.{Rule}
 use Rattle.vpg_tree.specs.Tree.{Tree}
-use Rattle.vpg_uvl.specs.Rows.{Row, rows_from}
-use Rattle.vpg_uvl.specs.Items.{Item, head, named, Stop, Reason, Indentation, UnknownFeature, Chain}
+use Rattle.vpg_uvl.specs.Rows.{Row, is_blank, rows_from, parts_of}
+use Rattle.vpg_uvl.specs.Items.{Item, head, named, Stop, Reason, Indentation, UnknownFeature}
 use Rattle.vpg_uvl.specs.Nesting.{Open, Growth}
-use Rattle.vpg_uvl.specs.Model.{Features, SpellsConstraint, HasReason}
-use Rattle.vpg_uvl.specs.declared.fault.UvlFault.{UvlFault}
-use Rattle.vpg_uvl.specs.declared.fault.UvlFault.TheVariants.{Refused, Ended, Memory}
+use Rattle.vpg_uvl.specs.Model.{Features, SpellsGrouped, SpellsConstraint, HasReason, TextFault, Refused, Ended, Memory}
 use Rattle.vpg_uvl.specs.declared.row.Row as code_row
 use Rattle.vpg_uvl.specs.declared.row.Cursor as code_cursor
 use Rattle.vpg_uvl.specs.declared.item.Item as code_item
@@ -24,11 +25,17 @@ abbrev pub text_in : Option (Bor (List ℕ)) → Option (List ℕ)
 text_in found = option_map (λ t. t.now) found
 
 abbrev pub row_of : code_row.Row → Row
-row_of row = record { number = row.number; bytes = row.bytes.now }
+row_of row = record { start = row.start; bytes = row.bytes.now }
+
+-- the row of a part after so many bytes, if it is one, and the later rows
+abbrev pub row_then : ℕ → List ℕ → List Row → List Row
+row_then start part later =
+    if list_all is_blank (strip_carriage_return part) then later
+    else record { start = start; bytes = strip_carriage_return part } ∷ later
 
 -- the rows that are left
 abbrev pub rows_left : code_cursor.Cursor → List Row
-rows_left cursor = rows_from (cursor.number + 1) (lines cursor.rest.now)
+rows_left cursor = rows_from cursor.start (parts_of cursor.rest.now)
 
 abbrev pub item_in : code_item.Item → Item
 item_in (code_item.TheVariants.Head kind) = head kind
@@ -75,37 +82,50 @@ abbrev pub features_in : code_features.Features → Features
 features_in f = record { tree = f.tree; behind = rows_left f.behind }
 
 -- memory ran out, or this is the fault of the reading
-abbrev pub IsReadingFault : Result Features UvlFault → UvlFault → Type 0
+abbrev pub IsReadingFault : Result Features TextFault → TextFault → Type 0
 IsReadingFault read fault = (fault ≡ Memory) ⊎ (read ≡ Err fault)
 
 -- a reason of a row that spells no rule
 abbrev pub IsOfRule : Reason → Type 0
 IsOfRule Indentation = ⊥
 IsOfRule UnknownFeature = ⊥
-IsOfRule Chain = ⊥
 IsOfRule _ = ⊤
 
-abbrev pub TellsRule : UvlFault → Type 0
+abbrev pub TellsRule : TextFault → Type 0
 TellsRule Memory = ⊤
 TellsRule Ended = ⊤
-TellsRule (Refused reason line column) = IsOfRule reason
+TellsRule (Refused reason at) = IsOfRule reason
 
-abbrev pub Tells : Reason → UvlFault → Type 0
+abbrev pub Tells : Reason → TextFault → Type 0
 Tells reason Memory = ⊥
 Tells reason Ended = ⊥
-Tells reason (Refused told line column) = told ≡ reason
+Tells reason (Refused told at) = told ≡ reason
+
+-- a place within a row, or just after it
+abbrev pub IsWithin : Row → ℕ → Type 0
+IsWithin row at = (row.start ≤ at) × (at ≤ row.start + length row.bytes)
 
 -- a refusal within a row
-abbrev pub IsPlaced : Row → UvlFault → Type 0
+abbrev pub IsPlaced : Row → TextFault → Type 0
 IsPlaced row Memory = ⊥
 IsPlaced row Ended = ⊥
-IsPlaced row (Refused reason line column) =
-    (row.number ≡ line) × (0 < column) × (column ≤ length row.bytes + 1)
+IsPlaced row (Refused reason at) = IsWithin row at
+
+-- the rule is one that the text spells, with the index of each feature
+abbrev pub IsSpelledBy : List (List ℕ) → List ℕ → Rule → Type 0
+IsSpelledBy names text rule =
+    (c : NamedRule) × SpellsGrouped text c × (constraint_of rule ≡ renamed (index_or_end names) c)
+
+-- why the text of a row spells no rule
+abbrev pub IsRuleFault : Row → List ℕ → TextFault → Type 0
+IsRuleFault row text Memory = ⊤
+IsRuleFault row text Ended = ⊥
+IsRuleFault row text (Refused reason at) =
+    ((c : NamedRule) → SpellsGrouped text c → ⊥) × IsOfRule reason × IsWithin row at
 
 -- why a row spells no constraint
-abbrev pub IsRowFault : List (List ℕ) → Row → UvlFault → Type 0
+abbrev pub IsRowFault : List (List ℕ) → Row → TextFault → Type 0
 IsRowFault names row Memory = ⊤
 IsRowFault names row Ended = ⊥
-IsRowFault names row (Refused reason line column) =
-    ((c : Constraint ℕ) → SpellsConstraint names row c → ⊥) × (row.number ≡ line) × (0 < column)
-    × (column ≤ length row.bytes + 1) × HasReason names row reason
+IsRowFault names row (Refused reason at) =
+    ((c : Constraint ℕ) → SpellsConstraint names row c → ⊥) × IsWithin row at × HasReason names row reason

@@ -1,14 +1,16 @@
 //! Constraints.
-ghost use Rattle.std.specs.Prelude.{ℕ, ◌≡◌, ◌≢◌, ◌<◌, ◌≤◌, ◌+◌, length, IfOk, IfErr, MatchResult};
-ghost use Rattle.vpg_rules.specs.Constraint.{Constraint, IsBelow};
+ghost use Rattle.std.specs.Prelude.{ℕ, ◌≡◌, ◌≢◌, ◌<◌, ◌≤◌, ◌+◌, ◌^◌, length, IfOk, IfErr, MatchResult};
+ghost use Rattle.vpg_rules.specs.Constraint.{Constraint, IsBelow, renamed};
+ghost use Rattle.vpg_rules.specs.Grammar.{NamedRule, index_or_end};
 ghost use Rattle.vpg_rules.specs.View.{constraint_of};
-ghost use Rattle.vpg_uvl.specs.Model.{SpellsConstraint};
-ghost use Rattle.vpg_uvl.specs.Views.{row_of, IsRowFault, IsPlaced, IsOfRule, Tells, TellsRule};
+ghost use Rattle.vpg_uvl.specs.Model.{SpellsGrouped, SpellsConstraint};
+ghost use Rattle.vpg_uvl.specs.Views.{row_of, IsSpelledBy, IsRuleFault, IsRowFault, IsPlaced, IsOfRule, Tells, TellsRule};
 
-use crate::arrows::is_chained;
-use crate::fault::{Reason, UvlFault};
+use crate::arrows::{enclosed, is_chained};
+use crate::fault::{Reason, TextFault};
+use crate::quotes::unquoted;
 use crate::row::Row;
-use crate::words::{blanks_len, indentation, is_nothing, split_name};
+use crate::words::{blanks_len, indentation, is_blank, is_nothing, split_name};
 use std::alloc::Global;
 use vpg_features::{Names, constant_of, is_name_byte};
 use vpg_rules::{Rule, RuleFault, parse_rule};
@@ -54,51 +56,107 @@ fn reason_of_byte(b: u8) -> Reason
     }
 }
 
-/// Returns the fault of a row for a reason at a place, which counts bytes from 0.
-fn refused(row: Row, reason: Reason, at: usize) -> UvlFault
+/// Returns the length of a row without the blanks at its end.
+fn visible_len(bytes: &[u8]) -> usize
+    ensures { result ≤ length bytes.now }
+{
+    let mut len = 0;
+    for (at, b) in bytes.iter().enumerate() {
+        if !is_blank(*b) {
+            len = at + 1;
+        }
+    }
+    len
+}
+
+/// Returns the fault of a row for a reason at a place, which counts the row's bytes from 0. A place behind the last
+/// word is told directly behind it.
+fn refused(row: Row, reason: Reason, at: usize) -> TextFault
+    requires { row.start + length row.bytes.now < 2 ^ 64 }
     ensures placed { IsPlaced (row_of row.entry) result }
     ensures tells { Tells reason result }
 {
-    UvlFault::Refused {
+    TextFault::Refused {
         reason,
-        line: row.number,
-        column: at.min(row.bytes.len()) + 1,
+        at: row.start + at.min(visible_len(row.bytes)),
     }
 }
 
 /// Returns the fault of a row that spells no rule. Its reason tells what stands where the rule ends.
-fn fault_of(row: Row, fault: RuleFault) -> UvlFault
+fn fault_of(row: Row, fault: RuleFault) -> TextFault
+    requires { row.start + length row.bytes.now < 2 ^ 64 }
     ensures placed { fault ≢ RuleFault.Memory → IsPlaced (row_of row.entry) result }
-    ensures memory { fault ≡ RuleFault.Memory → result ≡ UvlFault.Memory }
+    ensures memory { fault ≡ RuleFault.Memory → result ≡ TextFault.Memory }
     ensures tells { TellsRule result }
 {
     match fault {
-        RuleFault::Memory => UvlFault::Memory,
+        RuleFault::Memory => TextFault::Memory,
         RuleFault::Syntax { at } => refused(row, reason_of_byte(byte_at(row.bytes, at)), at),
         RuleFault::TooDeep { at } => refused(row, Reason::TooDeep, at),
     }
 }
 
+/// Returns the fault of a row whose chains of `=>` are too long.
+fn chain_fault(row: Row, fault: RuleFault) -> TextFault
+    requires { row.start + length row.bytes.now < 2 ^ 64 }
+    ensures placed { fault ≢ RuleFault.Memory → IsPlaced (row_of row.entry) result }
+    ensures memory { fault ≡ RuleFault.Memory → result ≡ TextFault.Memory }
+    ensures tells { TellsRule result }
+{
+    match fault {
+        RuleFault::Memory => TextFault::Memory,
+        RuleFault::Syntax { .. } | RuleFault::TooDeep { .. } => {
+            refused(row, Reason::TooDeep, blanks_len(row.bytes))
+        }
+    }
+}
+
+/// Returns the rule that the text of a row spells, where arrows group to the left.
+fn rule_of(alloc: Global, names: &Names, row: Row, text: &[u8]) -> Result<Rule, TextFault>
+    requires { row.start + length row.bytes.now < 2 ^ 64 }
+    ensures found { IfOk result (IsSpelledBy names.now text.now) }
+    ensures refused { IfErr result (IsRuleFault (row_of row.entry) text.now) }
+    ensures only { (c : NamedRule) → SpellsGrouped text.now c →
+        MatchResult result (λ rule. constraint_of rule ≡ renamed (index_or_end names.now) c)
+        (λ fault. fault ≡ TextFault.Memory) }
+{
+    let rule = match parse_rule(alloc, text, names) {
+        Ok(rule) => rule,
+        Err(fault) => return Err(fault_of(row, fault)),
+    };
+    if !is_chained(text) {
+        return Ok(rule);
+    }
+    let Ok(chain) = enclosed(alloc, text) else {
+        return Err(TextFault::Memory);
+    };
+    match parse_rule(alloc, &chain, names) {
+        Ok(rule) => Ok(rule),
+        Err(fault) => Err(chain_fault(row, fault)),
+    }
+}
+
 /// Returns the constraint that a row spells.
-pub(crate) fn constraint(alloc: Global, names: &Names, row: Row) -> Result<Rule, UvlFault>
+pub(crate) fn constraint(alloc: Global, names: &Names, row: Row) -> Result<Rule, TextFault>
+    requires { row.start + length row.bytes.now < 2 ^ 64 }
     ensures found { IfOk result (λ rule. SpellsConstraint names.now (row_of row.entry) (constraint_of rule)) }
     ensures below { IfOk result (λ rule. IsBelow (length names.now) (constraint_of rule)) }
     ensures refused { IfErr result (IsRowFault names.now (row_of row.entry)) }
     ensures only { (c : Constraint ℕ) → SpellsConstraint names.now (row_of row.entry) c →
-        MatchResult result (λ rule. constraint_of rule ≡ c) (λ fault. fault ≡ UvlFault.Memory) }
+        MatchResult result (λ rule. constraint_of rule ≡ c) (λ fault. fault ≡ TextFault.Memory) }
 {
     if indentation(row.bytes) == 0 {
         return Err(refused(row, Reason::Indentation, 0));
     }
-    let rule = match parse_rule(alloc, row.bytes, names) {
+    let Ok(text) = unquoted(alloc, row.bytes) else {
+        return Err(TextFault::Memory);
+    };
+    let rule = match rule_of(alloc, names, row, &text) {
         Ok(rule) => rule,
-        Err(fault) => return Err(fault_of(row, fault)),
+        Err(fault) => return Err(fault),
     };
     if !rule.is_below(names.len()) {
-        return Err(refused(row, Reason::UnknownFeature, unknown_at(names, row.bytes)));
-    }
-    if is_chained(row.bytes) {
-        return Err(refused(row, Reason::Chain, blanks_len(row.bytes)));
+        return Err(refused(row, Reason::UnknownFeature, unknown_at(names, &text)));
     }
     Ok(rule)
 }

@@ -21,7 +21,7 @@ pub enum Reason {
     Attributes,
     /// A constraint among attributes.
     AttributeConstraint,
-    /// A name or a text in double quotes.
+    /// Double quotes around anything else than a feature's name.
     Quotes,
     /// A name that is no feature name here.
     Name,
@@ -45,13 +45,21 @@ pub enum Reason {
     Text,
     /// An aggregate or another function in a constraint.
     Aggregate,
-    /// A `=>` after a `=>` in the same parentheses.
-    Chain,
+    /// A comment that begins with `/*` and has no `*/`.
+    Comment,
     /// The 65th sign that is open at one place of a constraint.
     TooDeep,
 }
 
-/// Why a text is no feature model: the first fault in the order of the text.
+/// Why a text is no feature model, by the number of bytes that come before.
+#[derive(Clone, Copy)]
+pub(crate) enum TextFault {
+    Refused { reason: Reason, at: usize },
+    Ended,
+    Memory,
+}
+
+/// Why a text is no feature model: a comment without an end, or else the first fault in the order of the text.
 #[derive(Clone, Copy, Debug, PartialEq, Eq, Error)]
 pub enum UvlFault {
     /// A row is refused. Lines and columns count from 1, columns in bytes.

@@ -1,12 +1,14 @@
 //! The heads of groups, and features.
-ghost use Rattle.std.specs.Prelude.{◌≡◌, ◌∷◌, ◌^◌, ◌≤◌, [], min, not, Some, None, IfOk, IsTrue};
+ghost use Rattle.std.specs.Prelude.{◌≡◌, ◌∷◌, ◌^◌, ◌≤◌, [], min, drop, not, Some, None, IfOk, IsTrue};
 ghost use Rattle.std.specs.Str.Parse.{digits_value};
-ghost use Rattle.vpg_uvl.specs.Items.{number_of, behind_dots, high_at, cardinality_at, cardinality_of, kind_of, has_range, is_feature_name, is_type, last_visible, is_constraint_word, names_constraint, first_byte, with_attributes, feature_behind, item_of};
+ghost use Rattle.vpg_uvl.specs.Items.{number_of, behind_dots, high_at, cardinality_at, cardinality_of, kind_of, has_range, is_feature_name, is_type, last_visible, is_constraint_word, names_constraint, first_byte, with_attributes, named_before, is_quoted_name, quoted_feature, plain_feature, feature_of, item_of};
 ghost use Rattle.vpg_features.specs.Names.{IsFeatureName};
 ghost use Rattle.vpg_uvl.specs.Views.{GivesItem, IsItem, item_in, text_in};
 
 use crate::fault::Reason;
-use crate::words::{is_blank, is_nothing, same, split_digits, split_name, split_word};
+use crate::words::{
+    after_blanks, is_blank, is_nothing, same, split_digits, split_front, split_name, split_word,
+};
 use vpg_features::is_name_byte;
 use vpg_tree::Kind;
 
@@ -186,7 +188,7 @@ fn last_visible(text: &[u8]) -> u8
     last
 }
 
-fn first_byte(text: &[u8]) -> u8
+pub(crate) fn first_byte(text: &[u8]) -> u8
     ensures { result ≡ first_byte text.now }
 {
     match text {
@@ -218,42 +220,13 @@ fn with_attributes<'t>(name: &'t [u8], behind: &'t [u8]) -> Result<Item<'t>, Sto
 }
 
 /// Returns the feature with this name, or why what stands behind it is refused.
-fn feature_behind<'t>(
-    body: &'t [u8],
-    name: &'t [u8],
-    behind: &'t [u8],
-) -> Result<Item<'t>, Stop<'t>>
-    ensures gives { GivesItem result (feature_behind body.now name.now behind.now) }
+fn named_before<'t>(name: &'t [u8], behind: &'t [u8]) -> Result<Item<'t>, Stop<'t>>
+    requires { IsFeatureName name.now }
+    ensures gives { GivesItem result (named_before name.now behind.now) }
     ensures item { IfOk result (λ item. IsItem (item_in item)) }
 {
-    if is_nothing(name) {
-        let reason = if first_byte(body) == b'"' {
-            Reason::Quotes
-        } else {
-            Reason::Syntax
-        };
-        return Err(Stop { reason, left: body });
-    }
     if is_nothing(behind) {
-        if is_feature_name(name) {
-            return Ok(Item::Named(name));
-        }
-        return Err(Stop {
-            reason: Reason::Name,
-            left: body,
-        });
-    }
-    if is_type(name) {
-        return Err(Stop {
-            reason: Reason::Typed,
-            left: body,
-        });
-    }
-    if !is_feature_name(name) {
-        return Err(Stop {
-            reason: Reason::Name,
-            left: body,
-        });
+        return Ok(Item::Named(name));
     }
     if first_byte(behind) == b'{' {
         return with_attributes(name, behind);
@@ -270,6 +243,77 @@ fn feature_behind<'t>(
     })
 }
 
+/// Returns the text without its first byte, if there is one.
+pub(crate) fn behind_first(text: &[u8]) -> &[u8]
+    ensures { result.now ≡ drop 1 text.now }
+{
+    match text {
+        [] => text,
+        [_, rest @ ..] => rest,
+    }
+}
+
+/// Returns whether a feature's name and a quote follow an opening quote.
+pub(crate) fn is_quoted_name(text: &[u8]) -> bool
+    ensures { result ≡ is_quoted_name text.now }
+{
+    let (word, rest) = split_front(text);
+    is_feature_name(word) && first_byte(rest) == b'"'
+}
+
+/// Returns the feature whose name stands between double quotes, by the text behind the first one.
+fn quoted_feature<'t>(body: &'t [u8], text: &'t [u8]) -> Result<Item<'t>, Stop<'t>>
+    ensures gives { GivesItem result (quoted_feature body.now text.now) }
+    ensures item { IfOk result (λ item. IsItem (item_in item)) }
+{
+    let (name, rest) = split_front(text);
+    if is_feature_name(name) && first_byte(rest) == b'"' {
+        return named_before(name, after_blanks(behind_first(rest)));
+    }
+    Err(Stop {
+        reason: Reason::Quotes,
+        left: body,
+    })
+}
+
+/// Returns the feature whose name stands there, by what stands behind the name.
+fn plain_feature<'t>(body: &'t [u8], name: &'t [u8], behind: &'t [u8]) -> Result<Item<'t>, Stop<'t>>
+    ensures gives { GivesItem result (plain_feature body.now name.now behind.now) }
+    ensures item { IfOk result (λ item. IsItem (item_in item)) }
+{
+    if is_nothing(name) {
+        return Err(Stop {
+            reason: Reason::Syntax,
+            left: body,
+        });
+    }
+    if !is_nothing(behind) && is_type(name) {
+        return Err(Stop {
+            reason: Reason::Typed,
+            left: body,
+        });
+    }
+    if is_feature_name(name) {
+        return named_before(name, behind);
+    }
+    Err(Stop {
+        reason: Reason::Name,
+        left: body,
+    })
+}
+
+/// Returns the feature that a row is.
+fn feature_of(body: &[u8]) -> Result<Item, Stop>
+    ensures gives { GivesItem result (feature_of body.now) }
+    ensures item { IfOk result (λ item. IsItem (item_in item)) }
+{
+    if first_byte(body) == b'"' {
+        return quoted_feature(body, behind_first(body));
+    }
+    let (name, behind) = split_name(body);
+    plain_feature(body, name, behind)
+}
+
 /// Returns the item that a row is, after its indentation.
 pub(crate) fn item_of(body: &[u8]) -> Result<Item, Stop>
     ensures gives { GivesItem result (item_of body.now) }
@@ -277,8 +321,7 @@ pub(crate) fn item_of(body: &[u8]) -> Result<Item, Stop>
 {
     let (word, behind) = split_word(body);
     let Some(kind) = kind_of(word) else {
-        let (name, behind) = split_name(body);
-        return feature_behind(body, name, behind);
+        return feature_of(body);
     };
     if !is_nothing(behind) {
         return Err(Stop {

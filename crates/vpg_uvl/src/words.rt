@@ -1,9 +1,9 @@
-//! Blanks, comments and words of a line.
+//! Blanks and words of a row.
 ghost use Rattle.std.specs.Prelude.{◌≡◌, ◌+◌, ◌≤◌, ◌^◌, length, take, drop, bytes_eq, not};
 ghost use Rattle.std.specs.List.{prefix_len, list_all};
 ghost use Rattle.std.specs.Char.{is_ascii_digit};
 ghost use Rattle.vpg_features.specs.Names.{is_name_byte};
-ghost use Rattle.vpg_uvl.specs.Rows.{is_blank, is_visible, is_nothing, opens_comment, before_comment, after_blanks, after_blank, indentation, word_at, behind_word, is_head};
+ghost use Rattle.vpg_uvl.specs.Rows.{is_blank, is_visible, is_nothing, after_blanks, after_blank, indentation, word_at, behind_word, is_head};
 ghost use Rattle.vpg_uvl.specs.Items.{name_at, behind_name, digits_at, behind_digits};
 
 use vpg_features::is_name_byte;
@@ -33,28 +33,6 @@ pub(crate) fn is_nothing(text: &[u8]) -> bool
         [] => true,
         [_, ..] => false,
     }
-}
-
-/// Whether a text begins with `//`.
-fn opens_comment(text: &[u8]) -> bool
-    ensures { result ≡ opens_comment text.now }
-{
-    match text {
-        [] | [_] => false,
-        [first, second, ..] => *first == b'/' && *second == b'/',
-    }
-}
-
-/// Returns the text before the first `//`.
-pub(crate) fn before_comment(line: &[u8]) -> &[u8]
-    ensures { result.now ≡ before_comment line.now }
-{
-    for at in 0..line.len() {
-        if opens_comment(&line[at..]) {
-            return &line[..at];
-        }
-    }
-    line
 }
 
 /// Whether there are only blanks.
@@ -104,6 +82,15 @@ pub(crate) fn split_word(text: &[u8]) -> (&[u8], &[u8])
 {
     let (word, behind) = text.split_at(word_len(text));
     (word, after_blanks(behind))
+}
+
+/// Returns the name at the front, and the bytes after it.
+#[tactic(auto, using(crate::proofs::Fronts::front_within))]
+pub(crate) fn split_front(text: &[u8]) -> (&[u8], &[u8])
+    ensures name { result.0.now ≡ name_at text.now }
+    ensures rest { result.1.now ≡ drop (prefix_len is_name_byte text.now) text.now }
+{
+    text.split_at(name_len(text))
 }
 
 /// Returns the name at the front, and what stands behind it and the blanks after it.

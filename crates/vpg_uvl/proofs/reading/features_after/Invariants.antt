@@ -6,7 +6,7 @@ use Rattle.vpg_uvl.proofs.reading.features_after.Given as goal
 abbrev pub invariant-loop-next : goal.invariant-loop-next
 invariant-loop-next l = record {
   reads : features_after (rows_left l.cursor) ≡ features_after (rows_left l.left);
-  room : l.left.number + length l.left.rest.now < 2 ^ 64;
+  room : l.left.start + length l.left.rest.now < 2 ^ 64;
 }
 
 abbrev pub decreases-loop-next : goal.decreases-loop-next

@@ -7,7 +7,7 @@ abbrev pub invariant-loop-next : goal.invariant-loop-next
 invariant-loop-next l = record {
   reads : features_from (growth_of l.fn.growth) (rows_left l.cursor) ≡ features_from (growth_of l.growth) (rows_left l.left);
   numbered : AreNumbered (growth_of l.growth);
-  room : l.left.number + length l.left.rest.now < 2 ^ 64;
+  room : l.left.start + length l.left.rest.now < 2 ^ 64;
 }
 
 abbrev pub decreases-loop-next : goal.decreases-loop-next

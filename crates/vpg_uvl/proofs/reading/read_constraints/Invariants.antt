@@ -11,7 +11,7 @@ invariant-loop-next l = record {
   parts : rows_left l.cursor ≡ before ++ rows_left l.left;
   spelled : AllZip (SpellsConstraint l.fn.tree.names) before l.tree.constraints;
   same : l.tree ≡ record l.fn.tree { constraints = l.tree.constraints };
-  room : l.left.number + length l.left.rest.now < 2 ^ 64;
+  room : l.left.start + length l.left.rest.now < 2 ^ 64;
 }
 
 abbrev pub decreases-loop-next : goal.decreases-loop-next

@@ -1,13 +1,12 @@
 use Rattle.std.proofs.Common.{◌≡◌, ◌+◌, ◌≤◌, length}
-use Rattle.std.specs.Str.Lines.{lines}
-use Rattle.vpg_uvl.specs.Rows.{rows_from}
+use Rattle.vpg_uvl.specs.Rows.{rows_from, parts_of}
 use Rattle.vpg_uvl.specs.Views.{rows_left}
 use Rattle.vpg_uvl.proofs.row.next_row.Given as goal
 
 abbrev pub invariant-loop-rest : goal.invariant-loop-rest
 invariant-loop-rest l = record {
-  rows : rows_left l.cursor ≡ rows_from (l.number + 1) (lines l.rest);
-  count : l.number + length l.rest ≤ l.cursor.number + length l.cursor.rest.now;
+  rows : rows_left l.cursor ≡ rows_from l.start (parts_of l.rest);
+  count : l.start + length l.rest ≡ l.cursor.start + length l.cursor.rest.now;
   shorter : length l.rest ≤ length l.cursor.rest.now;
 }
 

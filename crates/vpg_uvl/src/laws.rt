@@ -1,0 +1,7 @@
+//! Laws over the definitions: calls that say what follows, and do nothing.
+ghost use Rattle.vpg_uvl.specs.Laws.{ChainsGroupToTheLeft};
+
+/// In a chain of two `=>` without parentheses, the first one with both of its sides is the left side of the second.
+pub fn chains_group_to_the_left()
+    ensures { ChainsGroupToTheLeft }
+{}
