@@ -9,4 +9,5 @@ pub mod Only
 pub mod Rooting
 pub mod Shown
 pub mod Sights
+pub mod Sourced
 pub mod Told

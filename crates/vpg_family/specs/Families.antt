@@ -118,6 +118,8 @@ IsNoModel diagram_text system_text requirements_text fault = (diagram : NamedDia
 abbrev pub IsUnread : (diagram_text game_text system_text requirements_text : List ℕ) → Fault → Type 0
 IsUnread diagram_text game_text system_text requirements_text told.DiagramUnreadable =
     (diagram_text ≡ []) × (game_text ≡ []) × (system_text ≡ []) × (requirements_text ≡ [])
+IsUnread diagram_text game_text system_text requirements_text (told.FeatureModel fault) =
+    (diagram_text ≡ []) × (game_text ≡ []) × (system_text ≡ []) × (requirements_text ≡ [])
 IsUnread diagram_text game_text system_text requirements_text told.GameUnreadable =
     IsSomeDiagram diagram_text × (game_text ≡ []) × (system_text ≡ []) × (requirements_text ≡ [])
 IsUnread diagram_text game_text system_text requirements_text told.SystemUnreadable =
@@ -145,6 +147,15 @@ IsUnread diagram_text game_text system_text requirements_text (told.TooManyParts
 IsUnread diagram_text game_text system_text requirements_text (told.Model fault) =
     IsNoModel diagram_text system_text requirements_text (told.Model fault)
 IsUnread diagram_text game_text system_text requirements_text fault = IsFamilyFault diagram_text game_text fault
+
+-- the fault may be one of the file of a diagram
+abbrev pub IsOfDiagram : Fault → Type 0
+IsOfDiagram told.DiagramUnreadable = ⊤
+IsOfDiagram (told.TooLarge inputs.Diagram) = ⊤
+IsOfDiagram (told.FeatureModel fault) = ⊤
+IsOfDiagram (told.Diagram fault) = ⊤
+IsOfDiagram told.Memory = ⊤
+IsOfDiagram fault = ⊥
 
 -- the fault may be one of the files of a diagram and a game
 abbrev pub IsOfGame : Fault → Type 0

@@ -13,6 +13,7 @@ use Rattle.vpg_formula.specs.declared.fault.RequirementFault.{RequirementFault}
 use Rattle.vpg_formula.specs.declared.fault.RequirementFault.TheVariants as requirements
 use Rattle.vpg_model.specs.declared.fault.ModelFault.{ModelFault}
 use Rattle.vpg_model.specs.declared.fault.ModelFault.TheVariants as model
+use Rattle.vpg_models.specs.Told.{form_fault_text}
 use Rattle.vpg_script.specs.declared.command.LineFault.{LineFault}
 use Rattle.vpg_script.specs.declared.command.LineFault.TheVariants as stops
 use Rattle.vpg_family.specs.Counts.{labelled}
@@ -90,11 +91,12 @@ large_text inputs.System = codes "system TooLarge"
 large_text inputs.Requirements = codes "requirements TooLarge"
 large_text inputs.Script = codes "script TooLarge"
 
--- the text of a fault, which has those of the faults of guards, games, diagrams, systems, requirements, models and
--- lines as parts
+-- the text of a fault, which has those of the faults of guards, games, diagrams, feature models, systems, requirements,
+-- models and lines as parts
 abbrev pub fault_text : Fault → List ℕ
 fault_text told.DiagramUnreadable = codes "diagram unreadable"
 fault_text (told.Diagram fault) = codes "diagram " ++ diagram_text fault
+fault_text (told.FeatureModel fault) = form_fault_text fault
 fault_text told.GameUnreadable = codes "game unreadable"
 fault_text (told.Game fault) = codes "game " ++ game_text fault
 fault_text told.SystemUnreadable = codes "system unreadable"

@@ -7,5 +7,6 @@ pub mod Limits
 pub mod Made
 pub mod Pages
 pub mod Pictures
+pub mod Sources
 pub mod Systems
 pub mod Warned

@@ -1,19 +1,23 @@
 //! Lines that say where and why the files of a family, a script over it, or words for its features are refused.
+ghost use Rattle.std.specs.Prelude.{◌≡◌, IfOk, length};
+ghost use Rattle.vpg_diagram.specs.FeatureDiagram.{feature_count};
+
 use crate::family::read_diagram;
 use crate::fault::{Fault, Input};
 use crate::files::{GamePaths, ModelPaths, Paths, Texts, read_script};
 use std::alloc::{AllocError, Global};
 use std::fs;
 use std::rt::Files;
-use vpg_diagram::DiagramFault;
+use vpg_diagram::{Diagram, DiagramFault};
 use vpg_formula::RequirementFault;
 use vpg_game::GameFault;
 use vpg_lint::{
     explain_diagram, explain_game, explain_line, explain_parts, explain_requirements,
-    explain_system, put_message, put_place, put_text, put_unknown,
+    explain_system, put_message, put_number, put_place, put_shown, put_text, put_unknown,
 };
 use vpg_model::ModelFault;
-use vpg_places::{declared_of, line_at, place_of};
+use vpg_models::{Form, diagram_of, explain_model, features_in, form_of};
+use vpg_places::{Line, declared_of, line_at, lines_of, place_of};
 use vpg_system::SystemFault;
 
 /// Returns the text of a file within the limit, if it can be read once more. A pipe gives its bytes once.
@@ -38,16 +42,42 @@ fn put_signs(path: &str, text: &[u8], at: usize, out: &mut Vec<u8>) -> Result<()
     )
 }
 
-/// Appends why the text of a diagram is refused.
+/// A diagram's file: its name, the text of the diagram, and that of the feature model that means it, which is empty if
+/// the file is a diagram.
+#[derive(Clone, Copy)]
+struct DiagramTexts<'t> {
+    path: &'t str,
+    text: &'t [u8],
+    model: &'t [u8],
+}
+
+/// Returns the texts of a diagram's file.
+fn texts_of<'t>(path: &'t str, texts: &'t Texts) -> DiagramTexts<'t> {
+    DiagramTexts {
+        path,
+        text: &texts.diagram,
+        model: &texts.model,
+    }
+}
+
+/// Appends why the text of a diagram is refused. If a feature model means it, its line is quoted.
 fn put_diagram(
     alloc: Global,
-    path: &str,
-    text: &[u8],
+    file: DiagramTexts<'_>,
     fault: DiagramFault,
     out: &mut Vec<u8>,
 ) -> Result<(), AllocError> {
-    let message = explain_diagram(alloc, text, fault)?;
-    put_message(path, &message, out)
+    let message = explain_diagram(alloc, file.text, fault)?;
+    if matches!(form_of(file.path), Form::Diagram) {
+        return put_message(file.path, &message, out);
+    }
+    put_text(file.path.as_bytes(), out)?;
+    out.extend_from_slice(b": it means a diagram that is refused; line ")?;
+    put_number(message.place.line, out)?;
+    out.extend_from_slice(b" of it is `")?;
+    put_shown(line_at(file.text, message.place.line).bytes, out)?;
+    out.extend_from_slice(b"`\n  hint: ")?;
+    out.extend_from_slice(&message.words)
 }
 
 /// Appends why the text of a game is refused, over the features of a diagram.
@@ -138,16 +168,28 @@ fn put_line(
     put_message(path, &message, out)
 }
 
+/// Returns the place of the root in the text of a feature model that means a diagram.
+fn root_in(alloc: Global, file: DiagramTexts<'_>) -> Result<usize, AllocError> {
+    let Ok(diagram) = read_diagram(alloc, file.text) else {
+        return Ok(0);
+    };
+    let places = features_in(alloc, form_of(file.path), file.model, diagram.names())?;
+    Ok(places.first().copied().flatten().unwrap_or(0))
+}
+
 /// Appends that the lines of a diagram contradict each other, which stands at its root.
 fn put_conflict(
     alloc: Global,
-    path: &str,
-    text: &[u8],
+    file: DiagramTexts<'_>,
     out: &mut Vec<u8>,
 ) -> Result<(), AllocError> {
-    let declared = declared_of(alloc, text)?;
-    let root = declared.first().map_or(0, |it| it.at);
-    put_place(path, place_of(text, root.min(text.len())), out)?;
+    let (text, root) = if matches!(form_of(file.path), Form::Diagram) {
+        let declared = declared_of(alloc, file.text)?;
+        (file.text, declared.first().map_or(0, |it| it.at))
+    } else {
+        (file.model, root_in(alloc, file)?)
+    };
+    put_place(file.path, place_of(text, root.min(text.len())), out)?;
     out.extend_from_slice(b"the diagram has no product: its lines contradict each other\n")
 }
 
@@ -164,18 +206,21 @@ fn put_word(
     }
 }
 
-/// Appends the meaning of a fault of a diagram that was read from this text.
+/// Appends the meaning of a fault of a diagram that was read from these texts.
 fn put_of_diagram(
     alloc: Global,
-    path: &str,
-    text: &[u8],
+    file: DiagramTexts<'_>,
     fault: &Fault,
     out: &mut Vec<u8>,
 ) -> Result<(), AllocError> {
     match fault {
-        Fault::Diagram { fault } => put_diagram(alloc, path, text, *fault, out),
-        Fault::Conflict { .. } => put_conflict(alloc, path, text, out),
-        Fault::UnknownFeature { name } => put_word(alloc, text, name.as_bytes(), out),
+        Fault::FeatureModel { fault } => {
+            let message = explain_model(alloc, file.model, *fault)?;
+            put_message(file.path, &message, out)
+        }
+        Fault::Diagram { fault } => put_diagram(alloc, file, *fault, out),
+        Fault::Conflict { .. } => put_conflict(alloc, file, out),
+        Fault::UnknownFeature { name } => put_word(alloc, file.text, name.as_bytes(), out),
         _ => Ok(()),
     }
 }
@@ -188,10 +233,18 @@ fn put_of_diagram_file<R: Files + AllocGlobal>(
     fault: &Fault,
     out: &mut Vec<u8>,
 ) -> Result<(), AllocError> {
-    match text_of(rt, path) {
-        Some(text) => put_of_diagram(alloc, path, &text, fault, out),
-        None => Ok(()),
-    }
+    let Some(model) = text_of(rt, path) else {
+        return Ok(());
+    };
+    let Ok(text) = diagram_of(alloc, form_of(path), &model) else {
+        return Ok(());
+    };
+    let file = DiagramTexts {
+        path,
+        text: &text,
+        model: &model,
+    };
+    put_of_diagram(alloc, file, fault, out)
 }
 
 /// Appends the meaning of a fault of requirements that were read from this text.
@@ -321,10 +374,83 @@ fn put_explained<R: Files + AllocGlobal>(
         ),
         (Fault::Conflict { .. } | Fault::UnknownFeature { .. }, _) if texts.diagram.is_empty() =>
             put_of_diagram_file(rt, alloc, paths.diagram, fault, out),
-        (Fault::Diagram { .. } | Fault::Conflict { .. } | Fault::UnknownFeature { .. }, _) =>
-            put_of_diagram(alloc, paths.diagram, &texts.diagram, fault, out),
+        (
+            Fault::FeatureModel { .. }
+            | Fault::Diagram { .. }
+            | Fault::Conflict { .. }
+            | Fault::UnknownFeature { .. },
+            _,
+        ) => put_of_diagram(alloc, texts_of(paths.diagram, texts), fault, out),
         _ => put_of_game(alloc, paths.game, texts, fault, out),
     }
+}
+
+/// Returns for each feature of a diagram whether it is among these.
+fn set_of(alloc: Global, diagram: &Diagram, features: &[&str]) -> Result<Vec<bool>, AllocError>
+    ensures { IfOk result (λ set. length set.items ≡ feature_count diagram.now.lines) }
+{
+    let names = diagram.names();
+    let count = diagram.features();
+    let mut set = vec![in alloc; false; count]?;
+    for feature in features {
+        if let Some(f) = names.get(feature.as_bytes()) {
+            if let Some(is_in) = set.get_mut(f as usize) {
+                *is_in = true;
+            }
+        }
+    }
+    Ok(set)
+}
+
+/// Whether the features are a product of the diagram that these lines are. Lines without a root are none.
+fn meet(alloc: Global, lines: &[u8], features: &[&str]) -> Result<bool, AllocError> {
+    let Ok(diagram) = read_diagram(alloc, lines) else {
+        return Ok(true);
+    };
+    let set = set_of(alloc, &diagram, features)?;
+    Ok(diagram.is_product(&set))
+}
+
+/// Returns the first line of a diagram that these features do not meet, if there is one. A feature's parent is named
+/// before the feature, so the lines up to each line are a diagram.
+fn unmet_line<'t>(
+    alloc: Global,
+    text: &'t [u8],
+    features: &[&str],
+) -> Result<Option<Line<'t>>, AllocError> {
+    let lines = lines_of(alloc, text)?;
+    let mut met = 0usize;
+    let mut behind = lines.len();
+    // A text has less than 2^32 lines.
+    for _ in 0..32 {
+        let middle = met.saturating_add(behind.saturating_sub(met) / 2);
+        if let (Some(line), true) = (lines.get(middle), met < behind) {
+            let end = line.from.saturating_add(line.bytes.len());
+            if meet(alloc, text.get(..end).unwrap_or(text), features)? {
+                met = middle.saturating_add(1);
+            } else {
+                behind = middle;
+            }
+        }
+    }
+    Ok(lines.get(met).copied())
+}
+
+/// Returns lines that say which line of a diagram's text these features do not meet, the first one.
+pub fn explained_set(
+    alloc: Global,
+    path: &str,
+    text: &[u8],
+    features: &[&str],
+) -> Result<Vec<u8>, AllocError> {
+    let mut told = Vec::new(alloc);
+    if let Some(line) = unmet_line(alloc, text, features)? {
+        put_place(path, line.place(0), &mut told)?;
+        told.extend_from_slice(b"these features do not meet `")?;
+        put_shown(line.bytes, &mut told)?;
+        told.extend_from_slice(b"`\n")?;
+    }
+    Ok(told)
 }
 
 /// Returns lines that say where and why a file of a family, a line of a script over it, or a word for one of its
@@ -350,4 +476,19 @@ pub fn explained<R: Files + AllocGlobal>(
         Ok(()) => Ok(lines),
         Err(fault) => Err(fault),
     }
+}
+
+/// Returns lines that say where and why the file of a diagram is refused, by the texts that were read of it.
+pub fn explained_diagram(
+    alloc: Global,
+    path: &str,
+    texts: &Texts,
+    fault: &Fault,
+) -> Result<Vec<u8>, AllocError> {
+    let mut lines = Vec::new(alloc);
+    match unread_input(fault) {
+        Some((_, why)) => put_unread(path, why, &mut lines)?,
+        None => put_of_diagram(alloc, texts_of(path, texts), fault, &mut lines)?,
+    }
+    Ok(lines)
 }

@@ -9,6 +9,7 @@ use vpg_diagram::DiagramFault;
 use vpg_formula::RequirementFault;
 use vpg_game::GameFault;
 use vpg_model::ModelFault;
+use vpg_models::FormFault;
 use vpg_script::LineFault;
 use vpg_system::SystemFault;
 
@@ -68,6 +69,9 @@ pub enum Fault {
     DiagramUnreadable,
     #[error("diagram {fault}")]
     Diagram { fault: DiagramFault },
+    /// The file of the diagram is no feature model in the language that its name tells.
+    #[error("{fault}")]
+    FeatureModel { fault: FormFault },
     #[error("game unreadable")]
     GameUnreadable,
     #[error("game {fault}")]

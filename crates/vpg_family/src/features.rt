@@ -3,10 +3,12 @@ ghost use Rattle.std.specs.Prelude.{◌≡◌, length, IfOk};
 
 use crate::products::{Closed, closure_of, finds_product, is_dead};
 use crate::warnings::{Sort, Warnings};
+use crate::writing::DiagramSource;
 use std::alloc::{AllocError, Global};
 use vpg_diagram::Diagram;
 use vpg_game::GuardedGame;
 use vpg_guards::{Guard, Tri};
+use vpg_models::{Form, features_in};
 use vpg_places::{Declared, LINES, Part, declared_of, form_of, lines_of, words_of};
 use vpg_system::System;
 
@@ -117,19 +119,52 @@ fn warn_of_unnamed(
     Ok(())
 }
 
+/// Returns where the text of a feature model names the features of the diagram that it means.
+fn declared_in_model<'t>(
+    alloc: Global,
+    source: DiagramSource<'t>,
+    diagram: &'t Diagram,
+) -> Result<Vec<Declared<'t>>, AllocError> {
+    let names = diagram.names();
+    let places = features_in(alloc, source.form, source.file.text, names)?;
+    let mut declared = Vec::new(alloc);
+    for (f, place) in places.iter().enumerate() {
+        if f < names.len() {
+            declared.push(Declared {
+                at: place.unwrap_or(0),
+                name: names.name(f as u16).as_bytes(),
+                line: 0,
+            })?;
+        }
+    }
+    Ok(declared)
+}
+
+/// Returns where the file of a diagram names its features.
+fn declared_in<'t>(
+    alloc: Global,
+    source: DiagramSource<'t>,
+    diagram: &'t Diagram,
+) -> Result<Vec<Declared<'t>>, AllocError> {
+    match source.form {
+        Form::Diagram => declared_of(alloc, source.meant),
+        Form::Uvl | Form::FeatureIde => declared_in_model(alloc, source, diagram),
+    }
+}
+
 /// Warns of a diagram, and of its use by guards.
 fn warn_of_diagram(
     alloc: Global,
-    text: &[u8],
+    source: DiagramSource<'_>,
     diagram: &Diagram,
     named: &[bool],
     warnings: &mut Warnings,
 ) -> Result<(), AllocError>
     ensures { warnings.new.length ≡ warnings.old.length }
 {
-    let declared = declared_of(alloc, text)?;
+    let declared = declared_in(alloc, source, diagram)?;
     warn_of_products(alloc, diagram, &declared, warnings)?;
-    let parents = parents_of(alloc, text)?;
+    let parents = parents_of(alloc, source.meant)?;
     warn_of_unnamed(named, &parents, &declared, warnings)
 }
 
@@ -163,19 +198,19 @@ pub(crate) fn named_in_system(alloc: Global, system: &System) -> Result<Vec<bool
     Ok(named)
 }
 
-/// Returns the warnings of a diagram that was read from a text, and of its use by guards, which name these features.
-/// Reasons are: the diagram has no product, or propagation alone finds none; features in no product, as far as
-/// propagation shows it; features without children that no guard names.
+/// Returns the warnings of a diagram that was read from a file, and of its use by guards, which name these features.
+/// Their places are those in the file. Reasons are: the diagram has no product, or propagation alone finds none;
+/// features in no product, as far as propagation shows it; features without children that no guard names.
 pub fn warnings_of_diagram(
     alloc: Global,
-    text: &[u8],
+    source: DiagramSource<'_>,
     diagram: &Diagram,
     named: &[bool],
 ) -> Result<Warnings, AllocError>
-    ensures { IfOk result (λ warnings. warnings.length ≡ length text.now) }
+    ensures { IfOk result (λ warnings. warnings.length ≡ length source.entry.file.text.now) }
 {
-    let mut warnings = Warnings::new(alloc, text.len());
-    match warn_of_diagram(alloc, text, diagram, named, &mut warnings) {
+    let mut warnings = Warnings::new(alloc, source.file.text.len());
+    match warn_of_diagram(alloc, source, diagram, named, &mut warnings) {
         Ok(()) => Ok(warnings),
         Err(fault) => Err(fault),
     }

@@ -1,18 +1,21 @@
 //! The files that the words name.
 ghost use Rattle.std.specs.Arc.{arc_value};
 ghost use Rattle.std.specs.IoError.{error_kind};
-ghost use Rattle.std.specs.Prelude.{◌≡◌, ◌⊎◌, [], None, IfOk, IfErr};
+ghost use Rattle.std.specs.Prelude.{◌≡◌, ◌⊎◌, [], None, Ok, Err, IfOk, IfErr, MatchResult};
 ghost use Rattle.vpg_diagram.specs.DiagramText.{IsTextOf};
 ghost use Rattle.vpg_diagram.specs.FeatureDiagram.{feature_count};
 ghost use Rattle.vpg_formula.specs.EntryCode.{earlier_of};
 ghost use Rattle.vpg_family.specs.Limits.{IsWithin, IsWithinBoth, IsGameWithin, AreWithin};
 ghost use Rattle.vpg_family.specs.Made.{AreTextsMadeOf, IsMadeBy};
 ghost use Rattle.vpg_family.specs.Families.{IsSpelled, IsUnread, IsOfGame, IsOfModel, IsOfSystem, IsOfPaths, IsSomeDiagram, IsModelledBy, AreTextsOf, IsFamilyOf};
+ghost use Rattle.vpg_family.specs.Sources.{AreOfFile, AreOfFileBy, IsLater, IsOfForm};
+ghost use Rattle.vpg_models.specs.Forms.{form_of};
 
-use crate::family::{Family, read_diagram};
+use crate::family::Family;
 use crate::fault::{Fault, Input};
 use crate::limits::{MOST_BYTES, is_within, over_limit};
 use crate::modelling::{Modelled, model_of};
+use crate::sources::{DiagramFile, read_diagram_file};
 use std::alloc::Global;
 use std::fs::File;
 use std::io::{Error, ErrorKind, Read};
@@ -84,6 +87,8 @@ pub(crate) fn read_file<R: Files + AllocGlobal>(
 #[derive(Drop)]
 pub struct Texts {
     pub diagram: Vec<u8>,
+    /// The text of the feature model that means the diagram. It is empty if the file is a diagram.
+    pub model: Vec<u8>,
     pub game: Vec<u8>,
     /// The requirements that the game is made for. There are none if it has a file.
     pub entries: Vec<Entry>,
@@ -102,6 +107,7 @@ impl Texts {
     pub fn none(alloc: Global) -> Texts {
         Texts {
             diagram: Vec::new(alloc),
+            model: Vec::new(alloc),
             game: Vec::new(alloc),
             entries: Vec::new(alloc),
             vertices: Vec::new(alloc),
@@ -132,11 +138,13 @@ fn not_read(
     ensures unread { IsUnread result.texts.diagram.items result.texts.game.items result.texts.system.items
         result.texts.requirements.items result.fault }
     ensures fault { result.fault ≡ fault }
+    ensures text { result.texts.diagram.items ≡ diagram.items }
 {
     Unread {
         fault,
         texts: Texts {
             diagram,
+            model: Vec::new(alloc),
             game,
             entries: Vec::new(alloc),
             vertices: Vec::new(alloc),
@@ -148,11 +156,12 @@ fn not_read(
 }
 
 /// Returns the fault of a diagram's file, beside its text.
-fn no_diagram(alloc: Global, fault: Fault, text: Vec<u8>) -> Unread
+pub(crate) fn no_diagram(alloc: Global, fault: Fault, text: Vec<u8>) -> Unread
     requires { IsUnread text.items [] [] [] fault }
     ensures unread { IsUnread result.texts.diagram.items result.texts.game.items result.texts.system.items
         result.texts.requirements.items result.fault }
     ensures fault { result.fault ≡ fault }
+    ensures text { result.texts.diagram.items ≡ text.items }
 {
     not_read(
         alloc,
@@ -176,6 +185,7 @@ fn no_model(
     ensures unread { IsUnread result.texts.diagram.items result.texts.game.items result.texts.system.items
         result.texts.requirements.items result.fault }
     ensures fault { result.fault ≡ fault }
+    ensures text { result.texts.diagram.items ≡ diagram.items }
 {
     not_read(alloc, fault, diagram, Vec::new(alloc), system, requirements)
 }
@@ -195,6 +205,9 @@ fn game_texts<R: Files + AllocGlobal>(
     ensures refused { IfErr result (λ unread. IsUnread unread.texts.diagram.items unread.texts.game.items
         unread.texts.system.items unread.texts.requirements.items unread.fault) }
     ensures of_game { IfErr result (λ unread. IsOfGame unread.fault) }
+    ensures later { IfErr result (λ unread. IsLater unread.fault) }
+    ensures text { MatchResult result (λ texts. texts.diagram.items ≡ diagram.items)
+        (λ unread. unread.texts.diagram.items ≡ diagram.items) }
 {
     let game = match read_file(rt, path, Fault::GameUnreadable) {
         Ok(game) => game,
@@ -206,6 +219,7 @@ fn game_texts<R: Files + AllocGlobal>(
     }
     Ok(Texts {
         diagram,
+        model: Vec::new(alloc),
         game,
         entries: Vec::new(alloc),
         vertices: Vec::new(alloc),
@@ -229,6 +243,9 @@ fn system_texts<R: Files + AllocGlobal>(
     ensures refused { IfErr result (λ unread. IsUnread unread.texts.diagram.items unread.texts.game.items
         unread.texts.system.items unread.texts.requirements.items unread.fault) }
     ensures of_system { IfErr result (λ unread. IsOfSystem unread.fault) }
+    ensures later { IfErr result (λ unread. IsLater unread.fault) }
+    ensures text { MatchResult result (λ texts. texts.diagram.items ≡ diagram.items)
+        (λ unread. unread.texts.diagram.items ≡ diagram.items) }
 {
     let system = match read_file(rt, path, Fault::SystemUnreadable) {
         Ok(system) => system,
@@ -242,6 +259,7 @@ fn system_texts<R: Files + AllocGlobal>(
     }
     Ok(Texts {
         diagram,
+        model: Vec::new(alloc),
         game: Vec::new(alloc),
         entries: Vec::new(alloc),
         vertices: Vec::new(alloc),
@@ -268,6 +286,9 @@ fn made_texts(
     ensures refused { IfErr result (λ unread. IsUnread unread.texts.diagram.items unread.texts.game.items
         unread.texts.system.items unread.texts.requirements.items unread.fault) }
     ensures of_model { IfErr result (λ unread. IsOfModel unread.fault) }
+    ensures later { IfErr result (λ unread. IsLater unread.fault) }
+    ensures text { MatchResult result (λ texts. texts.diagram.items ≡ text.items)
+        (λ unread. unread.texts.diagram.items ≡ text.items) }
 {
     match model_of(alloc, diagram, &system, &requirements) {
         Ok(
@@ -279,6 +300,7 @@ fn made_texts(
             },
         ) => Ok(Texts {
             diagram: text,
+            model: Vec::new(alloc),
             game,
             entries,
             vertices,
@@ -307,6 +329,9 @@ fn model_texts<R: Files + AllocGlobal>(
     ensures refused { IfErr result (λ unread. IsUnread unread.texts.diagram.items unread.texts.game.items
         unread.texts.system.items unread.texts.requirements.items unread.fault) }
     ensures of_model { IfErr result (λ unread. IsOfModel unread.fault) }
+    ensures later { IfErr result (λ unread. IsLater unread.fault) }
+    ensures text { MatchResult result (λ texts. texts.diagram.items ≡ text.items)
+        (λ unread. unread.texts.diagram.items ≡ text.items) }
 {
     let system = match read_file(rt, files.system, Fault::SystemUnreadable) {
         Ok(system) => system,
@@ -329,15 +354,36 @@ fn model_texts<R: Files + AllocGlobal>(
     made_texts(alloc, text, diagram, system, requirements)
 }
 
-/// Returns the texts of a family's files. That of the diagram is read, and refused, before any other is. If a system
-/// and its requirements stand in place of the game, it is made: they are read, and then the system is refused before
-/// the requirements are. A file of more than 268,435,456 bytes is refused as one that cannot be read is, and so is that
-/// of a game with more than 8,388,608 signs `!`, `&` and `|`. The fault is that of the texts that come back with it.
+/// Returns the texts of a family, or why there is none, with the text of the feature model that means its diagram.
+fn with_model(read: Result<Texts, Unread>, model: Vec<u8>) -> Result<Texts, Unread>
+    ensures { MatchResult read (λ texts. result ≡ Ok (record texts { model = model }))
+        (λ unread. result ≡ Err (record unread { texts = record unread.texts { model = model } })) }
+{
+    match read {
+        Ok(mut texts) => {
+            texts.model = model;
+            Ok(texts)
+        }
+        Err(mut unread) => {
+            unread.texts.model = model;
+            Err(unread)
+        }
+    }
+}
+
+/// Returns the texts of a family's files. That of the diagram is read, and refused, before any other is. It may be a
+/// feature model, which means a diagram: the end of its name tells that. If a system and its requirements stand in
+/// place of the game, it is made: they are read, and then the system is refused before the requirements are. A file of
+/// more than 268,435,456 bytes is refused as one that cannot be read is, and so is that of a game with more than
+/// 8,388,608 signs `!`, `&` and `|`. The fault is that of the texts that come back with it.
 pub fn read_texts<R: Files + AllocGlobal>(
     rt: &R,
     alloc: Global,
     paths: Paths<'_>,
 ) -> Result<Texts, Unread>
+    // If the file of the diagram has a feature model, its text means that of the diagram.
+    ensures meant { IfOk result (λ texts.
+        AreOfFile (form_of paths.entry.diagram.now) texts.model.items texts.diagram.items) }
     // A game that is made is the model-checking game of some texts.
     ensures model { IfOk result (λ texts.
         AreTextsOf paths.entry.game texts.diagram.items texts.game.items (earlier_of texts.entries.items)
@@ -349,31 +395,26 @@ pub fn read_texts<R: Files + AllocGlobal>(
     ensures game { IfOk result (λ texts. IsGameWithin paths.entry.game texts.game.items) }
     ensures refused { IfErr result (λ unread. IsUnread unread.texts.diagram.items unread.texts.game.items
         unread.texts.system.items unread.texts.requirements.items unread.fault) }
+    // A fault of a model is that of its text.
+    ensures file { IfErr result (λ unread. AreOfFileBy unread.fault (form_of paths.entry.diagram.now)
+        unread.texts.model.items unread.texts.diagram.items) }
     // It is one of a file that the paths name.
     ensures of_paths { IfErr result (λ unread. IsOfPaths paths.entry.game unread.fault) }
 {
-    let text = match read_file(rt, paths.diagram, Fault::DiagramUnreadable) {
-        Ok(text) => text,
-        Err(fault) => return Err(no_diagram(alloc, fault, Vec::new(alloc))),
+    let DiagramFile {
+        model,
+        text,
+        diagram,
+    } = match read_diagram_file(rt, alloc, paths.diagram) {
+        Ok(file) => file,
+        Err(refused) => return Err(refused),
     };
-    if !is_within(&text) {
-        return Err(no_diagram(
-            alloc,
-            Fault::TooLarge {
-                input: Input::Diagram,
-            },
-            text,
-        ));
-    }
-    let diagram = match read_diagram(alloc, &text) {
-        Ok(diagram) => diagram,
-        Err(fault) => return Err(no_diagram(alloc, fault, text)),
-    };
-    match paths.game {
+    let read = match paths.game {
         GamePaths::Game(path) => game_texts(rt, alloc, text, path),
         GamePaths::Model(files) => model_texts(rt, alloc, text, &diagram, files),
         GamePaths::System(path) => system_texts(rt, alloc, text, path),
-    }
+    };
+    with_model(read, model)
 }
 
 /// Returns the family of some files. The diagram is read, and refused, before the game, or the files in its place. The
@@ -384,12 +425,18 @@ pub fn read_family<R: Files + AllocGlobal>(
     paths: Paths<'_>,
 ) -> Result<Family, Unread>
     ensures spelled { IfOk result (λ family. IsSpelled (arc_value family.diagram) (arc_value family.game)) }
+    // The diagram is that of its file, or the one that the feature model in it means.
+    ensures meant { IfOk result (λ family.
+        IsOfForm (form_of paths.entry.diagram.now) (arc_value family.diagram)) }
     // A game that is made is the model-checking game of some texts.
     ensures model { IfOk result (λ family.
         IsFamilyOf paths.entry.game (arc_value family.diagram) (arc_value family.game)) }
     ensures features { IfOk result (λ family. (arc_value family.game).features ≡ feature_count (arc_value family.diagram).lines) }
     ensures refused { IfErr result (λ unread. IsUnread unread.texts.diagram.items unread.texts.game.items
         unread.texts.system.items unread.texts.requirements.items unread.fault) }
+    // A fault of a model is that of its text.
+    ensures file { IfErr result (λ unread. AreOfFileBy unread.fault (form_of paths.entry.diagram.now)
+        unread.texts.model.items unread.texts.diagram.items) }
     // It is one of a file that the paths name.
     ensures of_paths { IfErr result (λ unread. IsOfPaths paths.entry.game unread.fault) }
 {

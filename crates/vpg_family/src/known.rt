@@ -10,6 +10,8 @@ ghost use Rattle.vpg_family.specs.Called.{AreCallings, IsCalledFamily, IsNamedFa
 ghost use Rattle.vpg_family.specs.Made.{IsFamilyMadeOf};
 ghost use Rattle.vpg_family.specs.Families.{IsFamilyFault, IsUnread, IsOfPaths, SpellsFamily};
 ghost use Rattle.vpg_family.specs.Pictures.{TellsNames};
+ghost use Rattle.vpg_family.specs.Sources.{AreOfFileBy, IsOfForm};
+ghost use Rattle.vpg_models.specs.Forms.{form_of};
 
 use crate::family::Family;
 use crate::fault::Fault;
@@ -222,6 +224,9 @@ pub fn read_known<R: Files + AllocGlobal>(
     alloc: Global,
     paths: Paths<'_>,
 ) -> Result<Known, Unread>
+    // The diagram is that of its file, or the one that the feature model in it means.
+    ensures meant { IfOk result (λ known.
+        IsOfForm (form_of paths.entry.diagram.now) (arc_value known.family.diagram)) }
     // Each requirement's name stands for its vertex, if a system and requirements stand in place of the game.
     ensures called { IfOk result (λ known. IsCalledFamily paths.entry.game (arc_value known.family.diagram)
         (arc_value known.family.game) known.context.callings) }
@@ -235,6 +240,9 @@ pub fn read_known<R: Files + AllocGlobal>(
         (arc_value known.family.game).features ≡ feature_count (arc_value known.family.diagram).lines) }
     ensures refused { IfErr result (λ unread. IsUnread unread.texts.diagram.items unread.texts.game.items
         unread.texts.system.items unread.texts.requirements.items unread.fault) }
+    // A fault of a model is that of its text.
+    ensures file { IfErr result (λ unread. AreOfFileBy unread.fault (form_of paths.entry.diagram.now)
+        unread.texts.model.items unread.texts.diagram.items) }
     // It is one of a file that the paths name.
     ensures of_paths { IfErr result (λ unread. IsOfPaths paths.entry.game unread.fault) }
 {

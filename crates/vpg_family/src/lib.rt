@@ -1,21 +1,24 @@
 //! A product family in files: read, counted, projected to one product and drawn; and the messages about its faults.
 //!
 //! `read_family` takes the files of a diagram and a game; or of a diagram, a system and its requirements, and makes
-//! their game. A `Family` counts itself (`counted`) and returns the plain game of one product (`projected`). `checked`
-//! counts the family of texts, with its requirements, and `drawn` returns a picture of two texts. `linted` warns of a
-//! diagram without a product, and of features that are in no product or that no guard names. It warns of vertices
-//! without moves or that the game never reaches, and of a start that is no vertex. `redrawn` returns the picture of the
-//! page that a script left, from the text that the script wrote. `Pictured` is a sink that passes answers on with the
-//! names of vertices in pictures. `system_drawn` and `system_redrawn` draw a system in place of its game, and
-//! `system_traced` with the marks of a trace, on the page that `sight_in` reads from a run's text. Each fault of
-//! the program is a `Fault`, `line_of` returns the line that reports it, and `explained` lines that say where and why.
-//! `Known` is a family with the names that lines of scripts may give its vertices, and `read_known` returns that of
-//! some files. The crate knows no desk: scripts are carried out above it.
+//! their game. `read_diagram_file` takes that of a diagram, which may have a feature model that means one.
+//!
+//! A `Family` counts itself (`counted`) and returns the plain game of one product (`projected`). `checked` counts the
+//! family of texts, with its requirements, and `drawn` returns a picture of two texts. `linted` warns of a diagram
+//! without a product, and of features that are in no product or that no guard names. It warns of vertices without moves
+//! or that the game never reaches, and of a start that is no vertex. `redrawn` returns the picture of the page that a
+//! script left, from the text that the script wrote. `Pictured` is a sink that passes answers on with the names of
+//! vertices in pictures. `system_drawn` and `system_redrawn` draw a system in place of its game, and `system_traced`
+//! with the marks of a trace, on the page that `sight_in` reads from a run's text. Each fault of the program is a
+//! `Fault`, `line_of` returns the line that reports it, and `explained` lines that say where and why;
+//! `explained_diagram` those on the file of a diagram alone. `Known` is a family with the names that lines of scripts
+//! may give its vertices, and `read_known` returns that of some files. The crate knows no desk: scripts are carried out
+//! above it.
 //!
 //! `specs/Families` defines the texts that spell a family, when its game is made, and the words that name a product;
-//! `specs/Called` the names of its vertices. `specs/Counts`, `specs/Checked`, `specs/Pictures`, `specs/Systems`,
-//! `specs/Pages` and `specs/Faults` define the texts that are written, and `specs/Warned` the places of warnings. All
-//! are this project's own.
+//! `specs/Sources` the diagram that a file means, and `specs/Called` the names of vertices. `specs/Counts`,
+//! `specs/Checked`, `specs/Pictures`, `specs/Systems`, `specs/Pages` and `specs/Faults` define the texts that are
+//! written, and `specs/Warned` the places of warnings. All are this project's own.
 #![tactic(auto)]
 
 mod checking;
@@ -35,6 +38,7 @@ mod pages;
 mod parts;
 mod pictured;
 mod products;
+mod sources;
 mod system_warnings;
 mod systems;
 mod telling;
@@ -43,7 +47,7 @@ mod writing;
 
 pub use checking::checked;
 pub use drawing::{Subject, drawn};
-pub use explaining::explained;
+pub use explaining::{explained, explained_diagram, explained_set};
 pub use family::{Family, conflict};
 pub use fault::{Fault, Input};
 pub use files::{
@@ -53,5 +57,6 @@ pub use known::{Context, Known, read_known};
 pub use linting::linted;
 pub use pages::{Seen, redrawn, sight_in};
 pub use pictured::Pictured;
+pub use sources::{DiagramFile, read_diagram_file};
 pub use systems::{system_drawn, system_redrawn, system_traced};
 pub use telling::line_of;

@@ -6,15 +6,30 @@ use crate::family::{read_diagram, read_game};
 use crate::fault::Fault;
 use crate::files::{GamePaths, ModelPaths, Paths, Texts};
 use crate::systems::read_system;
-use crate::writing::{File, put_warned, put_warned_of_system};
+use crate::writing::{DiagramSource, File, put_warned, put_warned_of_system};
 use std::alloc::{AllocError, Global};
 use vpg_diagram::Diagram;
 use vpg_game::GuardedGame;
+use vpg_models::{Form, form_of};
+
+/// Returns the texts of a diagram's file.
+fn source_of<'t>(name: &'t str, texts: &'t Texts) -> DiagramSource<'t> {
+    let form = form_of(name);
+    let text = match form {
+        Form::Diagram => texts.diagram.as_slice(),
+        Form::Uvl | Form::FeatureIde => texts.model.as_slice(),
+    };
+    DiagramSource {
+        file: File { name, text },
+        form,
+        meant: &texts.diagram,
+    }
+}
 
 /// Returns lines of warnings of a diagram and a game that were read from these texts.
 fn warned_of_game(
     alloc: Global,
-    of_diagram: File<'_>,
+    of_diagram: DiagramSource<'_>,
     of_game: File<'_>,
     diagram: &Diagram,
     game: &GuardedGame,
@@ -29,7 +44,7 @@ fn warned_of_game(
 /// Returns lines of warnings of a diagram, a system and its requirements that were read from these texts before.
 fn warned_of_system(
     alloc: Global,
-    of_diagram: File<'_>,
+    of_diagram: DiagramSource<'_>,
     files: ModelPaths<'_>,
     texts: &Texts,
     diagram: &Diagram,
@@ -68,10 +83,7 @@ fn warned(
     diagram: &Diagram,
     game: &GuardedGame,
 ) -> Result<Vec<u8>, AllocError> {
-    let of_diagram = File {
-        name: paths.diagram,
-        text: &texts.diagram,
-    };
+    let of_diagram = source_of(paths.diagram, texts);
     match paths.game {
         GamePaths::Game(name) => {
             let of_game = File {

@@ -11,6 +11,7 @@ use vpg_formula::RequirementFault;
 use vpg_game::GameFault;
 use vpg_guards::GuardFault;
 use vpg_model::ModelFault;
+use vpg_models::put_form_fault;
 use vpg_script::LineFault;
 use vpg_system::SystemFault;
 
@@ -235,6 +236,7 @@ fn put_fault(fault: &Fault, out: &mut Vec<u8>) -> Result<(), AllocError>
             out.extend_from_slice(b"diagram ")?;
             put_diagram_fault(*fault, out)
         }
+        Fault::FeatureModel { fault } => put_form_fault(*fault, out),
         Fault::GameUnreadable => out.extend_from_slice(b"game unreadable"),
         Fault::Game { fault } => {
             out.extend_from_slice(b"game ")?;

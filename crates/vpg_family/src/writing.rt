@@ -11,6 +11,7 @@ use vpg_diagram::Diagram;
 use vpg_game::{GuardedGame, Player};
 use vpg_guards::Names;
 use vpg_lint::{nearest_of, put_number, put_place, put_shown, put_text};
+use vpg_models::Form;
 use vpg_names::VertexNames;
 use vpg_places::place_of;
 use vpg_system::System;
@@ -169,6 +170,14 @@ fn word_at(text: &[u8], at: usize, len: u32) -> &[u8] {
 pub struct File<'t> {
     pub name: &'t str,
     pub text: &'t [u8],
+}
+
+/// The file of a diagram, its form, and the text of the diagram that it means.
+#[derive(Clone, Copy)]
+pub struct DiagramSource<'t> {
+    pub file: File<'t>,
+    pub form: Form,
+    pub meant: &'t [u8],
 }
 
 /// A game, and the names of its vertices.
@@ -331,16 +340,16 @@ fn put_count(count: usize, out: &mut Vec<u8>) -> Result<(), AllocError> {
     out.extend_from_slice(b"\n")
 }
 
-/// Appends the warnings of a diagram, in a file of this name; guards name these features. Returns how many they are.
+/// Appends the warnings of a diagram, in its file; guards name these features. Returns how many they are.
 fn put_of_diagram(
-    file: File<'_>,
+    source: DiagramSource<'_>,
     diagram: &Diagram,
     named: &[bool],
     about: &About<'_>,
     out: &mut Vec<u8>,
 ) -> Result<usize, AllocError> {
-    let warnings = warnings_of_diagram(about.alloc, file.text, diagram, named)?;
-    put_warnings(file, about, &warnings, out)?;
+    let warnings = warnings_of_diagram(about.alloc, source, diagram, named)?;
+    put_warnings(source.file, about, &warnings, out)?;
     Ok(warnings.list.len())
 }
 
@@ -360,7 +369,7 @@ fn put_of_game(
 /// last one that counts them. Of each sort at most ten are written with their places, and then how many more there are.
 pub fn put_warned<'x>(
     alloc: Global,
-    of_diagram: File<'_>,
+    of_diagram: DiagramSource<'_>,
     of_game: File<'_>,
     diagram: &'x Diagram,
     game: &'x GuardedGame,
@@ -416,7 +425,7 @@ fn put_of_model(
 /// that is made from them gets no warnings.
 pub fn put_warned_of_system(
     alloc: Global,
-    of_diagram: File<'_>,
+    of_diagram: DiagramSource<'_>,
     of_system: File<'_>,
     of_requirements: File<'_>,
     diagram: &Diagram,

@@ -1,6 +1,8 @@
 use Rattle.std.specs.Arc.{arc_value}
 use Rattle.vpg_formula.specs.EntryCode.{earlier_of}
+use Rattle.vpg_models.specs.Forms.{form_of}
 use Rattle.vpg_family.proofs.Models.{made_of_paths}
+use Rattle.vpg_family.proofs.Sourced.{is_of_form}
 use Rattle.vpg_family.proofs.known.read_known.Goals as goal
 
 pub returns-in-Ok-read-clause-made : goal.returns-in-Ok-read-clause-made
@@ -21,3 +23,8 @@ returns-in-Ok-read-clause-names g c = record {
   };
   told = c.in-Ok-read.ensures.names;
 }
+
+pub returns-in-Ok-read-clause-meant : goal.returns-in-Ok-read-clause-meant
+returns-in-Ok-read-clause-meant g c =
+    is_of_form (form_of c.args.paths.diagram.now) c.in-Ok.texts.model.items c.in-Ok.texts.diagram.items
+    (arc_value c.in-Ok-read.known.family.diagram) c.in-Ok.ensures.meant c.in-Ok-read.ensures.spelled.diagram_spelled
