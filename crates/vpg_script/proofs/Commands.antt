@@ -1,7 +1,7 @@
 use Rattle.std.proofs.Common.{◌≡◌, ℕ, suc, zero, ◌+◌, ◌*◌, ◌≤◌, ◌<◌, List, [], ◌∷◌, length, get_or, min, map, Option, Some, None, option_map, Result, Ok, Err, refl, sym, ap, ◌∙◌, arith}
 use Rattle.std.specs.Borrow.{Bor}
 use Rattle.vpg_script.specs.declared.command.Verb.{Verb}
-use Rattle.vpg_script.specs.Script.{assertion_of, claims_of, command_with_few, all_there, verdicts_of, vertex_named}
+use Rattle.vpg_script.specs.Script.{assertion_of, claims_of, command_with_few, all_there, exact_of, verdicts_of, vertex_named}
 use Rattle.vpg_script.specs.Script as script
 use Rattle.vpg_script.specs.declared.command.Vertex.{Vertex}
 use Rattle.std.specs.Prelude.{IfOk}
@@ -13,6 +13,12 @@ pub too_long : (verb : Verb) (first : List ℕ) (more : List (Bor (List ℕ))) �
 too_long verb first [] h = absurd (omega arith)
 too_long verb first (a ∷ []) h = absurd (omega arith)
 too_long verb first (a ∷ b ∷ more) h = refl
+
+-- an exact verdict stands alone
+pub not_alone : (first : List ℕ) (more : List (Bor (List ℕ))) → 2 ≤ length more → None ≡ exact_of first (texts more)
+not_alone first [] h = absurd (omega arith)
+not_alone first (a ∷ []) h = absurd (omega arith)
+not_alone first (a ∷ b ∷ more) h = refl
 
 pub capped : (above v w d : ℕ) → v ≡ min above w → min above (v * 10 + d) ≡ min above (w * 10 + d)
 capped above v w d h = omega arith

@@ -23,6 +23,7 @@ none_inquiry features (script.OfVertex question vertex) = ap (λ (v : script.Ver
 none_inquiry features (script.OfFeature name) = none_name (is_some (index_of features name)) name
 none_inquiry features (script.OfChoice value name) = refl
 none_inquiry features (script.OfPage question) = refl
+none_inquiry features (script.OfExact verdict vertex) = ap (λ (v : script.Vertex). script.OfExact verdict v) (none_vertex vertex)
 
 none_assertion : (assertion : script.Assertion) → meant_assertion [] assertion ≡ assertion
 none_assertion (script.Verdicts vertex claims) = ap (λ (v : script.Vertex). script.Verdicts v claims) (none_vertex vertex)

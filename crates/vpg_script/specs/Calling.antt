@@ -3,7 +3,7 @@ use Rattle.std.specs.Prelude.{◌≡◌, ℕ, Bool, not, ◌||◌, ◌==◌, if�
 use Rattle.std.specs.List.{find, list_all, list_any}
 use Rattle.vpg_features.specs.Names.{index_of}
 use Rattle.vpg_script.specs.declared.command.VertexQuestion.TheVariants as questions
-use Rattle.vpg_script.specs.Script.{Vertex, Numbered, Named, Inquiry, OfVertex, OfFeature, Assertion, Verdicts, Lookup, Vertices, Assert, Command, Lift, Look, Ask, Request}
+use Rattle.vpg_script.specs.Script.{Vertex, Numbered, Named, Inquiry, OfVertex, OfFeature, OfExact, Assertion, Verdicts, Lookup, Vertices, Assert, Command, Lift, Look, Ask, Request}
 
 -- the vertex of this identifier has this name
 pub record Calling : Type 0 where
@@ -59,6 +59,7 @@ abbrev pub meant_inquiry : List Calling → List (List ℕ) → Inquiry → Inqu
 meant_inquiry callings features (OfVertex question vertex) = OfVertex question (meant_vertex callings vertex)
 meant_inquiry callings features (OfFeature name) =
     meant_name (is_some (index_of features name)) (calls callings name) callings name
+meant_inquiry callings features (OfExact verdict vertex) = OfExact verdict (meant_vertex callings vertex)
 meant_inquiry callings features inquiry = inquiry
 
 abbrev pub meant_assertion : List Calling → Assertion → Assertion

@@ -14,6 +14,8 @@ use Rattle.vpg_script.specs.declared.command.VertexQuestion.{VertexQuestion}
 use Rattle.vpg_script.specs.declared.command.VertexQuestion.TheVariants as questions
 use Rattle.vpg_script.specs.declared.command.PageQuestion.{PageQuestion}
 use Rattle.vpg_script.specs.declared.command.PageQuestion.TheVariants as whole
+use Rattle.vpg_script.specs.declared.exact.ExactVerdict.{ExactVerdict}
+use Rattle.vpg_script.specs.declared.exact.ExactVerdict.TheVariants as exacts
 use Rattle.vpg_script.specs.declared.command.LineFault.{LineFault}
 use Rattle.vpg_script.specs.declared.command.LineFault.TheVariants as faults
 
@@ -108,6 +110,8 @@ pub data Inquiry : Type 0 where
   OfFeature : (name : List ℕ) → Inquiry
   OfChoice : (value : Bool) → (name : List ℕ) → Inquiry
   OfPage : (question : PageQuestion) → Inquiry
+  -- whether the vertex has this exact verdict
+  OfExact : (verdict : ExactVerdict) → (vertex : Vertex) → Inquiry
 
 -- an assertion about the page: of a vertex's verdicts, or of the page as a whole
 pub data Assertion : Type 0 where
@@ -351,11 +355,36 @@ abbrev pub assertion_of : List ℕ → List (List ℕ) → Option Assertion
 assertion_of w [] = state_named w
 assertion_of w (claim ∷ more) = verdicts_of (vertex_named w) (claims_of (claim ∷ more))
 
+-- the exact verdict that a word names
+abbrev pub exact_named : List ℕ → Option ExactVerdict
+exact_named w =
+    if bytes_eq w (codes "won") then Some exacts.Won
+    else if bytes_eq w (codes "lost") then Some exacts.Lost
+    else if bytes_eq w (codes "mixed") then Some exacts.Mixed
+    else None
+
+abbrev pub of_exact : Option ExactVerdict → Option Vertex → Option Inquiry
+of_exact (Some verdict) (Some vertex) = Some (OfExact verdict vertex)
+of_exact _ _ = None
+
+-- the question whether a vertex has an exact verdict: its word stands alone behind the vertex
+abbrev pub exact_of : List ℕ → List (List ℕ) → Option Inquiry
+exact_of w (verdict ∷ []) = of_exact (exact_named verdict) (vertex_named w)
+exact_of w _ = None
+
+abbrev pub exact_or : Option Inquiry → Option Assertion → Option Command
+exact_or (Some inquiry) said = Some (Ask inquiry)
+exact_or None said = option_map (λ said. Look (Assert said)) said
+
+-- the command that asserts what words say: an exact verdict, or else what a lookup shows
+abbrev pub assert_command : List ℕ → List (List ℕ) → Option Command
+assert_command w args = exact_or (exact_of w args) (assertion_of w args)
+
 -- the command of a verb and its arguments: of a list of them, or of two at most
 abbrev pub command_of : Verb → List (List ℕ) → Option Command
 command_of verb [] = bare_command verb
 command_of verbs.Show (a ∷ args) = option_map (λ vertices. Look (Vertices vertices)) (vertices_of (a ∷ args))
-command_of verbs.Assert (a ∷ args) = option_map (λ said. Look (Assert said)) (assertion_of a args)
+command_of verbs.Assert (a ∷ args) = assert_command a args
 command_of verb (a ∷ args) = command_with_few verb a args
 
 -- the label that a word spells: a number from 1 to 64 and a colon

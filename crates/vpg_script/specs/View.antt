@@ -26,6 +26,7 @@ inquiry_shown (inquiries.OfVertex question v) = script.OfVertex question (vertex
 inquiry_shown (inquiries.OfFeature f) = script.OfFeature f.now
 inquiry_shown (inquiries.OfChoice value f) = script.OfChoice value f.now
 inquiry_shown (inquiries.OfPage question) = script.OfPage question
+inquiry_shown (inquiries.OfExact verdict v) = script.OfExact verdict (vertex_shown v)
 
 -- an assertion, as definitions see it
 abbrev pub assertion_shown : Assertion → script.Assertion

@@ -8,6 +8,7 @@ ghost use Rattle.vpg_script.specs.Script.{is_quote, closed, quoted, vertex_name,
 ghost use Rattle.vpg_script.specs.Script.{command_with_few, vertices_of, claim_named, claims_of, state_named, verdicts_of, assertion_of, command_of};
 ghost use Rattle.vpg_script.specs.View.{assertion_shown, command_shown, inquiry_shown, texts, vertex_shown};
 
+use crate::exact::{ExactVerdict, assert_command};
 use crate::words::{is_nonempty, words_of};
 use std::alloc::{AllocError, Global};
 use thiserror::Error;
@@ -158,6 +159,8 @@ pub enum Inquiry<'t> {
     OfChoice(bool, &'t [u8]),
     /// About the page as a whole.
     OfPage(PageQuestion),
+    /// Whether a vertex has this exact verdict.
+    OfExact(ExactVerdict, Vertex<'t>),
 }
 
 /// A command. Names stand in the line that was read.
@@ -203,7 +206,7 @@ pub struct Request<'t> {
     pub command: Command<'t>,
 }
 
-fn same(a: &[u8], b: &[u8]) -> bool
+pub(crate) fn same(a: &[u8], b: &[u8]) -> bool
     ensures { result ≡ bytes_eq a.now b.now }
 {
     a == b
@@ -446,7 +449,7 @@ fn vertex_name(word: &[u8]) -> Option<&[u8]>
 }
 
 /// Returns the vertex that a word names: by its identifier, or else by its name.
-fn vertex_named(word: &[u8]) -> Option<Vertex>
+pub(crate) fn vertex_named(word: &[u8]) -> Option<Vertex>
     ensures { option_map vertex_shown result ≡ vertex_named word.now }
 {
     match number(word, LARGEST_IDENTIFIER) {
@@ -638,7 +641,7 @@ fn verdicts_of<'t>(
 }
 
 /// Returns the assertion of words: about the page as a whole, or about a vertex.
-fn assertion_of<'t>(
+pub(crate) fn assertion_of<'t>(
     alloc: Global,
     first: &'t [u8],
     more: &[&[u8]],
@@ -668,10 +671,7 @@ fn command_of<'t>(
             Some(vertices) => Ok(Some(Command::Look(Lookup::Vertices(vertices)))),
             None => Ok(None),
         },
-        Verb::Assert => match assertion_of(alloc, first, more)? {
-            Some(assertion) => Ok(Some(Command::Look(Lookup::Assert(assertion)))),
-            None => Ok(None),
-        },
+        Verb::Assert => Ok(assert_command(alloc, first, more)?),
         _ => Ok(command_with_few(verb, first, more)),
     }
 }

@@ -5,9 +5,10 @@
 //! are `select`, `exclude`, `retract`, `undo`, `redo`, `keep`, `forget`, `lift`, `harvest`, `commit`, `settle`,
 //! `changed` and `known`. A `Lookup` looks at the page: `show`, `trail`, `products`, `plan`, `count`, `draw` and
 //! `assert`. An `Inquiry` is a question about it: `why`, `example`, `counterexample`, `offer`, `needs`, `repair`,
-//! `lost`, `won`, `spoil`, `trace`, `winners`, `decide`, `plan` and `draw` of a vertex, `forced`, `empty` and `number`.
-//! Each other first word is a fault of its line. A further question about a vertex is a new `VertexQuestion`, and one
-//! about the page as a whole a new `PageQuestion`. The crate of answers has to know it; the crate of runs does not.
+//! `lost`, `won`, `spoil`, `trace`, `winners`, `decide`, `plan` and `draw` of a vertex, `forced`, `empty` and `number`,
+//! and `assert` of an exact verdict. Each other first word is a fault of its line. A further question about a vertex is
+//! a new `VertexQuestion`, and one about the page as a whole a new `PageQuestion`. The crate of answers has to know it;
+//! the crate of runs does not.
 //!
 //! A vertex is named by its identifier, or by a name. `Callings` are the names of vertices, and `meant` returns the
 //! request with the identifier of each vertex in place of its name.
@@ -22,6 +23,7 @@
 mod calling;
 mod command;
 mod device;
+mod exact;
 pub mod laws;
 mod lines;
 mod meaning;
@@ -33,5 +35,6 @@ pub use command::{
     Request, Vertex, VertexQuestion, read_line,
 };
 pub use device::{Device, Failed, Sink, Source};
+pub use exact::ExactVerdict;
 pub use lines::{MOST_READS, Next, NextFault, next_line, pass_line};
 pub use meaning::meant;

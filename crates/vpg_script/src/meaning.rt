@@ -109,6 +109,9 @@ fn meant_inquiry<'t>(callings: &Callings, features: &Names, inquiry: Inquiry<'t>
         Inquiry::OfFeature(name) => meant_name(callings, features, name),
         Inquiry::OfChoice(value, name) => Inquiry::OfChoice(value, name),
         Inquiry::OfPage(question) => Inquiry::OfPage(question),
+        Inquiry::OfExact(verdict, vertex) => {
+            Inquiry::OfExact(verdict, meant_vertex(callings, vertex))
+        }
     }
 }
 

@@ -1,3 +1,4 @@
+pub mod Framed
 pub mod Given
 pub mod MannerLemmas
 pub mod ScriptLemmas

@@ -7,7 +7,8 @@ use Rattle.vpg_script.specs.Devices.{AppendsSome}
 use Rattle.vpg_script.specs.Lines.{IsUnended}
 use Rattle.vpg_script.specs.Script.{Said, said}
 use Rattle.vpg_serving.specs.Answer.{Answer, done, refused, is_failure, is_refusal}
-use Rattle.vpg_serving.specs.Output.{Machine, ReadKnown, NextKnown, IsEmptyKnown, FaultyKnown, text_of}
+use Rattle.vpg_serving.specs.Framing.{framed, frames}
+use Rattle.vpg_serving.specs.Output.{Machine, ReadKnown, NextKnown, IsEmptyKnown, FaultyKnown}
 use Rattle.vpg_script.specs.declared.command.LineFault.{LineFault}
 use Rattle.vpg_script.specs.declared.command.LineFault.TheVariants as faults
 use Rattle.vpg_serving.specs.declared.serving.Manner.{Manner}
@@ -47,17 +48,17 @@ AnsweredEach {S} goes_on serves s (line ∷ lines) answers new =
 
 -- ---- scripts
 
--- lines were read, and their answers were written
-pub record WroteEach {S : Type 0} (goes_on : Bool) (serves : Machine S) (old new : S)
+-- lines were read, and their answers were written in the manner's form
+pub record WroteEach {S : Type 0} (manner : Manner) (serves : Machine S) (old new : S)
     (input rest before after : Option (List ℕ)) (lines : List (List ℕ)) (answers : List Answer) : Type 0 where
   pub read : ReadKnown input lines rest
-  pub answered : AnsweredEach goes_on serves old lines answers new
-  pub written : Appends before after (text_of answers)
+  pub answered : AnsweredEach manner.goes_on serves old lines answers new
+  pub written : Appends before after (frames manner.form 1 answers)
 
 -- as `WroteEach`, and a strict script has no refusal among them
 pub record Went {S : Type 0} (manner : Manner) (serves : Machine S) (old new : S)
     (input rest before after : Option (List ℕ)) (lines : List (List ℕ)) (answers : List Answer) : Type 0 where
-  pub wrote : WroteEach manner.goes_on serves old new input rest before after lines answers
+  pub wrote : WroteEach manner serves old new input rest before after lines answers
   pub unrefused : manner.is_strict ≡ true → list_any is_refusal answers ≡ false
 
 -- the result of a script that is answered in a manner, with the texts read and written
@@ -76,7 +77,7 @@ MannerOutcome {S} manner serves old input left before after (Ok endings.Failed) 
 -- the script is strict, and n lines were answered, the last of them with the first refusal
 MannerOutcome {S} manner serves old input left before after (Ok (endings.Refused n)) =
     (lines : List (List ℕ)) × (answers : List Answer) × (last : Answer) × (new : S) × (rest : Option (List ℕ)) ×
-    (WroteEach manner.goes_on serves old new input rest before after lines (answers ++ last ∷ []) ×
+    (WroteEach manner serves old new input rest before after lines (answers ++ last ∷ []) ×
     (manner.is_strict ≡ true) × (list_any is_refusal answers ≡ false) × (is_refusal last ≡ true) × (n ≡ length lines))
 -- the script ends at a fault: the lines before it were answered, and line n has the fault
 MannerOutcome {S} manner serves old input left before after (Err (stops.Line n fault)) =
@@ -100,4 +101,4 @@ MannerOutcome {S} manner serves old input left before after (Err stops.Write) =
     (lines : List (List ℕ)) × (answers : List Answer) × (new : S) × (rest mid : Option (List ℕ)) × (answer : Answer) ×
     (Went manner serves old new input rest before mid lines answers × (last : S) × (line : List ℕ) ×
     (NextKnown rest line × Answers manner.goes_on serves new (said line) answer last ×
-    AppendsSome mid after answer.text))
+    AppendsSome mid after (framed manner.form (length lines + 1) answer)))

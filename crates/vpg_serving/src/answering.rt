@@ -4,12 +4,14 @@ ghost use Rattle.std.specs.Io.KnownBytes.{Appends, prepend_known};
 ghost use Rattle.vpg_script.specs.Devices.{AppendsSome};
 ghost use Rattle.vpg_script.specs.Script.{said};
 ghost use Rattle.vpg_script.specs.Lines.{PassedKnown, HeldKnown, lines_left};
+ghost use Rattle.vpg_serving.specs.Framing.{framed};
 ghost use Rattle.vpg_serving.specs.Manners.{fault_answer};
-ghost use Rattle.vpg_serving.specs.Results.{UnlessReaderFails, UnlessWriterFails, FaultOutcome, LineOutcome, TooLongOutcome, NextOutcome};
+ghost use Rattle.vpg_serving.specs.Results.{UnlessReaderFails, UnlessWriterFails, PutOutcome, FaultOutcome, LineOutcome, TooLongOutcome, NextOutcome};
 ghost use Rattle.vpg_script.specs.declared.command.LineFault.{LineFault as Fault};
 
 use crate::fault::RunFault;
-use crate::serving::Server;
+use crate::framing::{Form, json_text};
+use crate::serving::{Manner, Server};
 use crate::tone::Tone;
 use std::alloc::Global;
 use std::sync::Wait;
@@ -41,25 +43,54 @@ fn put_text<W: Sink>(text: &[u8], writer: &mut W) -> Result<(), RunFault>
     }
 }
 
+/// Writes the answer of this tone and text to the line of this number, in a form. Returns the tone.
+fn put_answer<W: Sink>(
+    alloc: Global,
+    form: Form,
+    number: u64,
+    tone: Tone,
+    text: &[u8],
+    writer: &mut W,
+) -> Result<Tone, RunFault>
+    ensures outcome { PutOutcome (framed form number (record { tone = tone; text = text.now })) tone
+        (W.contents writer.old) (W.contents writer.new) result }
+    ensures write_failed { IsErrOf result RunFault.Write → W.has_failed writer.new ≡ true }
+    ensures writable { UnlessWriterFails result (W.has_failed writer.new ≡ W.has_failed writer.old) }
+{
+    match form {
+        Form::Plain => {
+            put_text(text, writer)?;
+            Ok(tone)
+        }
+        Form::Json => {
+            let line = json_text(alloc, number, tone, text)?;
+            put_text(&line, writer)?;
+            Ok(tone)
+        }
+    }
+}
+
 /// Answers a line with a fault, if the script goes on.
+#[tactic(auto, using(crate::proofs::MannerLemmas::fault_is_put))]
 fn answer_fault<W: Sink>(
-    goes_on: bool,
+    alloc: Global,
+    manner: Manner,
     number: u64,
     fault: LineFault,
     writer: &mut W,
 ) -> Result<Tone, RunFault>
-    ensures outcome { FaultOutcome goes_on number fault (W.contents writer.old) (W.contents writer.new) result }
+    ensures outcome { FaultOutcome manner number fault (W.contents writer.old) (W.contents writer.new) result }
     ensures write_failed { IsErrOf result RunFault.Write → W.has_failed writer.new ≡ true }
     ensures writable { UnlessWriterFails result (W.has_failed writer.new ≡ W.has_failed writer.old) }
 {
-    if !goes_on {
+    if !manner.goes_on {
         return Err(RunFault::Line {
             line: number,
             fault,
         });
     }
-    put_text(fault_text(fault), writer)?;
-    Ok(Tone::Refused)
+    let text = fault_text(fault);
+    put_answer(alloc, manner.form, number, Tone::Refused, text, writer)
 }
 
 /// Carries a line out, and writes its answer.
@@ -67,14 +98,14 @@ fn answer_line<T: Threads + Wait + Sync, V: Server, W: Sink>(
     rt: &T,
     alloc: Global,
     lifters: u32,
-    goes_on: bool,
+    manner: Manner,
     number: u64,
     server: &mut V,
     line: &[u8],
     writer: &mut W,
 ) -> Result<Tone, RunFault>
     requires lifters { (1 ≤ lifters) × (lifters ≤ 64) }
-    ensures outcome { LineOutcome goes_on number (V.answering (V.scene server.old) lifters) (V.state server.old)
+    ensures outcome { LineOutcome manner number (V.answering (V.scene server.old) lifters) (V.state server.old)
         (V.state server.new) (said line.now) (W.contents writer.old) (W.contents writer.new) result }
     ensures scene { OnOk result (V.scene server.new ≡ V.scene server.old) }
     ensures write_failed { IsErrOf result RunFault.Write → W.has_failed writer.new ≡ true }
@@ -83,18 +114,19 @@ fn answer_line<T: Threads + Wait + Sync, V: Server, W: Sink>(
     let request = match read_line(alloc, line) {
         Ok(None) => return Ok(Tone::Done),
         Ok(Some(request)) => request,
-        Err(ReadFault::Line(fault)) => return answer_fault(goes_on, number, fault, writer),
+        Err(ReadFault::Line(fault)) => return answer_fault(alloc, manner, number, fault, writer),
         Err(ReadFault::Memory) => return Err(RunFault::Memory),
     };
     let mut text = Vec::new(alloc);
     let tone = server.serve(rt, alloc, lifters, &request, &mut text)?;
-    put_text(&text, writer)?;
-    Ok(tone)
+    put_answer(alloc, manner.form, number, tone, &text, writer)
 }
 
 /// Answers a line that is too long, if the script goes on, and reads it to its end before.
+#[tactic(auto, using(crate::proofs::MannerLemmas::long_is_put))]
 fn answer_too_long<R: Source, W: Sink>(
-    goes_on: bool,
+    alloc: Global,
+    manner: Manner,
     number: u64,
     held: &mut Vec<u8>,
     reads: &mut u32,
@@ -105,7 +137,7 @@ fn answer_too_long<R: Source, W: Sink>(
     requires calls { R.calls reader.old ≡ reads.old }
     ensures calls { R.calls reader.new ≡ reads.new }
     ensures reads { reads.new ≤ 16777216 }
-    ensures outcome { TooLongOutcome goes_on number (prepend_known held.old.items (R.remaining reader.old))
+    ensures outcome { TooLongOutcome manner number (prepend_known held.old.items (R.remaining reader.old))
         (prepend_known held.new.items (R.remaining reader.new)) (R.remaining reader.new)
         (W.contents writer.old) (W.contents writer.new) result }
     ensures fewer { OnOk result
@@ -115,25 +147,25 @@ fn answer_too_long<R: Source, W: Sink>(
     ensures readable { UnlessReaderFails result (R.has_failed reader.new ≡ R.has_failed reader.old) }
     ensures writable { UnlessWriterFails result (W.has_failed writer.new ≡ W.has_failed writer.old) }
 {
-    if !goes_on {
+    if !manner.goes_on {
         return Err(RunFault::Line {
             line: number,
             fault: LineFault::TooLong,
         });
     }
     pass_line(held, reads, reader)?;
-    put_text(fault_text(LineFault::TooLong), writer)?;
-    Ok(Tone::Refused)
+    let text = fault_text(LineFault::TooLong);
+    put_answer(alloc, manner.form, number, Tone::Refused, text, writer)
 }
 
 /// Reads the next line, of this number, carries it out and writes its answer. Returns the answer's tone, or `None` at
-/// the end. `held` has the bytes that were read and not used; `reads` counts the reads. If `goes_on`, a line with a
-/// fault is answered.
+/// the end. `held` has the bytes that were read and not used; `reads` counts the reads. The manner says whether a line
+/// with a fault is answered, and in which form answers are written.
 pub fn answer_next<T: Threads + Wait + Sync, V: Server, R: Source, W: Sink>(
     rt: &T,
     alloc: Global,
     lifters: u32,
-    goes_on: bool,
+    manner: Manner,
     number: u64,
     server: &mut V,
     held: &mut Vec<u8>,
@@ -146,7 +178,7 @@ pub fn answer_next<T: Threads + Wait + Sync, V: Server, R: Source, W: Sink>(
     requires calls { R.calls reader.old ≡ reads.old }
     ensures calls { R.calls reader.new ≡ reads.new }
     ensures reads { reads.new ≤ 16777216 }
-    ensures outcome { NextOutcome goes_on number (V.answering (V.scene server.old) lifters) (V.state server.old)
+    ensures outcome { NextOutcome manner number (V.answering (V.scene server.old) lifters) (V.state server.old)
         (V.state server.new) (prepend_known held.old.items (R.remaining reader.old))
         (prepend_known held.new.items (R.remaining reader.new)) (R.remaining reader.new)
         (W.contents writer.old) (W.contents writer.new) result }
@@ -160,11 +192,11 @@ pub fn answer_next<T: Threads + Wait + Sync, V: Server, R: Source, W: Sink>(
 {
     match next_line(alloc, held, reads, reader)? {
         Next::Line(line) => {
-            let tone = answer_line(rt, alloc, lifters, goes_on, number, server, &line, writer)?;
+            let tone = answer_line(rt, alloc, lifters, manner, number, server, &line, writer)?;
             Ok(Some(tone))
         }
         Next::TooLong => {
-            let tone = answer_too_long(goes_on, number, held, reads, reader, writer)?;
+            let tone = answer_too_long(alloc, manner, number, held, reads, reader, writer)?;
             Ok(Some(tone))
         }
         Next::End => Ok(None),

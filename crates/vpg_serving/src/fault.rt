@@ -2,6 +2,7 @@
 ghost use Rattle.std.specs.Prelude.{◌≡◌};
 
 use crate::serving::ServeFault;
+use std::alloc::AllocError;
 use thiserror::Error;
 use vpg_faults::OpenFault;
 use vpg_script::{LineFault, NextFault};
@@ -26,6 +27,16 @@ pub enum RunFault {
     /// Others used the server's office.
     #[error("Stray")]
     Stray,
+}
+
+impl From<AllocError> for RunFault {
+    ghost use Rattle.vpg_serving.specs.declared.fault.RunFault.TheVariants.{Memory};
+
+    ghost from_gives = { λ _ stop. stop ≡ Memory };
+
+    fn from(_e: AllocError) -> RunFault {
+        RunFault::Memory
+    }
 }
 
 impl From<ServeFault> for RunFault {

@@ -9,6 +9,7 @@ ghost use Rattle.vpg_serving.specs.Manners.{MannerOutcome};
 
 use crate::answering::answer_next;
 use crate::fault::RunFault;
+use crate::framing::Form;
 use crate::tone::Tone;
 use std::alloc::{AllocError, Global};
 use std::sync::Wait;
@@ -70,7 +71,7 @@ pub trait Server {
         ensures scene { OnOk result (scene self.new ≡ scene self.old) };
 }
 
-/// How a script goes on after refusals and lines with a fault.
+/// How a script goes on after refusals and lines with a fault, and the form of its answers.
 #[derive(Clone, Copy, Debug, PartialEq, Eq)]
 pub struct Manner {
     /// The first refusal ends the script.
@@ -78,6 +79,8 @@ pub struct Manner {
     /// A line with a fault is answered `refused Word`, `refused Args` or `refused TooLong`, and the script goes on.
     /// Else it ends there.
     pub goes_on: bool,
+    /// Each answer is written in this form.
+    pub form: Form,
 }
 
 /// The end of a script with its lines answered.
@@ -150,16 +153,7 @@ pub fn answer_script_as<T: Threads + Wait + Sync, V: Server, R: Source, W: Sink>
     let mut failed = false;
     'lines: loop {
         match answer_next(
-            rt,
-            alloc,
-            lifters,
-            manner.goes_on,
-            number,
-            server,
-            &mut held,
-            &mut reads,
-            reader,
-            writer,
+            rt, alloc, lifters, manner, number, server, &mut held, &mut reads, reader, writer,
         ) {
             Ok(Some(tone)) => {
                 let last = is_last(tone, manner);
@@ -205,6 +199,7 @@ pub fn answer_script<T: Threads + Wait + Sync, V: Server, R: Source, W: Sink>(
     let plain = Manner {
         is_strict: false,
         goes_on: false,
+        form: Form::Plain,
     };
     match answer_script_as(rt, alloc, lifters, plain, server, reader, writer) {
         Ok(_) => Ok(()),

@@ -47,8 +47,8 @@ returns-then-last-clause-output g c =
     let mid = g.V.Server.state c.lines.server in
     let new = g.V.Server.state c.answer_next.new.server in
     let serves = g.V.Server.answering (g.V.Server.scene first) c.args.lifters in
-    let outcome = subst (λ (o : Option Tone). NextOutcome c.args.manner.goes_on c.lines.number serves mid new a b left w after (Ok o)) c.in-Ok-Some.field-0-is
-    (subst (λ (s : g.V.Server.Scene). NextOutcome c.args.manner.goes_on c.lines.number (g.V.Server.answering s c.args.lifters) mid new a b left w after (Ok c.in-Ok-Some.field-0)) c.lines.invariant.same c.in-Ok-Some.ensures.outcome) in
+    let outcome = subst (λ (o : Option Tone). NextOutcome c.args.manner c.lines.number serves mid new a b left w after (Ok o)) c.in-Ok-Some.field-0-is
+    (subst (λ (s : g.V.Server.Scene). NextOutcome c.args.manner c.lines.number (g.V.Server.answering s c.args.lifters) mid new a b left w after (Ok c.in-Ok-Some.field-0)) c.lines.invariant.same c.in-Ok-Some.ensures.outcome) in
     refused_there c.args.manner (g.V.Server.answering (g.V.Server.scene first) c.args.lifters) (g.V.Server.state first) mid new (g.R.Source.remaining c.args.reader.now) a b left
     (g.W.Sink.contents c.args.writer.now) w after so.0 so.1 c.lines.number c.in-Ok-Some.tone so.2.0 so.2.1 outcome (sym c.is_last-last.ensures ∙ c.if-last.true)
 
@@ -64,7 +64,7 @@ returns-in-Err-clause-output g c =
     let mid = g.V.Server.state c.lines.server in
     let new = g.V.Server.state c.answer_next.new.server in
     let serves = g.V.Server.answering (g.V.Server.scene first) c.args.lifters in
-    let outcome = subst (λ (s : g.V.Server.Scene). NextOutcome c.args.manner.goes_on c.lines.number (g.V.Server.answering s c.args.lifters) mid new a b left w after (Err c.in-Err.stop)) c.lines.invariant.same c.in-Err.ensures.outcome in
+    let outcome = subst (λ (s : g.V.Server.Scene). NextOutcome c.args.manner c.lines.number (g.V.Server.answering s c.args.lifters) mid new a b left w after (Err c.in-Err.stop)) c.lines.invariant.same c.in-Err.ensures.outcome in
     stopped c.args.manner serves (g.V.Server.state first) mid (g.R.Source.remaining c.args.reader.now) a (g.W.Sink.contents c.args.writer.now) w so.0 so.1 so.2.0 new b left after c.lines.number
     c.in-Err.stop so.2.1 outcome
 
@@ -80,8 +80,8 @@ lines-preserved g c =
     let mid = g.V.Server.state c.lines.server in
     let new = g.V.Server.state c.answer_next.new.server in
     let serves = g.V.Server.answering (g.V.Server.scene first) c.args.lifters in
-    let o = subst (λ (o : Option Tone). NextOutcome c.args.manner.goes_on c.lines.number serves mid new a b left w after (Ok o)) c.in-Ok-Some.field-0-is
-    (subst (λ (s : g.V.Server.Scene). NextOutcome c.args.manner.goes_on c.lines.number (g.V.Server.answering s c.args.lifters) mid new a b left w after (Ok c.in-Ok-Some.field-0)) c.lines.invariant.same c.in-Ok-Some.ensures.outcome) in
+    let o = subst (λ (o : Option Tone). NextOutcome c.args.manner c.lines.number serves mid new a b left w after (Ok o)) c.in-Ok-Some.field-0-is
+    (subst (λ (s : g.V.Server.Scene). NextOutcome c.args.manner c.lines.number (g.V.Server.answering s c.args.lifters) mid new a b left w after (Ok c.in-Ok-Some.field-0)) c.lines.invariant.same c.in-Ok-Some.ensures.outcome) in
     let fewer = subst (λ (o : Option Tone). OnSome o (lines_left c.answer_next.new.reads (vec_len c.answer_next.new.held) < lines_left c.lines.reads (vec_len c.lines.held))) c.in-Ok-Some.field-0-is c.in-Ok-Some.ensures.fewer in
     record {
       same = c.in-Ok-Some.ensures.scene ∙ c.lines.invariant.same;
@@ -94,8 +94,8 @@ lines-preserved g c =
         so.0 ++ o.0 ∷ [],
         so.1 ++ o.1 ∷ [],
         (
-          went_more c.args.manner serves (g.V.Server.state first) mid new (g.R.Source.remaining c.args.reader.now) a b (g.W.Sink.contents c.args.writer.now) w after so.0 so.1 o.0 o.1
-              so.2.0 o.2.0 o.2.1 o.2.3
+          went_more c.args.manner serves (g.V.Server.state first) mid new (g.R.Source.remaining c.args.reader.now) a b (g.W.Sink.contents c.args.writer.now) w after so.0 so.1 c.lines.number o.0 o.1
+              so.2.0 so.2.1 o.2.0 o.2.1 o.2.3
               (ap (λ (t : Tone). is_refused t && c.args.manner.is_strict) (sym o.2.2) ∙ (sym c.is_last-last.ensures ∙ c.if-last.false)),
           omega (arith, so.2.1, length-append so.0 (o.0 ∷ [])),
           c.has_failed-fails.ensures ∙ (ap₂ (λ (x y : Bool). x || y) so.2.2 (ap is_failed o.2.2) ∙ sym (failed_more so.1 o.1)),
