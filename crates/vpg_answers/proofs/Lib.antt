@@ -1,3 +1,5 @@
+pub mod Asserted
+pub mod Looked
 pub mod Moving
 pub mod Offering
 pub mod One

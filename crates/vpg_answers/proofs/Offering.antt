@@ -6,7 +6,7 @@ use Rattle.vpg_guards.specs.declared.tri.Tri.{Tri}
 use Rattle.vpg_guards.specs.declared.tri.Tri.TheVariants.{No, Unknown, Yes}
 use Rattle.vpg_diagram.specs.declared.clause.Literal.{Literal}
 use Rattle.vpg_diagram.proofs.Lists.{All-append}
-use Rattle.vpg_game.specs.Game.{NamedGame}
+use Rattle.vpg_game.specs.Game.{NamedGame, graph_of}
 use Rattle.vpg_diagram.specs.DiagramText.{NamedDiagram}
 use Rattle.vpg_verdict.specs.declared.which.Which.{Which}
 use Rattle.vpg_verdict.specs.declared.which.Which.TheVariants.{Hopeful, Dual}
@@ -14,13 +14,23 @@ use Rattle.vpg_partial.specs.declared.decision.Decision.{Decision}
 use Rattle.vpg_texts.specs.Scene.{Scene, scene_of}
 use Rattle.vpg_texts.specs.Text.{is_value}
 use Rattle.vpg_why.specs.Offered.{IsShown, IsOffer}
-use Rattle.vpg_why.specs.Suffices.{choice}
+use Rattle.vpg_why.specs.Suffices.{IsSettled, choice}
 use Rattle.vpg_why.specs.declared.offering.Offer.{Offer}
 use Rattle.vpg_why.specs.declared.offering.Offer.TheVariants as offers
+use Rattle.vpg_why.specs.declared.question.Aim.TheVariants as aims
 use Rattle.vpg_why.specs.declared.question.Limits.{Limits}
+use Rattle.vpg_why.specs.declared.question.Question.TheVariants as asks
 use Rattle.vpg_why.specs.declared.question.Shown.{Shown}
+use Rattle.vpg_why.specs.declared.searching.Example.{Example}
+use Rattle.vpg_winners.specs.Decided.{IsDecidedAs, IsDecidedExact}
+use Rattle.vpg_winners.specs.declared.deciding.Decided.{Decided}
+use Rattle.vpg_winners.specs.declared.deciding.Decided.TheVariants as decides
+use Rattle.vpg_answers.specs.declared.offers.Fact.{Fact}
+use Rattle.vpg_answers.specs.declared.offers.Fact.TheVariants as facts
 use Rattle.vpg_answers.specs.declared.offers.Offered.{Offered}
-use Rattle.vpg_answers.specs.Offers.{IsVerdictShown, IsOfferOf, IsOffered, both_if, AreOffers}
+use Rattle.vpg_answers.specs.declared.offers.Prospect.{Prospect}
+use Rattle.vpg_answers.specs.declared.offers.Prospect.TheVariants as prospects
+use Rattle.vpg_answers.specs.Offers.{IsFact, IsVerdictShown, IsProspect, IsOffered, both_if, AreOffers}
 
 not_open : (t : Tri) → (t ≡ Unknown → ⊥) → is_value t Unknown ≡ false
 not_open No known = refl
@@ -75,11 +85,46 @@ offered_named n m [] is named k d l = absurd (omega (arith, l))
 offered_named n m (o ∷ rest) is named zero d l = subst (λ (x : ℕ). o.choice.feature < x) (sym is) named.0
 offered_named n m (o ∷ rest) is named (suc k) d l = offered_named n m rest is named.1 k d (omega (arith, l))
 
--- what one more choice makes of a vertex, as the crate below says it
+-- what one more choice makes of a vertex, as the crates below say it
 module _ (game : NamedGame) (diagram : NamedDiagram) (limits : Limits) (vertex : ℕ) (chosen : List Literal) where
+  abbrev Is : Prospect → Type 0
+  Is prospect = IsProspect (scene_of game diagram) limits vertex chosen prospect
+
   shown_in : (which : Which) (answer : Shown) → IsShown limits.rounds game diagram vertex chosen which answer → IsVerdictShown (scene_of game diagram) limits vertex chosen which answer
   shown_in which answer so = record { yes = so.yes; no = so.no; settled = so.settled }
 
-  pub offer_in : (offer : Offer) → IsOffer limits.rounds game diagram vertex chosen offer → IsOfferOf (scene_of game diagram) limits vertex chosen offer
-  offer_in offers.Conflict so = so
-  offer_in (offers.Verdict hopeless sure) so = (so.0, shown_in Hopeful hopeless so.1, shown_in Dual sure so.2)
+  pub conflict_in : (offer : Offer) → offer ≡ offers.Conflict → IsOffer limits.rounds game diagram vertex chosen offer → Is prospects.Conflict
+  conflict_in offer is so = subst (λ (o : Offer). IsOffer limits.rounds game diagram vertex chosen o) is so
+
+  pub prospect_in : (offer : Offer) (hopeless sure : Shown) (fact : Fact) → offer ≡ offers.Verdict hopeless sure → IsOffer limits.rounds game diagram vertex chosen offer →
+      IsFact (scene_of game diagram) limits vertex chosen fact → Is (prospects.Left hopeless sure fact)
+  prospect_in offer hopeless sure fact is so wins =
+      let o = subst (λ (x : Offer). IsOffer limits.rounds game diagram vertex chosen x) is so in
+      (o.0, shown_in Hopeful hopeless o.1, shown_in Dual sure o.2, wins)
+
+  -- the winner, as it was decided
+  abbrev Decided_is : Decided → Type 0
+  Decided_is decided = IsDecidedAs (graph_of game) diagram.lines chosen vertex decided
+
+  abbrev Settled : Which → Type 0
+  Settled which = IsSettled game diagram limits (asks.Lost (aims.Won which vertex)) chosen
+
+  abbrev Fact_is : Fact → Type 0
+  Fact_is fact = IsFact (scene_of game diagram) limits vertex chosen fact
+
+  pub fact_won : (decided : Decided) → decided ≡ decides.Won → Decided_is decided → Fact_is facts.Won
+  fact_won decided is so = subst Decided_is is so
+
+  pub fact_lost : (decided : Decided) → decided ≡ decides.Lost → Decided_is decided → Fact_is facts.Lost
+  fact_lost decided is so = subst Decided_is is so
+
+  pub fact_mixed : (decided : Decided) (won lost : Example) → decided ≡ decides.Mixed won lost → Decided_is decided → Fact_is facts.Mixed
+  fact_mixed decided won lost is so =
+      let d = subst Decided_is is so in
+      ((won.features.items, d.0.remaining, d.0.wins), (lost.features.items, d.1.remaining, d.1.wins))
+
+  pub fact_empty : (decided : Decided) → decided ≡ decides.Empty → Decided_is decided → Fact_is facts.Empty
+  fact_empty decided is so = subst Decided_is is so
+
+  pub fact_open : (decided : Decided) → decided ≡ decides.Unsettled → (Settled Hopeful → Settled Dual → IsDecidedExact decided) → Fact_is facts.Unsettled
+  fact_open decided is settled both = subst IsDecidedExact is (settled (both.0.0, both.0.1) (both.1.0, both.1.1))

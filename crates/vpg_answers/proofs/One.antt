@@ -40,6 +40,7 @@ use Rattle.vpg_answers.proofs.OneOffers.{offers_one}
 use Rattle.vpg_answers.proofs.OneParts.{tells_part_one}
 use Rattle.vpg_answers.proofs.OneTraces.{traced_one}
 use Rattle.vpg_answers.proofs.OneRepairs.{forced_one, repair_one}
+use Rattle.vpg_answers.proofs.Asserted.{exact_one}
 use Rattle.vpg_answers.proofs.OneWinners.{tells_decided_one, tells_winners_one}
 
 -- ---- doubts
@@ -228,6 +229,7 @@ module _ (scene : Scene) (limits others : Limits) (decisions : List Decision) (i
   tells_one behaviour (queries.OfPage question) hopeful dual one other a b sure also =
       done_one (TellsOfPage scene limits question decisions) (TellsOfPage scene others question decisions) one other
       (λ first second. of_page_one question one.text other.text first second sure also) a b
+  tells_one behaviour (queries.OfExact verdict vertex) hopeful dual one other a b sure also = exact_one scene limits others verdict vertex decisions one other a b sure also
 
 pub answers_are_one : AnswersAreOne
 answers_are_one behaviour scene limits others query decisions hopeful dual one other a b sure also =

@@ -64,21 +64,21 @@ module _ (names : List (List ℕ)) (identifier : ℕ) (won lost : List Bool) whe
   won_first true second text is sure = refl
   won_first false second text is sure =
       let last : List ℕ = (product_word second ++ listed lost) ++ codes "\n" in
-      absurd (sure (inr (inr (inr (inr (inr (
+      absurd (sure (inr (inr (inr (inr (inr (inr (
         blank_number identifier,
         (listed won ++ codes "\n") ++ last,
         is ∙ in_won (codes "mixed") (blank_number identifier) (codes "\n") (codes "some product") (listed won) last,
-      )))))))
+      ))))))))
 
   lost_first : (first second : Bool) (text : List ℕ) → text ≡ mixed_text names identifier won first lost second → ¬ (HasDoubt text) → second ≡ true
   lost_first first true text is sure = refl
   lost_first first false text is sure =
       let front : List ℕ = product_word first ++ listed won in
-      absurd (sure (inr (inr (inr (inr (inr (
+      absurd (sure (inr (inr (inr (inr (inr (inr (
         blank_number identifier ++ (codes "\n" ++ front),
         listed lost ++ codes "\n",
         is ∙ in_lost (codes "mixed") (blank_number identifier) (codes "\n") front (codes "some product") (listed lost),
-      )))))))
+      ))))))))
 
 -- ---- one page
 

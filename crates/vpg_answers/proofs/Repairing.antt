@@ -1,10 +1,10 @@
 -- What is told of needs and repairs.
-use Rattle.std.proofs.Common.{◌≡◌, ◌≢◌, ℕ, zero, suc, ◌<◌, ◌&&◌, Bool, true, false, List, [], ◌∷◌, ◌++◌, length, refl, sym, ap, ◌∙◌, subst, inl, inr, arith}
-use Rattle.std.specs.Prelude.{All, IsTrue, nat_eq, slice_index}
-use Rattle.std.proofs.lemmas.Bool.{eqb-false, eqb-true}
+use Rattle.std.proofs.Common.{◌≡◌, ℕ, zero, suc, ◌<◌, Bool, true, false, List, [], ◌∷◌, ◌++◌, length, refl, sym, ap, ◌∙◌, subst, inl, inr, arith}
+use Rattle.std.specs.Prelude.{All, IsTrue, slice_index}
 use Rattle.std.specs.List.{AllByRecursion}
 use Rattle.vpg_diagram.specs.FeatureDiagram.{feature_count}
 use Rattle.vpg_diagram.specs.declared.clause.Literal.{Literal}
+use Rattle.vpg_diagram.proofs.Lists.{Contains-nil}
 use Rattle.vpg_game.specs.Game.{graph_of, vertex_ids}
 use Rattle.vpg_measure.specs.Orders.{OrderView, IsOrder}
 use Rattle.vpg_measure.specs.TwoGames.{top_for}
@@ -16,35 +16,27 @@ use Rattle.vpg_texts.proofs.Shown.{named_below}
 use Rattle.vpg_why.specs.Explained.{choices}
 use Rattle.vpg_why.specs.Found.{AreFoundNeeds, AreNeedsExact}
 use Rattle.vpg_why.specs.Products.{NoneMeets}
-use Rattle.vpg_why.specs.Repaired.{IsRemedy, IsRemedyExact, IsRepair}
+use Rattle.vpg_why.specs.Repaired.{IsRepair}
 use Rattle.vpg_why.specs.declared.forcing.Demand.{Demand}
 use Rattle.vpg_why.specs.declared.forcing.Demand.TheVariants as demands
 use Rattle.vpg_why.specs.declared.forcing.Forced.{Forced}
 use Rattle.vpg_why.specs.declared.question.Aim.{Aim}
+use Rattle.vpg_why.specs.declared.question.Aim.TheVariants as aims
 use Rattle.vpg_why.specs.declared.question.Limits.{Limits}
-use Rattle.vpg_why.specs.declared.repairing.Remedy.{Remedy}
-use Rattle.vpg_why.specs.declared.repairing.Remedy.TheVariants as remedies
-use Rattle.vpg_why.specs.declared.repairing.Retraction.{Retraction}
-use Rattle.vpg_why.proofs.Next.{both_hold}
-use Rattle.vpg_answers.specs.Answers.{identifier_of, IsHopelessBy, TellsRepair, TellsRetractions, Appends}
-use Rattle.vpg_answers.specs.Repairs.{AreSingles}
-use Rattle.vpg_answers.specs.Room.{RoundsSettleEach}
-use Rattle.vpg_answers.specs.Texts.{none_line, other_line, several_text, singles_text, unsettled_line}
-use Rattle.vpg_answers.proofs.Trying.{given_named, repair_weaker, singles_named, singles_weaker}
+use Rattle.vpg_answers.specs.Answers.{identifier_of, HasSingle, TellsRepair, TellsRetractions, Appends, all_shown}
+use Rattle.vpg_answers.specs.Repairs.{AreTried, HasWinner, IsEffect, IsLostBy}
+use Rattle.vpg_answers.specs.Room.{EachSearchEnds, SearchEnds}
+use Rattle.vpg_answers.specs.Texts.{marked_text, none_line, other_line, several_text, singles_text, unsettled_line}
+use Rattle.vpg_answers.specs.declared.retracting.Effect.{Effect}
+use Rattle.vpg_answers.specs.declared.retracting.Effect.TheVariants as effects
+use Rattle.vpg_answers.specs.declared.retracting.Tried.{Tried}
+use Rattle.vpg_answers.proofs.Trying.{given_named, tried_named}
 
 -- literals of the diagram's features name some
 pub literals_below : (n m : ℕ) (listed : List Literal) → n ≡ m → AllByRecursion (λ l. l.feature < m) listed → All (λ l. l.feature < n) listed
 literals_below n m [] is named k d less = absurd (omega (arith, less))
 literals_below n m (l ∷ rest) is named zero d less = subst (λ (x : ℕ). l.feature < x) (sym is) named.0
 literals_below n m (l ∷ rest) is named (suc k) d less = literals_below n m rest is named.1 k d (omega (arith, less))
-
--- a list that was told to be empty is, and else it is not
-pub none_listed : {X : Type 0} (n : ℕ) (listed : List X) → n ≡ length listed → (b : Bool) → b ≡ nat_eq n 0 → b ≡ true → listed ≡ []
-none_listed n [] len b e f = refl
-none_listed n (x ∷ rest) len b e f = let none : n ≡ 0 = eqb-true n 0 (sym e ∙ f) in absurd (omega (arith, none, len))
-
-pub some_listed : {X : Type 0} (n : ℕ) (listed : List X) → n ≡ length listed → (b : Bool) → b ≡ nat_eq n 0 → b ≡ false → listed ≢ []
-some_listed {X = X} n listed len b e f none = let some : n ≡ 0 → ⊥ = eqb-false n 0 (sym e ∙ f) in some (len ∙ ap (λ (xs : List X). length xs) none)
 
 module _ (order : OrderView) where
   abbrev page : Scene
@@ -65,19 +57,14 @@ module _ (order : OrderView) where
   pub needs_short : (found : Demand) (Settles : Type 0) → found ≡ demands.Unsettled → (Settles → AreNeedsExact found) → Settles → ⊥
   needs_short found Settles is settled = subst (λ (d : Demand). Settles → AreNeedsExact d) is settled
 
-  -- what to retract, as it was found
-  pub remedy_retracts : (vertex : ℕ) (found : Remedy) (r : Retraction) → found ≡ remedies.Retract r → IsRemedy order.game order.diagram Hopeful vertex order.decisions found →
-      IsRepair (IsHopelessBy page vertex) order.decisions r.kept.items r.retracted.items r.exact
-  remedy_retracts vertex found r is = subst (λ (m : Remedy). IsRemedy order.game order.diagram Hopeful vertex order.decisions m) is
+  -- ---- what to retract
 
-  pub remedy_is_none : (vertex : ℕ) (found : Remedy) → found ≡ remedies.Nothing → IsRemedy order.game order.diagram Hopeful vertex order.decisions found → IsHopelessBy page vertex []
-  remedy_is_none vertex found is = subst (λ (m : Remedy). IsRemedy order.game order.diagram Hopeful vertex order.decisions m) is
+  abbrev Ends : ℕ → Limits → Type 0
+  Ends vertex limits = EachSearchEnds page limits (aims.Won Hopeful vertex) (choices order.decisions)
 
-  pub remedy_settled : (found : Remedy) (r : Retraction) (Settles : Type 0) → found ≡ remedies.Retract r → (Settles → IsRemedyExact found) → Settles → IsTrue r.exact
-  remedy_settled found r Settles is settled = subst (λ (m : Remedy). Settles → IsRemedyExact m) is settled
-
-  pub remedy_short : (found : Remedy) (Settles : Type 0) → found ≡ remedies.Unsettled → (Settles → IsRemedyExact found) → Settles → ⊥
-  remedy_short found Settles is settled = subst (λ (m : Remedy). Settles → IsRemedyExact m) is settled
+  -- a search from no decision is one of these
+  pub none_ends : (vertex : ℕ) (limits : Limits) → (SearchEnds page limits (aims.Won Hopeful vertex) [] → ⊥) → Ends vertex limits → ⊥
+  none_ends vertex limits short s = short (s [] (λ l h. absurd (Contains-nil l h)))
 
   module _ (names : List (List ℕ)) (names_is : names ≡ order.diagram.names) where
     module _ (is : IsOrder order) where
@@ -89,72 +76,86 @@ module _ (order : OrderView) where
       needs_below listed items same named = subst (λ (ls : List Literal). All (λ l. l.feature < length names) ls) (sym same)
           (literals_below (length names) (feature_count order.diagram.lines) items same_length named)
 
-      pub singles_below : (Suffices : List Literal → Type 0) (exact : Bool) (listed items : List Decision) → listed ≡ items → AreSingles Suffices exact [] order.decisions items →
-          All (λ d. d.feature < length names) listed
-      singles_below Suffices exact listed items same are = subst (λ (ds : List Decision). All (λ d. d.feature < length names) ds) (sym same)
-          (named_below order.diagram.lines (length names) items (singles_named Suffices (λ c. c.feature < feature_count order.diagram.lines) are is.named) same_length)
+      pub tried_below : (limits : Limits) (vertex : ℕ) (was_hopeless : Bool) (listed items : List Tried) → listed ≡ items →
+          AreTried page limits vertex was_hopeless order.decisions (length order.decisions) items → All (λ t. t.decision.feature < length names) listed
+      tried_below limits vertex was_hopeless listed items same are = subst (λ (ts : List Tried). All (λ t. t.decision.feature < length names) ts) (sym same)
+          (tried_named page limits vertex was_hopeless order.decisions order.diagram.lines (length names) items same_length is.named are)
 
       pub given_below : (Suffices : List Literal → Type 0) (exact : Bool) (kept listed items : List Decision) → listed ≡ items → IsRepair Suffices order.decisions kept items exact →
           All (λ d. d.feature < length names) listed
       given_below Suffices exact kept listed items same repair = subst (λ (ds : List Decision). All (λ d. d.feature < length names) ds) (sym same)
           (named_below order.diagram.lines (length names) items (given_named Suffices (λ c. c.feature < feature_count order.diagram.lines) repair.split is.named) same_length)
 
-    module _ (limits : Limits) (vertex : ℕ) (before after : List ℕ) where
-      abbrev renamed : (List (List ℕ) → List ℕ) → Type 0
-      renamed text = after ≡ before ++ text names
+    module _ (limits : Limits) (vertex : ℕ) (was_hopeless : Bool) (before after : List ℕ) where
+      abbrev Told : Type 0
+      Told = Appends (TellsRetractions page limits vertex was_hopeless order.decisions) before after
 
-      as_named : (text : List (List ℕ) → List ℕ) → renamed text → after ≡ before ++ text order.diagram.names
+      abbrev Tries : List Tried → Type 0
+      Tries tried = AreTried page limits vertex was_hopeless order.decisions (length order.decisions) tried
+
+      as_named : (text : List (List ℕ) → List ℕ) → after ≡ before ++ text names → after ≡ before ++ text order.diagram.names
       as_named text appended = appended ∙ ap (λ (ns : List (List ℕ)). before ++ text ns) names_is
 
-      pub told_singles : (items listed : List Decision) (exact : Bool) → listed ≡ items → items ≢ [] → AreSingles (IsHopelessBy page vertex) exact [] order.decisions items →
-          (RoundsSettleEach page limits.rounds Hopeful (choices order.decisions) → IsTrue exact) → after ≡ before ++ singles_text names listed exact → Appends (TellsRetractions page limits vertex order.decisions) before after
-      told_singles items listed exact same some are settled appended = (
-        singles_text order.diagram.names items exact,
+      pub told_singles : (tried : List Tried) (exact : Bool) → exact ≡ all_shown tried → HasSingle tried → Tries tried → after ≡ before ++ singles_text names tried exact → Told
+      told_singles tried exact same some are appended = (
+        singles_text order.diagram.names tried (all_shown tried),
         (
-          inl (items, exact, some, are, refl, settled),
-          as_named (λ ns. singles_text ns items exact) (subst (λ (ds : List Decision). after ≡ before ++ singles_text names ds exact) same appended),
+          inl (tried, are, inl (some, refl)),
+          as_named (λ ns. singles_text ns tried (all_shown tried)) (subst (λ (e : Bool). after ≡ before ++ singles_text names tried e) same appended),
         ),
       )
 
-      pub told_several : (alone : Bool) (r : Retraction) (listed : List Decision) (exact : Bool) → listed ≡ r.retracted.items → exact ≡ (alone && r.exact) →
-          AreSingles (IsHopelessBy page vertex) alone [] order.decisions [] → (RoundsSettleEach page limits.rounds Hopeful (choices order.decisions) → IsTrue alone) →
-          IsRepair (IsHopelessBy page vertex) order.decisions r.kept.items r.retracted.items r.exact → (RoundsSettleEach page limits.rounds Hopeful (choices order.decisions) → IsTrue r.exact) →
-          after ≡ before ++ several_text names listed exact → Appends (TellsRetractions page limits vertex order.decisions) before after
-      told_several alone r listed exact same both are sure repair settled appended = (
-        several_text order.diagram.names r.retracted.items exact,
+      pub told_several : (tried : List Tried) (exact sure : Bool) (kept given listed : List Decision) → listed ≡ given → exact ≡ all_shown tried → (HasSingle tried → ⊥) → Tries tried →
+          IsRepair (IsLostBy page vertex) order.decisions kept given sure → (Ends vertex limits → IsTrue sure) → after ≡ before ++ several_text names listed sure tried exact → Told
+      told_several tried exact sure kept given listed same also none are repair settled appended = (
+        several_text order.diagram.names given sure tried (all_shown tried),
         (
-          inr (inl (
-            r.kept.items,
-            r.retracted.items,
-            exact,
-            singles_weaker (IsHopelessBy page vertex) alone exact (λ t. (shown_both t).0) are,
-            repair_weaker (IsHopelessBy page vertex) r.exact exact (λ t. (shown_both t).1) order.decisions r.kept.items r.retracted.items repair,
-            refl,
-            λ s. both ∙ both_true alone r.exact (sure s) (settled s),
-          )),
-          as_named (λ ns. several_text ns r.retracted.items exact) (subst (λ (ds : List Decision). after ≡ before ++ several_text names ds exact) same appended),
+          inl (tried, are, inr (none, inl (kept, given, sure, repair, refl, settled))),
+          as_named (λ ns. several_text ns given sure tried (all_shown tried))
+              (subst (λ (e : Bool). after ≡ before ++ several_text names given sure tried e) also
+              (subst (λ (ds : List Decision). after ≡ before ++ several_text names ds sure tried exact) same appended)),
         ),
       )
-        where
-          shown_both : IsTrue exact → IsTrue alone × IsTrue r.exact
-          shown_both t = both_hold alone r.exact (sym both ∙ t)
 
-          both_true : (a b : Bool) → IsTrue a → IsTrue b → IsTrue (a && b)
-          both_true true b s t = t
-          both_true false b s t = s
+      pub told_open : (tried : List Tried) → (HasSingle tried → ⊥) → Tries tried → (Ends vertex limits → ⊥) → after ≡ before ++ marked_text names 0 tried false → Told
+      told_open tried none are short appended =
+          (marked_text order.diagram.names 0 tried false, (inl (tried, are, inr (none, inr (short, refl))), as_named (λ ns. marked_text ns 0 tried false) appended))
 
-      pub told_no_repair : IsHopelessBy page vertex [] → after ≡ before ++ none_line → Appends (TellsRetractions page limits vertex order.decisions) before after
-      told_no_repair none appended = (none_line, (inr (inr (inl (none, refl))), appended))
-
-      pub told_unsettled_repair : (RoundsSettleEach page limits.rounds Hopeful (choices order.decisions) → ⊥) → after ≡ before ++ unsettled_line → Appends (TellsRetractions page limits vertex order.decisions) before after
-      told_unsettled_repair short appended = (unsettled_line, (inr (inr (inr (short, refl))), appended))
+      pub told_no_repair : IsLostBy page vertex [] → after ≡ before ++ none_line → Told
+      told_no_repair none appended = (none_line, (inr (none, refl), appended))
 
   module _ (limits : Limits) (vertex : ℕ) (before after : List ℕ) where
-    pub told_hopeless : slice_index order.hopeful vertex ≡ top_for Hopeful (graph_of order.game) → Appends (TellsRetractions page limits vertex order.decisions) before after →
-        Appends (TellsRepair page limits vertex order.decisions order.hopeful) before after
+    abbrev IsHigh : Type 0
+    IsHigh = slice_index order.hopeful vertex ≡ top_for Hopeful (graph_of order.game)
+
+    abbrev Answered : Type 0
+    Answered = Appends (TellsRepair page limits vertex order.decisions order.hopeful) before after
+
+    pub told_hopeless : IsHigh → Appends (TellsRetractions page limits vertex true order.decisions) before after → Answered
     told_hopeless high (text, (tells, appended)) = (text, (inl (high, tells), appended))
 
-    pub told_possible : (identifier : ℕ) → identifier ≡ slice_index (vertex_ids order.game.vertices) vertex → ¬ (slice_index order.hopeful vertex ≡ top_for Hopeful (graph_of order.game)) →
-        after ≡ before ++ other_line Hopeful identifier → Appends (TellsRepair page limits vertex order.decisions order.hopeful) before after
-    told_possible identifier same low appended =
-        (other_line Hopeful (identifier_of page vertex), (inr (low, refl), appended ∙ ap (λ (n : ℕ). before ++ other_line Hopeful n) same))
+    -- the winner on the page itself
+    pub page_effect : (given : List Decision) (e f : Effect) → given ≡ order.decisions → e ≡ f → IsEffect page limits vertex false (choices given) e → IsEffect page limits vertex false (choices order.decisions) f
+    page_effect given e f same is so =
+        subst (λ (x : Effect). IsEffect page limits vertex false (choices order.decisions) x) is (subst (λ (ds : List Decision). IsEffect page limits vertex false (choices ds) e) same so)
+
+    pub page_lost : (given : List Decision) (e : Effect) → given ≡ order.decisions → (e ≡ effects.Won → ⊥) → (e ≡ effects.Unsettled → ⊥) → IsEffect page limits vertex false (choices given) e →
+        IsLostBy page vertex (choices order.decisions)
+    page_lost given e same not_won not_open so = subst (λ (ds : List Decision). IsLostBy page vertex (choices ds)) same (by e not_won not_open so)
+      where
+        by : (x : Effect) → (x ≡ effects.Won → ⊥) → (x ≡ effects.Unsettled → ⊥) → IsEffect page limits vertex false (choices given) x → IsLostBy page vertex (choices given)
+        by effects.Won a b s = absurd (a refl)
+        by effects.Possible a b s = s.0
+        by effects.Nothing a b s = s.0
+        by effects.Unsettled a b s = absurd (b refl)
+
+    pub told_lost_in_fact : ¬ IsHigh → IsLostBy page vertex (choices order.decisions) → Appends (TellsRetractions page limits vertex false order.decisions) before after → Answered
+    told_lost_in_fact low lost (text, (tells, appended)) = (text, (inr (low, inl (lost, tells)), appended))
+
+    pub told_possible : (identifier : ℕ) → identifier ≡ slice_index (vertex_ids order.game.vertices) vertex → ¬ IsHigh → HasWinner page vertex (choices order.decisions) →
+        after ≡ before ++ other_line Hopeful identifier → Answered
+    told_possible identifier same low winner appended =
+        (other_line Hopeful (identifier_of page vertex), (inr (low, inr (inl (winner, refl))), appended ∙ ap (λ (n : ℕ). before ++ other_line Hopeful n) same))
+
+    pub told_unsettled_page : ¬ IsHigh → (SearchEnds page limits (aims.Won Hopeful vertex) (choices order.decisions) → ⊥) → after ≡ before ++ unsettled_line → Answered
+    told_unsettled_page low short appended = (unsettled_line, (inr (low, inr (inr (short, refl))), appended))

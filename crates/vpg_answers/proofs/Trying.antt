@@ -1,100 +1,117 @@
 -- Trying each decision of a page alone, and each step of it.
-use Rattle.std.proofs.Common.{ℕ, suc, ◌+◌, ◌<◌, ◌≤◌, Bool, true, false, List, [], ◌∷◌, ◌++◌, length, take, drop, get_or, IsTrue, refl, sym, subst, append-nil, append_assoc, add-one}
+use Rattle.std.proofs.Common.{◌≡◌, ℕ, zero, suc, ◌+◌, ◌<◌, ◌≤◌, Bool, true, false, List, [], ◌∷◌, ◌++◌, length, map, take, get_or, refl, sym, ap, ap₂, ◌∙◌, subst, append-nil, add-one, arith}
+use Rattle.std.specs.Prelude.{All, IsTrue}
 use Rattle.std.specs.List.{AllByRecursion}
-use Rattle.std.proofs.Math.Seq.{take-suc, drop-cons}
-use Rattle.std.proofs.Math.ListN.{drop_of_length-le}
+use Rattle.std.proofs.Math.Seq.{take-length, take-suc}
+use Rattle.std.proofs.lemmas.List.{length-map, length-take-le, map-append}
+use Rattle.vpg_diagram.specs.DiagramText.{NamedDiagram}
+use Rattle.vpg_diagram.specs.FeatureDiagram.{Line, feature_count}
 use Rattle.vpg_diagram.specs.declared.clause.Literal.{Literal}
+use Rattle.vpg_game.specs.Game.{NamedGame}
+use Rattle.vpg_verdict.specs.declared.which.Which.TheVariants.{Hopeful}
+use Rattle.vpg_partial.specs.TableLaws.{AreChoicesOf}
 use Rattle.vpg_partial.specs.declared.decision.Decision.{Decision}
+use Rattle.vpg_texts.specs.Scene.{Scene, scene_of}
 use Rattle.vpg_why.specs.Explained.{choices}
-use Rattle.vpg_why.specs.Repaired.{KeepsOldest, ends, keeps, gives_up, IsRepair}
-use Rattle.vpg_answers.specs.Repairs.{AreSingles}
-use Rattle.vpg_answers.specs.Repairs as singles
+use Rattle.vpg_why.specs.Found.{IsFound, IsFoundExact}
+use Rattle.vpg_why.specs.Repaired.{KeepsOldest, ends, keeps, gives_up}
+use Rattle.vpg_why.specs.Suffices.{IsSettled}
+use Rattle.vpg_why.specs.declared.question.Aim.TheVariants as aims
+use Rattle.vpg_why.specs.declared.question.Limits.{Limits}
+use Rattle.vpg_why.specs.declared.question.Question.TheVariants as asks
+use Rattle.vpg_why.specs.declared.searching.Example.{Example}
+use Rattle.vpg_why.specs.declared.searching.Found.{Found}
+use Rattle.vpg_why.specs.declared.searching.Found.TheVariants as founds
+use Rattle.vpg_answers.specs.Repairs.{AreTried, HasWinner, HaveEffects, IsEffect, IsLostBy, without}
+use Rattle.vpg_answers.specs.Room.{RoundsSettle, SearchEnds}
+use Rattle.vpg_answers.specs.declared.retracting.Effect.{Effect}
+use Rattle.vpg_answers.specs.declared.retracting.Effect.TheVariants as effects
+use Rattle.vpg_answers.specs.declared.retracting.Tried.{Tried}
 
-clash : IsTrue false → ⊥
-clash e = cc e
+-- what is given up is of the decisions
+pub given_named : (Suffices : List Literal → Type 0) (P : Literal → Type 0) {exact : Bool} {before rest kept given : List Decision} → KeepsOldest Suffices exact before rest kept given →
+    AllByRecursion P (choices rest) → AllByRecursion P (choices given)
+given_named Suffices P ends named = tt
+given_named Suffices P (keeps a) named = given_named Suffices P a named.1
+given_named Suffices P (gives_up so a) named = (named.0, given_named Suffices P a named.1)
 
-module _ (Suffices : List Literal → Type 0) where
-  -- what is listed is of the decisions
-  pub singles_named : (P : Literal → Type 0) {exact : Bool} {before rest listed : List Decision} → AreSingles Suffices exact before rest listed →
-      AllByRecursion P (choices rest) → AllByRecursion P (choices listed)
-  singles_named P singles.ends named = tt
-  singles_named P (singles.frees lacks a) named = (named.0, singles_named P a named.1)
-  singles_named P (singles.stays so a) named = singles_named P a named.1
+-- what was tried names features that have names
+below : (n m : ℕ) (tried : List Tried) (decisions : List Decision) → n ≡ m → map (λ t. t.decision) tried ≡ decisions → AllByRecursion (λ c. c.feature < m) (choices decisions) →
+    All (λ t. t.decision.feature < n) tried
+below n m [] ds is same named k d less = absurd (omega (arith, less))
+below n m (t ∷ tried) [] is same named k d less = absurd (cc same)
+below n m (t ∷ tried) (e ∷ ds) is same named zero d less =
+    subst (λ (f : ℕ). f < n) (ap (λ (x : Decision). x.feature) (sym (first same))) (subst (λ (x : ℕ). e.feature < x) (sym is) named.0)
+  where
+    first : t.decision ∷ map (λ u. u.decision) tried ≡ e ∷ ds → t.decision ≡ e
+    first s = cc s
+below n m (t ∷ tried) (e ∷ ds) is same named (suc k) d less = below n m tried ds is (rest same) named.1 k d (omega (arith, less))
+  where
+    rest : t.decision ∷ map (λ u. u.decision) tried ≡ e ∷ ds → map (λ u. u.decision) tried ≡ ds
+    rest s = cc s
 
-  pub given_named : (P : Literal → Type 0) {exact : Bool} {before rest kept given : List Decision} → KeepsOldest Suffices exact before rest kept given →
-      AllByRecursion P (choices rest) → AllByRecursion P (choices given)
-  given_named P ends named = tt
-  given_named P (keeps a) named = given_named P a named.1
-  given_named P (gives_up so a) named = (named.0, given_named P a named.1)
+module _ (scene : Scene) (limits : Limits) (vertex : ℕ) (was_hopeless : Bool) (decisions : List Decision) where
+  abbrev Are : ℕ → List Tried → Type 0
+  Are n tried = AreTried scene limits vertex was_hopeless decisions n tried
 
-  module _ (exact final : Bool) (i : IsTrue final → IsTrue exact) where
-    -- where less is shown
-    pub singles_weaker : {before rest listed : List Decision} → AreSingles Suffices exact before rest listed → AreSingles Suffices final before rest listed
-    singles_weaker singles.ends = singles.ends
-    singles_weaker (singles.frees lacks a) = singles.frees lacks (singles_weaker a)
-    singles_weaker (singles.stays so a) = singles.stays (λ t. so (i t)) (singles_weaker a)
+  abbrev Is : ℕ → Effect → Type 0
+  Is place effect = IsEffect scene limits vertex was_hopeless (choices (without place decisions)) effect
 
-    keeps_weaker : {before rest kept given : List Decision} → KeepsOldest Suffices exact before rest kept given → KeepsOldest Suffices final before rest kept given
-    keeps_weaker ends = ends
-    keeps_weaker (keeps a) = keeps (keeps_weaker a)
-    keeps_weaker (gives_up so a) = gives_up (λ t. so (i t)) (keeps_weaker a)
+  pub none_tried : Are 0 []
+  none_tried = record { each = refl; effects = tt }
 
-    pub repair_weaker : (decisions kept given : List Decision) → IsRepair Suffices decisions kept given exact → IsRepair Suffices decisions kept given final
-    repair_weaker decisions kept given is = record { split = keeps_weaker is.split; possible = is.possible }
+  effects_more : (place : ℕ) (tried : List Tried) (t : Tried) → HaveEffects scene limits vertex was_hopeless decisions place tried → Is (place + length tried) t.effect →
+      HaveEffects scene limits vertex was_hopeless decisions place (tried ++ t ∷ [])
+  effects_more place [] t so is = let same : place + 0 ≡ place = omega (arith) in (subst (λ (n : ℕ). Is n t.effect) same is, tt)
+  effects_more place (u ∷ tried) t so is =
+      let same : place + suc (length tried) ≡ suc place + length tried = omega (arith) in
+      (so.0, effects_more (suc place) tried t so.1 (subst (λ (n : ℕ). Is n t.effect) same is))
 
--- The first decisions were tried: whatever comes of the others behind them comes of all.
-pub record IsTrying (Suffices : List Literal → Type 0) (Settles : Type 0) (decisions listed : List Decision) (place : ℕ) (exact : Bool) : Type 0 where
-  pub so_far : (final : Bool) → (IsTrue final → IsTrue exact) → (more : List Decision) → AreSingles Suffices final (take place decisions) (drop place decisions) more →
-      AreSingles Suffices final [] decisions (listed ++ more)
-  pub settled : Settles → IsTrue exact
+  length_is : (n : ℕ) (tried : List Tried) → n ≤ length decisions → Are n tried → length tried ≡ n
+  length_is n tried within so = sym (length-map tried (λ (t : Tried). t.decision)) ∙ ap (λ (ds : List Decision). length ds) so.each ∙ length-take-le n decisions within
 
-module _ (Suffices : List Literal → Type 0) (Settles : Type 0) (decisions : List Decision) where
-  pub trying_begun : IsTrying Suffices Settles decisions [] 0 true
-  trying_begun = record { so_far = λ final i more h. h; settled = λ s. refl }
+  -- one more decision was tried
+  pub next_tried : (n : ℕ) (tried : List Tried) (t : Tried) (x : Decision) → n < length decisions → t.decision ≡ get_or decisions n x → Is n t.effect → Are n tried → Are (n + 1) (tried ++ t ∷ [])
+  next_tried n tried t x inside same is so = let within : n ≤ length decisions = omega (arith, inside) in let count : length tried ≡ n = length_is n tried within so in
+      let all : n ≡ 0 + length tried = omega (arith, count) in subst (λ (m : ℕ). Are m (tried ++ t ∷ [])) (sym (add-one n)) (record {
+        each = map-append (λ (u : Tried). u.decision) tried (t ∷ []) ∙ ap₂ (λ (ds : List Decision) (d : Decision). ds ++ d ∷ []) so.each same ∙ sym (take-suc decisions n x inside);
+        effects = effects_more 0 tried t so.effects (subst (λ (m : ℕ). Is m t.effect) all is);
+      })
 
-  module _ (listed : List Decision) (place : ℕ) (exact : Bool) (is : IsTrying Suffices Settles decisions listed place exact) (inside : place < length decisions) (x : Decision) where
-    -- a step, to all behind
-    onward : (final : Bool) (more : List Decision) → AreSingles Suffices final (take place decisions) (get_or decisions place x ∷ drop (suc place) decisions) more →
-        AreSingles Suffices final (take place decisions) (drop place decisions) more
-    onward final more h = subst (λ (rs : List Decision). AreSingles Suffices final (take place decisions) rs more) (sym (drop-cons decisions place x inside)) h
+  -- all of them were
+  pub all_tried : (n : ℕ) (tried : List Tried) → length decisions ≤ n → n ≤ length decisions → Are n tried → Are (length decisions) tried
+  all_tried n tried most least so = let same : n ≡ length decisions = omega (arith, most, least) in subst (λ (m : ℕ). Are m tried) same so
 
-    behind : (final : Bool) (more : List Decision) → AreSingles Suffices final (take (suc place) decisions) (drop (suc place) decisions) more →
-        AreSingles Suffices final (take place decisions ++ get_or decisions place x ∷ []) (drop (suc place) decisions) more
-    behind final more h = subst (λ (bs : List Decision). AreSingles Suffices final bs (drop (suc place) decisions) more) (take-suc decisions place x inside) h
+  pub each_tried : (tried : List Tried) → Are (length decisions) tried → map (λ t. t.decision) tried ≡ decisions
+  each_tried tried so = so.each ∙ take-length decisions
 
-    freed_next : (Suffices (choices (take place decisions ++ drop (suc place) decisions)) → ⊥) → IsTrying Suffices Settles decisions (listed ++ get_or decisions place x ∷ []) (suc place) exact
-    freed_next lacks = record {
-      so_far = λ final i more h. subst (λ (ls : List Decision). AreSingles Suffices final [] decisions ls) (sym (append_assoc listed (get_or decisions place x ∷ []) more))
-          (is.so_far final i (get_or decisions place x ∷ more) (onward final (get_or decisions place x ∷ more) (singles.frees lacks (behind final more h))));
-      settled = is.settled;
-    }
+  pub tried_named : (lines : List Line) (n : ℕ) (tried : List Tried) → n ≡ feature_count lines → AreChoicesOf lines (choices decisions) → Are (length decisions) tried → All (λ t. t.decision.feature < n) tried
+  tried_named lines n tried is named so = below n (feature_count lines) tried decisions is (each_tried tried so) named
 
-    stayed_next : Suffices (choices (take place decisions ++ drop (suc place) decisions)) → IsTrying Suffices Settles decisions listed (suc place) exact
-    stayed_next enough = record {
-      so_far = λ final i more h. is.so_far final i more (onward final more (singles.stays (λ t. enough) (behind final more h)));
-      settled = is.settled;
-    }
+-- ---- the effect of one retraction, by what a search finds
 
-    unshown_next : (Settles → ⊥) → IsTrying Suffices Settles decisions listed (suc place) false
-    unshown_next unsettled = record {
-      so_far = λ final i more h. is.so_far final (λ t. absurd (clash (i t))) more (onward final more (singles.stays (λ t. absurd (clash (i t))) (behind final more h)));
-      settled = λ s. absurd (unsettled s);
-    }
+module _ (game : NamedGame) (diagram : NamedDiagram) (limits : Limits) (vertex : ℕ) (was_hopeless : Bool) (chosen : List Literal) where
+  abbrev Found_is : Found → Type 0
+  Found_is found = IsFound game diagram (aims.Won Hopeful vertex) chosen found
 
-    -- the same, as a loop counts
-    abbrev Without : ℕ → Type 0
-    Without next = Suffices (choices (take place decisions ++ drop next decisions))
+  abbrev Ends : Type 0
+  Ends = SearchEnds (scene_of game diagram) limits (aims.Won Hopeful vertex) chosen
 
-    pub freed : (Without (place + 1) → ⊥) → IsTrying Suffices Settles decisions (listed ++ get_or decisions place x ∷ []) (place + 1) exact
-    freed lacks = subst (λ (n : ℕ). IsTrying Suffices Settles decisions (listed ++ get_or decisions place x ∷ []) n exact) (sym (add-one place))
-        (freed_next (λ h. lacks (subst (λ (n : ℕ). Without n) (sym (add-one place)) h)))
+  abbrev Settled : Type 0
+  Settled = IsSettled game diagram limits (asks.Lost (aims.Won Hopeful vertex)) chosen
 
-    pub stayed : Without (place + 1) → IsTrying Suffices Settles decisions listed (place + 1) exact
-    stayed enough = subst (λ (n : ℕ). IsTrying Suffices Settles decisions listed n exact) (sym (add-one place)) (stayed_next (subst (λ (n : ℕ). Without n) (add-one place) enough))
+  pub room_of : Ends → Settled
+  room_of s = (s.0, s.1)
 
-    pub unshown : (Settles → ⊥) → IsTrying Suffices Settles decisions listed (place + 1) false
-    unshown unsettled = subst (λ (n : ℕ). IsTrying Suffices Settles decisions listed n false) (sym (add-one place)) (unshown_next unsettled)
+  -- the table of these choices is settled too
+  pub verdict_room : Ends → RoundsSettle (scene_of game diagram) limits.rounds Hopeful chosen
+  verdict_room s = subst (λ (cs : List Literal). RoundsSettle (scene_of game diagram) limits.rounds Hopeful cs) (append-nil chosen) (s.0 [])
 
-  pub tried : (listed : List Decision) (place : ℕ) (exact : Bool) → length decisions ≤ place → IsTrying Suffices Settles decisions listed place exact → AreSingles Suffices exact [] decisions listed
-  tried listed place exact all is = subst (λ (ls : List Decision). AreSingles Suffices exact [] decisions ls) (append-nil listed)
-      (is.so_far exact (λ t. t) [] (subst (λ (rs : List Decision). AreSingles Suffices exact (take place decisions) rs []) (sym (drop_of_length-le decisions all)) singles.ends))
+  pub found_winner : (found : Found) (e : Example) → found ≡ founds.Product e → Found_is found → HasWinner (scene_of game diagram) vertex chosen
+  found_winner found e is so = let p = subst Found_is is so in (e.features.items, p.remaining, p.meets)
+
+  pub found_lost : (found : Found) → found ≡ founds.Nothing → Found_is found → IsLostBy (scene_of game diagram) vertex chosen
+  found_lost found is so = subst Found_is is so
+
+  pub found_short : (found : Found) → found ≡ founds.Unsettled → (Settled → IsFoundExact found) → Ends → ⊥
+  found_short found is settled s = subst IsFoundExact is (settled (room_of s))

@@ -1,5 +1,6 @@
 -- The meaning of answers about a page. This project's own.
 use Rattle.std.specs.Prelude.{◌≡◌, ◌≢◌, ℕ, ◌<◌, ⊤, ◌⊎◌, Bool, true, false, Option, Some, None, List, [], ◌++◌, codes, length, slice_index, IsTrue}
+use Rattle.std.specs.List.{list_all, list_any}
 use Rattle.vpg_guards.specs.declared.tri.Tri.{Tri}
 use Rattle.vpg_diagram.specs.FeatureDiagram.{IsDiagram}
 use Rattle.vpg_diagram.specs.declared.clause.Literal.{Literal}
@@ -33,13 +34,15 @@ use Rattle.vpg_number.specs.declared.counted.Count.{Count}
 use Rattle.vpg_winners.specs.Decided.{HasRemaining, NoneRemains, WinsEach}
 use Rattle.vpg_winners.specs.Joined.{PartView}
 use Rattle.vpg_answers.specs.declared.offers.Offered.{Offered}
+use Rattle.vpg_answers.specs.declared.retracting.Tried.{Tried}
 use Rattle.vpg_answers.specs.declared.query.Query.{Query}
 use Rattle.vpg_answers.specs.declared.query.Query.TheVariants as queries
-use Rattle.vpg_answers.specs.Texts.{verdict_line, other_line, lost_head, lost_line, known_line, not_known, conflict_line, no_conflict, product_line, none_line, unsettled_line, number_line, part_line, part_lines, offers_text, forced_text, singles_text, several_text, moves_word, moves_text, winners_text, fact_line, mixed_text, empty_line}
+use Rattle.vpg_answers.specs.Texts.{marked_text, verdict_line, other_line, lost_head, lost_line, known_line, not_known, conflict_line, no_conflict, product_line, none_line, unsettled_line, number_line, part_line, part_lines, offers_text, forced_text, singles_text, several_text, moves_word, moves_text, winners_text, fact_line, mixed_text, empty_line}
 use Rattle.vpg_answers.specs.Numbers.{AreAmounts, IsAmount, looks_each}
+use Rattle.vpg_answers.specs.Asserted.{TellsExact}
 use Rattle.vpg_answers.specs.Offers.{AreOffers}
 use Rattle.vpg_answers.specs.Parts.{TellsPart}
-use Rattle.vpg_answers.specs.Repairs.{AreSingles}
+use Rattle.vpg_answers.specs.Repairs.{AreTried, HasWinner, IsLostBy, is_shown, is_winning}
 use Rattle.vpg_answers.specs.Room.{BothSearchesEnd, EachSearchEnds, RoundsSettleEach, SearchEnds}
 use Rattle.vpg_answers.specs.Winners.{AreWinners, IsExample}
 
@@ -167,38 +170,44 @@ TellsForced scene limits aim decisions text =
 
 -- ---- what to retract
 
--- a settled page of these choices alone has the vertex hopeless
-abbrev pub IsHopelessBy : Scene → (vertex : ℕ) → List Literal → Type 0
-IsHopelessBy scene vertex = MakeSo scene (asks.Verdict Hopeful vertex)
+-- some decision leaves a product that Even wins if it alone is retracted
+abbrev pub HasSingle : List Tried → Type 0
+HasSingle tried = list_any (λ t. is_winning t.effect) tried ≡ true
 
--- some decisions can be retracted alone
-abbrev pub TellsSingles : Scene → Limits → (vertex : ℕ) → List Decision → (text : List ℕ) → Type 0
-TellsSingles scene limits vertex decisions text =
-    (listed : List Decision) × (exact : Bool) × (listed ≢ []) ×
-    AreSingles (IsHopelessBy scene vertex) exact [] decisions listed × (text ≡ singles_text scene.names listed exact)
-    × (RoundsSettleEach scene limits.rounds Hopeful (choices decisions) → IsTrue exact)
+-- no effect met a limit
+abbrev pub all_shown : List Tried → Bool
+all_shown tried = list_all (λ t. is_shown t.effect) tried
 
--- none can, if that is shown, and several together can, so that the oldest are kept
-abbrev pub TellsSeveral : Scene → Limits → (vertex : ℕ) → List Decision → (text : List ℕ) → Type 0
-TellsSeveral scene limits vertex decisions text =
-    (kept : List Decision) × (given : List Decision) × (exact : Bool) ×
-    AreSingles (IsHopelessBy scene vertex) exact [] decisions [] ×
-    IsRepair (IsHopelessBy scene vertex) decisions kept given exact × (text ≡ several_text scene.names given exact)
-    × (RoundsSettleEach scene limits.rounds Hopeful (choices decisions) → IsTrue exact)
+-- Several do together, so that the oldest are kept; or the limits leave no room.
+abbrev pub TellsSeveral : Scene → Limits → (vertex : ℕ) → List Decision → List Tried → (text : List ℕ) → Type 0
+TellsSeveral scene limits vertex decisions tried text =
+    ((kept : List Decision) × (given : List Decision) × (sure : Bool) ×
+    IsRepair (IsLostBy scene vertex) decisions kept given sure ×
+    (text ≡ several_text scene.names given sure tried (all_shown tried))
+    × (EachSearchEnds scene limits (aims.Won Hopeful vertex) (choices decisions) → IsTrue sure))
+    ⊎ (¬ (EachSearchEnds scene limits (aims.Won Hopeful vertex) (choices decisions))
+    × (text ≡ marked_text scene.names 0 tried false))
 
--- some or several can; or the vertex is hopeless whatever is retracted; or the limits leave no room
-abbrev pub TellsRetractions : Scene → Limits → (vertex : ℕ) → List Decision → (text : List ℕ) → Type 0
-TellsRetractions scene limits vertex decisions text =
-    TellsSingles scene limits vertex decisions text ⊎ TellsSeveral scene limits vertex decisions text
-    ⊎ (IsHopelessBy scene vertex [] × (text ≡ none_line))
-    ⊎ (¬ (RoundsSettleEach scene limits.rounds Hopeful (choices decisions)) × (text ≡ unsettled_line))
+-- The decisions that leave a product that Even wins if they alone are retracted; or, if there are none, several. Those
+-- that change the verdict alone come last. Or Even wins in no product of the diagram.
+abbrev pub TellsRetractions : Scene → Limits → (vertex : ℕ) → (was_hopeless : Bool) → List Decision →
+    (text : List ℕ) → Type 0
+TellsRetractions scene limits vertex was_hopeless decisions text =
+    ((tried : List Tried) × AreTried scene limits vertex was_hopeless decisions (length decisions) tried ×
+    ((HasSingle tried × (text ≡ singles_text scene.names tried (all_shown tried)))
+    ⊎ (¬ (HasSingle tried) × TellsSeveral scene limits vertex decisions tried text)))
+    ⊎ (IsLostBy scene vertex [] × (text ≡ none_line))
 
--- the page's table has the top at the vertex, and these decisions can be retracted; or it hasn't
+-- The page's table has the top at the vertex, and these decisions can be retracted. Or it hasn't, and Even wins in no
+-- product left; or in some; or the limits leave no room.
 abbrev pub TellsRepair : Scene → Limits → (vertex : ℕ) → List Decision → (hopeful text : List ℕ) → Type 0
 TellsRepair scene limits vertex decisions hopeful text =
-    ((slice_index hopeful vertex ≡ top_for Hopeful scene.game) × TellsRetractions scene limits vertex decisions text)
+    ((slice_index hopeful vertex ≡ top_for Hopeful scene.game)
+    × TellsRetractions scene limits vertex true decisions text)
     ⊎ (¬ (slice_index hopeful vertex ≡ top_for Hopeful scene.game)
-    × (text ≡ other_line Hopeful (identifier_of scene vertex)))
+    × ((IsLostBy scene vertex (choices decisions) × TellsRetractions scene limits vertex false decisions text)
+    ⊎ (HasWinner scene vertex (choices decisions) × (text ≡ other_line Hopeful (identifier_of scene vertex)))
+    ⊎ (¬ (SearchEnds scene limits (aims.Won Hopeful vertex) (choices decisions)) × (text ≡ unsettled_line))))
 
 -- ---- moves
 
@@ -335,6 +344,8 @@ Tells behaviour scene limits (queries.OfChoice feature value) decisions hopeful 
     TellsChoice scene feature value decisions answer
 Tells behaviour scene limits (queries.OfPage question) decisions hopeful dual answer =
     IsDone (TellsOfPage scene limits question decisions) answer
+Tells behaviour scene limits (queries.OfExact verdict vertex) decisions hopeful dual answer =
+    TellsExact scene limits verdict vertex decisions answer
 
 -- It answers the query within these limits, for the page with these decisions and tables: decisions on a diagram's
 -- features. Traces are of the system that the game was made of.
@@ -365,10 +376,11 @@ IsWithin behaviour vertices features (queries.OfVertex question vertex) =
 IsWithin behaviour vertices features (queries.OfFeature feature) = feature < features
 IsWithin behaviour vertices features (queries.OfChoice feature value) = feature < features
 IsWithin behaviour vertices features (queries.OfPage question) = ⊤
+IsWithin behaviour vertices features (queries.OfExact verdict vertex) = vertex < vertices
 
 -- A limit was met. Some line says that fewer decisions may do, or that there may be more lines or products. Or the text
--- gives some product, or only says that it is unsettled; or it is unsettled what some decision would change. Or a
--- product of a mixed vertex need not be the first.
+-- gives some product, or only says that it is unsettled; or it is unsettled what some decision would change, or whether
+-- what is asserted holds. Or a product of a mixed vertex need not be the first.
 abbrev pub HasDoubt : List ℕ → Type 0
 HasDoubt text =
     ((before : List ℕ) × (behind : List ℕ) × (text ≡ before ++ codes " or fewer\n" ++ behind))
@@ -376,4 +388,5 @@ HasDoubt text =
     ⊎ (text ≡ unsettled_line)
     ⊎ ((before : List ℕ) × (behind : List ℕ) × (text ≡ codes "offer" ++ before ++ codes " unsettled" ++ behind))
     ⊎ ((before : List ℕ) × (behind : List ℕ) × (text ≡ before ++ codes " or more\n" ++ behind))
+    ⊎ (text ≡ codes "fails unsettled\n")
     ⊎ ((before : List ℕ) × (behind : List ℕ) × (text ≡ codes "mixed" ++ before ++ codes "\nsome product" ++ behind))

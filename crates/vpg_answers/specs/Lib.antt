@@ -1,5 +1,7 @@
 pub mod Answers
+pub mod Asserted
 pub mod Laws
+pub mod Looked
 pub mod Numbers
 pub mod Offers
 pub mod Parts

@@ -4,22 +4,27 @@ use Rattle.std.specs.List.{AllByRecursion}
 use Rattle.vpg_guards.specs.declared.tri.Tri.{Tri}
 use Rattle.vpg_guards.specs.declared.tri.Tri.TheVariants.{Unknown}
 use Rattle.vpg_diagram.specs.declared.clause.Literal.{Literal}
+use Rattle.vpg_players.specs.declared.player.Player.{Player}
+use Rattle.vpg_players.specs.declared.player.Player.TheVariants.{Even, Odd}
 use Rattle.vpg_verdict.specs.declared.which.Which.{Which}
 use Rattle.vpg_verdict.specs.declared.which.Which.TheVariants.{Hopeful, Dual}
-use Rattle.vpg_partial.specs.KnownLaws.{HasConflictOf}
+use Rattle.vpg_partial.specs.KnownLaws.{HasConflictOf, IsRemaining}
 use Rattle.vpg_partial.specs.declared.decision.Decision.{Decision}
 use Rattle.vpg_texts.specs.Scene.{Scene}
 use Rattle.vpg_texts.specs.Text.{is_value}
 use Rattle.vpg_why.specs.Explained.{choices}
 use Rattle.vpg_why.specs.Suffices.{SufficeIn, choice}
-use Rattle.vpg_why.specs.declared.offering.Offer.{Offer}
-use Rattle.vpg_why.specs.declared.offering.Offer.TheVariants as offers
 use Rattle.vpg_why.specs.declared.question.Limits.{Limits}
 use Rattle.vpg_why.specs.declared.question.Question.TheVariants as asks
 use Rattle.vpg_why.specs.declared.question.Shown.{Shown}
 use Rattle.vpg_why.specs.declared.question.Shown.TheVariants as shown
+use Rattle.vpg_winners.specs.Decided.{HasRemaining, NoneRemains, WinsEach, WinsProduct}
+use Rattle.vpg_answers.specs.declared.offers.Fact.{Fact}
+use Rattle.vpg_answers.specs.declared.offers.Fact.TheVariants as facts
 use Rattle.vpg_answers.specs.declared.offers.Offered.{Offered}
-use Rattle.vpg_answers.specs.Room.{RoundsSettle}
+use Rattle.vpg_answers.specs.declared.offers.Prospect.{Prospect}
+use Rattle.vpg_answers.specs.declared.offers.Prospect.TheVariants as prospects
+use Rattle.vpg_answers.specs.Room.{BothSearchesEnd, RoundsSettle}
 
 -- Whether these choices alone are the verdict's reason, if it was shown; and it was shown if the limits leave room.
 pub record IsVerdictShown (scene : Scene) (limits : Limits) (vertex : ℕ) (choices : List Literal) (which : Which)
@@ -28,17 +33,33 @@ pub record IsVerdictShown (scene : Scene) (limits : Limits) (vertex : ℕ) (choi
   pub no : answer ≡ shown.No → SufficeIn scene.game scene.lines (asks.Verdict which vertex) choices → ⊥
   pub settled : RoundsSettle scene limits.rounds which choices → answer ≢ shown.Unsettled
 
--- the choices contradict one another, or give these verdicts
-abbrev pub IsOfferOf : Scene → Limits → (vertex : ℕ) → List Literal → Offer → Type 0
-IsOfferOf scene limits vertex choices offers.Conflict = HasConflictOf scene.lines choices
-IsOfferOf scene limits vertex choices (offers.Verdict hopeless sure) =
-    ¬ (HasConflictOf scene.lines choices) × IsVerdictShown scene limits vertex choices Hopeful hopeless ×
-    IsVerdictShown scene limits vertex choices Dual sure
+-- some product agrees with the choices, and the player wins from the vertex in it
+abbrev pub WinsSome : Scene → List Literal → Player → (vertex : ℕ) → Type 0
+WinsSome scene choices player vertex =
+    (set : List Bool) × IsRemaining scene.lines choices set × WinsProduct scene.game player vertex set
 
--- the offer of the page's decisions together with this choice, at the vertex
+-- Even wins from the vertex in each product that agrees with the choices, or Odd does, and there is one; or each of
+-- them wins in some; or no product agrees; or the limits leave no room.
+abbrev pub IsFact : Scene → Limits → (vertex : ℕ) → List Literal → Fact → Type 0
+IsFact scene limits vertex choices facts.Won =
+    HasRemaining scene.lines choices × WinsEach scene.game scene.lines choices Even vertex
+IsFact scene limits vertex choices facts.Lost =
+    HasRemaining scene.lines choices × WinsEach scene.game scene.lines choices Odd vertex
+IsFact scene limits vertex choices facts.Mixed = WinsSome scene choices Even vertex × WinsSome scene choices Odd vertex
+IsFact scene limits vertex choices facts.Empty = NoneRemains scene.lines choices
+IsFact scene limits vertex choices facts.Unsettled = ¬ (BothSearchesEnd scene limits vertex choices)
+
+-- the choices contradict one another, or give these verdicts, and this player wins
+abbrev pub IsProspect : Scene → Limits → (vertex : ℕ) → List Literal → Prospect → Type 0
+IsProspect scene limits vertex choices prospects.Conflict = HasConflictOf scene.lines choices
+IsProspect scene limits vertex choices (prospects.Left hopeless sure fact) =
+    ¬ (HasConflictOf scene.lines choices) × IsVerdictShown scene limits vertex choices Hopeful hopeless ×
+    IsVerdictShown scene limits vertex choices Dual sure × IsFact scene limits vertex choices fact
+
+-- the prospect of the page's decisions together with this choice, at the vertex
 abbrev pub IsOffered : Scene → Limits → (vertex : ℕ) → List Decision → Offered → Type 0
 IsOffered scene limits vertex decisions offered =
-    IsOfferOf scene limits vertex (choices decisions ++ offered.choice ∷ []) offered.offer
+    IsProspect scene limits vertex (choices decisions ++ offered.choice ∷ []) offered.prospect
 
 -- both choices of a feature that is open
 abbrev pub both_if : Bool → (feature : ℕ) → List Literal
@@ -50,7 +71,7 @@ abbrev pub open_choices : List Tri → ℕ → List Literal
 open_choices known zero = []
 open_choices known (suc n) = open_choices known n ++ both_if (is_value (slice_index_or known n Unknown) Unknown) n
 
--- The choices of the first n features that are open, in and then out, with the offer of each at the vertex.
+-- The choices of the first n features that are open, in and then out, with the prospect of each at the vertex.
 pub record AreOffers (scene : Scene) (limits : Limits) (vertex : ℕ) (decisions : List Decision) (known : List Tri)
     (n : ℕ) (listed : List Offered) : Type 0 where
   pub each : map (λ o. o.choice) listed ≡ open_choices known n

@@ -7,8 +7,8 @@ ghost use Rattle.vpg_texts.specs.Scene.{scene_of};
 
 use crate::query::Query;
 use crate::{
-    deciding, drawing, examples, losses, needs, numbers, offers, reasons, repairs, traces, winners,
-    winning,
+    asserting, deciding, drawing, examples, losses, needs, numbers, offers, reasons, repairs,
+    traces, winners, winning,
 };
 use std::alloc::{AllocError, Global};
 use vpg_checking::Behaviour;
@@ -99,6 +99,9 @@ fn told(
         Query::OfFeature { feature } => reasons::feature(alloc, order, feature, out),
         Query::OfChoice { feature, value } => reasons::choice(alloc, order, feature, value, out),
         Query::OfPage { question } => done(of_page(alloc, order, question, limits, out)),
+        Query::OfExact { verdict, vertex } => {
+            asserting::exact(alloc, order, verdict, vertex, limits, out)
+        }
     }
 }
 

@@ -1,11 +1,11 @@
-//! The verdicts of a vertex after each further decision.
+//! The verdicts of a vertex after each further decision, and who wins then.
 ghost use Rattle.std.specs.List.{AllByRecursion};
-ghost use Rattle.std.specs.Prelude.{◌≡◌, ◌<◌, ◌+◌, ◌++◌, All, IfOk, OnOk, flat_map, length};
+ghost use Rattle.std.specs.Prelude.{◌≡◌, ◌<◌, ◌+◌, ◌++◌, ◌∷◌, [], All, IfOk, OnOk, flat_map, length};
 ghost use Rattle.vpg_answers.specs.Answers.{Appends, TellsOffers};
-ghost use Rattle.vpg_answers.specs.Offers.{AreOffers, IsOffered};
-ghost use Rattle.vpg_answers.specs.Texts.{offer_line, offer_words, offers_text, shown_word};
+ghost use Rattle.vpg_answers.specs.Offers.{AreOffers, IsFact, IsOffered, IsProspect};
+ghost use Rattle.vpg_answers.specs.Texts.{fact_word, offer_line, offer_words, offers_text, shown_word};
 ghost use Rattle.vpg_diagram.specs.FeatureDiagram.{feature_count};
-ghost use Rattle.vpg_partial.specs.TableLaws.{IsKnownTable};
+ghost use Rattle.vpg_partial.specs.TableLaws.{AreChoicesOf, IsKnownTable};
 ghost use Rattle.vpg_texts.specs.Scene.{scene_of};
 ghost use Rattle.vpg_why.specs.Explained.{choices};
 
@@ -15,16 +15,111 @@ use std::alloc::{AllocError, Global};
 use vpg_diagram::Literal;
 use vpg_guards::{Names, Tri};
 use vpg_measure::Order;
-use vpg_partial::Partial;
+use vpg_partial::{Decision, Partial};
 use vpg_texts::blank_number;
 use vpg_verdict::Which;
-use vpg_why::{Limits, Offer, Shown, look_ahead};
+use vpg_why::{Limits, Offer, Shown, look_ahead, with_one};
+use vpg_winners::{Decided, decide};
 
-/// One more decision, and its offer at a vertex.
+/// The winner in the products left.
+#[derive(Clone, Copy)]
+pub(crate) enum Fact {
+    /// Even wins in each, and there is one.
+    Won,
+    /// Odd wins in each, and there is one.
+    Lost,
+    /// Each of them wins in some.
+    Mixed,
+    /// No product is left.
+    Empty,
+    /// A limit was met.
+    Unsettled,
+}
+
+/// The prospect of one more decision.
+#[derive(Clone, Copy)]
+pub(crate) enum Prospect {
+    /// It contradicts the page.
+    Conflict,
+    /// The verdicts of the vertex, and the winner in the products left.
+    Left {
+        hopeless: Shown,
+        sure: Shown,
+        fact: Fact,
+    },
+}
+
+/// One more decision, and its prospect at a vertex.
 #[derive(Clone, Copy)]
 pub(crate) struct Offered {
     choice: Literal,
-    offer: Offer,
+    prospect: Prospect,
+}
+
+/// Returns the winner at the vertex in the products that agree with the decisions.
+fn fact_of(
+    alloc: Global,
+    order: &Order,
+    decisions: &[Decision],
+    vertex: u32,
+    limits: Limits,
+) -> Result<Fact, AllocError>
+    requires named { AreChoicesOf order.now.diagram.lines (choices decisions.now) }
+    requires vertex { vertex < length order.now.game.vertices }
+    ensures { IfOk result
+        (IsFact (scene_of order.now.game order.now.diagram) limits vertex (choices decisions.now)) }
+{
+    let found = decide(alloc, order, vertex, decisions, limits)?;
+    match found {
+        Decided::Won => Ok(Fact::Won),
+        Decided::Lost => Ok(Fact::Lost),
+        Decided::Mixed { won: _, lost: _ } => Ok(Fact::Mixed),
+        Decided::Empty => Ok(Fact::Empty),
+        Decided::Unsettled => Ok(Fact::Unsettled),
+    }
+}
+
+/// Returns the winner after one more decision.
+fn fact_after(
+    alloc: Global,
+    order: &Order,
+    choice: Literal,
+    vertex: u32,
+    limits: Limits,
+) -> Result<Fact, AllocError>
+    requires feature { choice.feature < feature_count order.now.diagram.lines }
+    requires vertex { vertex < length order.now.game.vertices }
+    ensures { IfOk result (IsFact (scene_of order.now.game order.now.diagram) limits vertex
+        (choices order.now.decisions ++ choice ∷ [])) }
+{
+    let more = with_one(alloc, order.decisions(), choice.feature, choice.value)?;
+    let fact = fact_of(alloc, order, &more, vertex, limits)?;
+    Ok(fact)
+}
+
+fn prospect_of(
+    alloc: Global,
+    order: &Order,
+    choice: Literal,
+    vertex: u32,
+    limits: Limits,
+) -> Result<Prospect, AllocError>
+    requires feature { choice.feature < feature_count order.now.diagram.lines }
+    requires vertex { vertex < length order.now.game.vertices }
+    ensures { IfOk result (IsProspect (scene_of order.now.game order.now.diagram) limits vertex
+        (choices order.now.decisions ++ choice ∷ [])) }
+{
+    match look_ahead(alloc, order, choice.feature, choice.value, vertex, limits)? {
+        Offer::Conflict => Ok(Prospect::Conflict),
+        Offer::Verdict { hopeless, sure } => {
+            let fact = fact_after(alloc, order, choice, vertex, limits)?;
+            Ok(Prospect::Left {
+                hopeless,
+                sure,
+                fact,
+            })
+        }
+    }
 }
 
 fn offer_of(
@@ -40,8 +135,8 @@ fn offer_of(
     ensures offer { IfOk result
         (IsOffered (scene_of order.now.game order.now.diagram) limits vertex order.now.decisions) }
 {
-    let offer = look_ahead(alloc, order, choice.feature, choice.value, vertex, limits)?;
-    Ok(Offered { choice, offer })
+    let prospect = prospect_of(alloc, order, choice, vertex, limits)?;
+    Ok(Offered { choice, prospect })
 }
 
 /// Returns the features that the order's decisions make known.
@@ -122,14 +217,31 @@ fn shown_word(which: Which, shown: Shown, out: &mut Vec<u8>) -> Result<(), Alloc
     }
 }
 
-fn words(offer: Offer, out: &mut Vec<u8>) -> Result<(), AllocError>
-    ensures { OnOk result (out.new.items ≡ out.old.items ++ offer_words offer) }
+fn fact_word(fact: Fact, out: &mut Vec<u8>) -> Result<(), AllocError>
+    ensures { OnOk result (out.new.items ≡ out.old.items ++ fact_word fact) }
 {
-    match offer {
-        Offer::Conflict => out.extend_from_slice(b" conflict"),
-        Offer::Verdict { hopeless, sure } => {
+    match fact {
+        Fact::Won => out.extend_from_slice(b" won"),
+        Fact::Lost => out.extend_from_slice(b" lost"),
+        Fact::Mixed => out.extend_from_slice(b" mixed"),
+        Fact::Empty => out.extend_from_slice(b" empty"),
+        Fact::Unsettled => out.extend_from_slice(b" unsettled"),
+    }
+}
+
+fn words(prospect: Prospect, out: &mut Vec<u8>) -> Result<(), AllocError>
+    ensures { OnOk result (out.new.items ≡ out.old.items ++ offer_words prospect) }
+{
+    match prospect {
+        Prospect::Conflict => out.extend_from_slice(b" conflict"),
+        Prospect::Left {
+            hopeless,
+            sure,
+            fact,
+        } => {
             shown_word(Which::Hopeful, hopeless, out)?;
-            shown_word(Which::Dual, sure, out)
+            shown_word(Which::Dual, sure, out)?;
+            fact_word(fact, out)
         }
     }
 }
@@ -140,7 +252,7 @@ fn line(names: &Names, offered: Offered, out: &mut Vec<u8>) -> Result<(), AllocE
 {
     out.extend_from_slice(b"offer")?;
     choice(names, offered.choice, out)?;
-    words(offered.offer, out)?;
+    words(offered.prospect, out)?;
     out.extend_from_slice(b"\n")
 }
 

@@ -1,6 +1,6 @@
 //! Queries about a page.
 
-use vpg_script::{PageQuestion, VertexQuestion};
+use vpg_script::{ExactVerdict, PageQuestion, VertexQuestion};
 
 /// A query about a page. Vertices and features stand by their places in the game and in the diagram.
 #[derive(Clone, Copy)]
@@ -22,5 +22,10 @@ pub enum Query {
     /// A question about the page as a whole.
     OfPage {
         question: PageQuestion,
+    },
+    /// Whether the vertex has this exact verdict.
+    OfExact {
+        verdict: ExactVerdict,
+        vertex: u32,
     },
 }

@@ -1,32 +1,23 @@
-//! The decisions to retract so that a vertex is possible.
-ghost use Rattle.std.specs.Prelude.{◌≡◌, ◌↔◌, ◌<◌, ◌+◌, ◌++◌, [], All, IfOk, IsTrue, OnOk, codes, drop, flat_map, length, slice_index, take};
-ghost use Rattle.vpg_answers.specs.Answers.{Appends, IsHopelessBy, TellsRepair, TellsRetractions};
-ghost use Rattle.vpg_answers.specs.Offers.{IsVerdictShown};
-ghost use Rattle.vpg_answers.specs.Repairs.{AreSingles};
-ghost use Rattle.vpg_answers.specs.Room.{RoundsSettleEach};
-ghost use Rattle.vpg_answers.specs.Texts.{choice_line, several_text, singles_text};
+//! The decisions to retract so that Even wins from a vertex in a product left.
+ghost use Rattle.std.specs.List.{list_all, list_any};
+ghost use Rattle.std.specs.Prelude.{◌≡◌, ◌↔◌, ◌<◌, ◌+◌, ◌++◌, ◌≤◌, [], All, IfOk, IsTrue, OnOk, count_by, false, flat_map, length, slice_index, true};
+ghost use Rattle.vpg_answers.specs.Answers.{Appends, HasSingle, TellsRepair, TellsRetractions, TellsSeveral};
+ghost use Rattle.vpg_answers.specs.Repairs.{AreTried, IsLostBy, is_listed, is_shown, is_winning, rank_of};
+ghost use Rattle.vpg_answers.specs.Texts.{line_at, lines_at, mark_text, marked_text, repair_line, several_text, singles_text};
 ghost use Rattle.vpg_game.specs.Game.{graph_of};
 ghost use Rattle.vpg_measure.specs.TwoGames.{top_for};
-ghost use Rattle.vpg_partial.specs.Known.{literal_of};
 ghost use Rattle.vpg_texts.specs.Scene.{scene_of};
 ghost use Rattle.vpg_why.specs.Explained.{choices};
 
 use crate::lines;
 use crate::reasons::{identifier, names};
+use crate::retracting::{Effect, Tried, effect_of, give_up, lost, tries};
 use std::alloc::{AllocError, Global};
 use vpg_guards::Names;
 use vpg_measure::Order;
 use vpg_partial::Decision;
 use vpg_verdict::Which;
-use vpg_why::{Limits, Remedy, Shown, repair, stays_without};
-
-/// Decisions, each of which leaves a vertex possible if it alone is retracted.
-#[derive(Drop)]
-struct Alone {
-    listed: Vec<Decision>,
-    /// Whether it was shown that there are no others.
-    exact: bool,
-}
+use vpg_why::{Limits, Shown};
 
 /// Whether the page has the vertex hopeless.
 fn is_hopeless(order: &Order, vertex: u32) -> bool
@@ -37,133 +28,230 @@ fn is_hopeless(order: &Order, vertex: u32) -> bool
     order.table(Which::Hopeful).get(vertex) == order.shape(Which::Hopeful).top()
 }
 
-/// Whether the vertex would be hopeless without the decision at a place.
-fn is_hopeless_without(
-    alloc: Global,
-    order: &Order,
-    place: usize,
-    vertex: u32,
-    limits: Limits,
-) -> Result<Shown, AllocError>
-    requires place { place < length order.now.decisions }
-    requires vertex { vertex < length order.now.game.vertices }
-    ensures { IfOk result (IsVerdictShown (scene_of order.now.game order.now.diagram) limits vertex
-        (choices (take place order.now.decisions ++ drop (place + 1) order.now.decisions)) Which.Hopeful) }
+fn is_winning(t: &Tried) -> bool
+    ensures { result ≡ is_winning t.now.effect }
 {
-    let shown = stays_without(alloc, order, Which::Hopeful, place, vertex, limits)?;
-    Ok(shown)
-}
-
-fn singles(alloc: Global, order: &Order, vertex: u32, limits: Limits) -> Result<Alone, AllocError>
-    requires { vertex < length order.now.game.vertices }
-    ensures singles { IfOk result (λ found. AreSingles
-        (IsHopelessBy (scene_of order.now.game order.now.diagram) vertex) found.exact [] order.now.decisions
-        found.listed.items) }
-    ensures settled { IfOk result (λ found.
-        RoundsSettleEach (scene_of order.now.game order.now.diagram) limits.rounds Which.Hopeful
-        (choices order.now.decisions) → IsTrue found.exact) }
-{
-    let decisions = order.decisions();
-    let mut listed = Vec::new(alloc);
-    let mut exact = true;
-    'trying: for place in 0..decisions.len() {
-        match is_hopeless_without(alloc, order, place, vertex, limits)? {
-            Shown::No => listed.push(decisions[place])?,
-            Shown::Yes => {}
-            Shown::Unsettled => exact = false,
-        }
+    match t.effect {
+        Effect::Won => true,
+        Effect::Possible | Effect::Nothing | Effect::Unsettled => false,
     }
-    Ok(Alone { listed, exact })
 }
 
-fn each(names: &Names, listed: &[Decision], out: &mut Vec<u8>) -> Result<(), AllocError>
-    requires { All (λ d. d.feature < length names.now) listed.now }
-    ensures { OnOk result (out.new.items ≡
-        out.old.items ++ flat_map (λ d. choice_line (codes "repair") names.now (literal_of d)) listed.now) }
+fn is_shown(t: &Tried) -> bool
+    ensures { result ≡ is_shown t.now.effect }
 {
-    for d in listed {
-        lines::choice_line(b"repair", names, lines::literal(d), out)?;
+    match t.effect {
+        Effect::Unsettled => false,
+        Effect::Won | Effect::Possible | Effect::Nothing => true,
+    }
+}
+
+fn is_listed(t: &Tried) -> bool
+    ensures { result ≡ is_listed t.now.effect }
+{
+    match t.effect {
+        Effect::Nothing => false,
+        Effect::Won | Effect::Possible | Effect::Unsettled => true,
+    }
+}
+
+/// Whether some decision leaves a product that Even wins if it alone is retracted.
+fn has_single(tried: &[Tried]) -> bool
+    ensures { result ≡ list_any (λ t. is_winning t.effect) tried.now }
+{
+    tried.iter().any(|t| is_winning(t))
+}
+
+/// Whether no effect met a limit.
+fn all_shown(tried: &[Tried]) -> bool
+    ensures { result ≡ list_all (λ t. is_shown t.effect) tried.now }
+{
+    tried.iter().all(|t| is_shown(t))
+}
+
+fn count_listed(tried: &[Tried]) -> usize
+    ensures count { result ≡ count_by (λ t. is_listed t.effect) tried.now }
+    ensures most { result ≤ length tried.now }
+{
+    tried.iter().filter(|t| is_listed(t)).count()
+}
+
+/// Returns the place of an effect: first come those that win, then those that were not settled.
+fn rank(effect: Effect) -> u8
+    ensures { result ≡ rank_of effect }
+{
+    match effect {
+        Effect::Won => 0,
+        Effect::Unsettled => 1,
+        Effect::Possible => 2,
+        Effect::Nothing => 3,
+    }
+}
+
+/// Appends the mark of a retraction that leaves no product that is won, or that was not settled.
+fn mark(effect: Effect, out: &mut Vec<u8>) -> Result<(), AllocError>
+    ensures { OnOk result (out.new.items ≡ out.old.items ++ mark_text effect) }
+{
+    match effect {
+        Effect::Won | Effect::Nothing => {}
+        Effect::Possible => out.extend_from_slice(b" lost")?,
+        Effect::Unsettled => out.extend_from_slice(b" unsettled")?,
     }
     Ok(())
 }
 
-fn tell_singles(
+fn line(names: &Names, t: &Tried, out: &mut Vec<u8>) -> Result<(), AllocError>
+    requires { t.now.decision.feature < length names.now }
+    ensures { OnOk result (out.new.items ≡ out.old.items ++ repair_line names.now t.now) }
+{
+    out.extend_from_slice(b"repair")?;
+    lines::choice(names, lines::literal(&t.decision), out)?;
+    mark(t.effect, out)?;
+    out.extend_from_slice(b"\n")
+}
+
+fn line_at(names: &Names, wanted: u8, t: &Tried, out: &mut Vec<u8>) -> Result<(), AllocError>
+    requires { t.now.decision.feature < length names.now }
+    ensures { OnOk result (out.new.items ≡ out.old.items ++ line_at names.now wanted t.now) }
+{
+    if rank(t.effect) == wanted {
+        line(names, t, out)?;
+    }
+    Ok(())
+}
+
+/// Appends the lines of those decisions whose effect has this rank.
+fn lines_at(names: &Names, wanted: u8, tried: &[Tried], out: &mut Vec<u8>) -> Result<(), AllocError>
+    requires { All (λ t. t.decision.feature < length names.now) tried.now }
+    ensures { OnOk result (out.new.items ≡ out.old.items ++ lines_at names.now wanted tried.now) }
+{
+    for t in tried {
+        line_at(names, wanted, t, out)?;
+    }
+    Ok(())
+}
+
+/// Appends the lines that are marked, and the number of all lines, with these before.
+fn tell_marked(
     names: &Names,
-    listed: &[Decision],
+    before: usize,
+    tried: &[Tried],
     exact: bool,
     out: &mut Vec<u8>,
 ) -> Result<(), AllocError>
-    requires { All (λ d. d.feature < length names.now) listed.now }
-    ensures { OnOk result (out.new.items ≡ out.old.items ++ singles_text names.now listed.now exact) }
+    requires named { All (λ t. t.decision.feature < length names.now) tried.now }
+    requires before { before ≤ 1 }
+    ensures { OnOk result (out.new.items ≡ out.old.items ++ marked_text names.now before tried.now exact) }
 {
-    each(names, listed, out)?;
-    lines::total(b"repairs", listed.len(), exact, out)
+    lines_at(names, 1, tried, out)?;
+    lines_at(names, 2, tried, out)?;
+    lines::total(b"repairs", before + count_listed(tried), exact, out)
+}
+
+fn tell_singles(
+    names: &Names,
+    tried: &[Tried],
+    exact: bool,
+    out: &mut Vec<u8>,
+) -> Result<(), AllocError>
+    requires { All (λ t. t.decision.feature < length names.now) tried.now }
+    ensures { OnOk result (out.new.items ≡ out.old.items ++ singles_text names.now tried.now exact) }
+{
+    lines_at(names, 0, tried, out)?;
+    tell_marked(names, 0, tried, exact, out)
 }
 
 fn tell_several(
     names: &Names,
     given: &[Decision],
+    sure: bool,
+    tried: &[Tried],
     exact: bool,
     out: &mut Vec<u8>,
 ) -> Result<(), AllocError>
-    requires { All (λ d. d.feature < length names.now) given.now }
-    ensures { OnOk result (out.new.items ≡ out.old.items ++ several_text names.now given.now exact) }
+    requires given { All (λ d. d.feature < length names.now) given.now }
+    requires tried { All (λ t. t.decision.feature < length names.now) tried.now }
+    ensures { OnOk result (out.new.items ≡ out.old.items ++ several_text names.now given.now sure tried.now exact) }
 {
     out.extend_from_slice(b"repair")?;
-    lines::reason(names, given, exact, out)?;
-    out.extend_from_slice(b"repairs 1\n")
+    lines::reason(names, given, sure, out)?;
+    tell_marked(names, 1, tried, exact, out)
 }
 
-/// Appends several decisions to retract together, if no single one was shown to do; or that nothing does.
+/// Appends the decisions to retract together, where none alone was shown to do.
 fn several(
     alloc: Global,
     order: &Order,
     vertex: u32,
+    was_hopeless: bool,
+    tried: &[Tried],
     limits: Limits,
-    is_none_single: bool,
     out: &mut Vec<u8>,
 ) -> Result<(), AllocError>
     requires vertex { vertex < length order.now.game.vertices }
-    requires none { AreSingles (IsHopelessBy (scene_of order.now.game order.now.diagram) vertex) is_none_single []
-        order.now.decisions [] }
-    requires settled { RoundsSettleEach (scene_of order.now.game order.now.diagram) limits.rounds Which.Hopeful
-        (choices order.now.decisions) → IsTrue is_none_single }
+    requires tried { AreTried (scene_of order.now.game order.now.diagram) limits vertex was_hopeless
+        order.now.decisions (length order.now.decisions) tried.now }
+    requires none { HasSingle tried.now → ⊥ }
+    requires winner { IsLostBy (scene_of order.now.game order.now.diagram) vertex [] → ⊥ }
     ensures { OnOk result (Appends
-        (TellsRetractions (scene_of order.now.game order.now.diagram) limits vertex order.now.decisions)
+        (TellsRetractions (scene_of order.now.game order.now.diagram) limits vertex was_hopeless order.now.decisions)
         out.old.items out.new.items) }
 {
     let names = names(order);
-    match repair(alloc, order, Which::Hopeful, vertex, limits)? {
-        Remedy::Retract(found) => {
-            tell_several(names, &found.retracted, is_none_single && found.exact, out)
-        }
-        Remedy::Nothing => lines::none(out),
-        Remedy::Unsettled => lines::unsettled(out),
+    let found = give_up(alloc, order, order.decisions(), vertex, limits)?;
+    let exact = all_shown(tried);
+    tell_several(names, &found.given, found.sure, tried, exact, out)
+}
+
+/// Appends the decisions to retract, where none alone was shown to do; or that nothing does.
+fn no_single(
+    alloc: Global,
+    order: &Order,
+    vertex: u32,
+    was_hopeless: bool,
+    tried: &[Tried],
+    limits: Limits,
+    out: &mut Vec<u8>,
+) -> Result<(), AllocError>
+    requires vertex { vertex < length order.now.game.vertices }
+    requires tried { AreTried (scene_of order.now.game order.now.diagram) limits vertex was_hopeless
+        order.now.decisions (length order.now.decisions) tried.now }
+    requires none { HasSingle tried.now → ⊥ }
+    ensures { OnOk result (Appends
+        (TellsRetractions (scene_of order.now.game order.now.diagram) limits vertex was_hopeless order.now.decisions)
+        out.old.items out.new.items) }
+{
+    let names = names(order);
+    match lost(alloc, order, &[], vertex, limits)? {
+        Shown::Yes => lines::none(out),
+        Shown::No => several(alloc, order, vertex, was_hopeless, tried, limits, out),
+        Shown::Unsettled => tell_marked(names, 0, tried, false, out),
     }
 }
 
-/// Appends the decisions to retract, if the page has the vertex hopeless.
+/// Appends the decisions to retract, where no product left is won.
 fn retractions(
     alloc: Global,
     order: &Order,
     vertex: u32,
+    was_hopeless: bool,
     limits: Limits,
     out: &mut Vec<u8>,
 ) -> Result<(), AllocError>
     requires { vertex < length order.now.game.vertices }
     ensures { OnOk result (Appends
-        (TellsRetractions (scene_of order.now.game order.now.diagram) limits vertex order.now.decisions)
+        (TellsRetractions (scene_of order.now.game order.now.diagram) limits vertex was_hopeless order.now.decisions)
         out.old.items out.new.items) }
 {
     let names = names(order);
-    let found = singles(alloc, order, vertex, limits)?;
-    if found.listed.is_empty() {
-        return several(alloc, order, vertex, limits, found.exact, out);
+    let tried = tries(alloc, order, vertex, was_hopeless, limits)?;
+    if !has_single(&tried) {
+        return no_single(alloc, order, vertex, was_hopeless, &tried, limits, out);
     }
-    tell_singles(names, &found.listed, found.exact, out)
+    tell_singles(names, &tried, all_shown(&tried), out)
 }
 
-/// Appends the decisions to retract so that the vertex is possible, or that it is so.
+/// Appends the decisions to retract so that Even wins in a product left; or that the vertex is possible, if one is won.
 pub(crate) fn repairs_at(
     alloc: Global,
     order: &Order,
@@ -177,8 +265,12 @@ pub(crate) fn repairs_at(
         out.old.items out.new.items) }
 {
     if is_hopeless(order, vertex) {
-        retractions(alloc, order, vertex, limits, out)
-    } else {
-        lines::other(Which::Hopeful, identifier(order, vertex), out)
+        return retractions(alloc, order, vertex, true, limits, out);
+    }
+    let found = effect_of(alloc, order, order.decisions(), vertex, false, limits)?;
+    match found {
+        Effect::Won => lines::other(Which::Hopeful, identifier(order, vertex), out),
+        Effect::Unsettled => lines::unsettled(out),
+        _ => retractions(alloc, order, vertex, false, limits, out),
     }
 }

@@ -49,6 +49,19 @@ returns-in-OfChoice c =
     if_ok c.choice.result (λ tone. Gives (Tells c.args.behaviour.now scene c.args.limits (queries.OfChoice c.in-OfChoice.feature c.in-OfChoice.value) order.decisions order.hopeful order.dual) tone c.args.out.now.items c.choice.new.out.items) _
     (λ tone gives. (gives.0, (is gives.0 gives.1.0, gives.1.1))) c.choice.ensures
 
+pub returns-in-OfExact : goal.returns-in-OfExact
+returns-in-OfExact c =
+    let order = c.args.order.now in
+    let scene = scene_of order.game order.diagram in
+    let is : (answer : Answer) → Tells c.args.behaviour.now scene c.args.limits (queries.OfExact c.in-OfExact.verdict c.in-OfExact.vertex) order.decisions order.hopeful order.dual answer → IsAnswer c.args.behaviour.now scene c.args.limits c.args.query order.decisions order.hopeful order.dual answer =
+    λ answer tells. subst (λ (q : Query). IsAnswer c.args.behaviour.now (scene_of order.game order.diagram) c.args.limits q order.decisions order.hopeful order.dual answer) (sym c.in-OfExact.is)
+    (answers order c.game-order.ensures.order c.args.behaviour.now c.args.limits (queries.OfExact c.in-OfExact.verdict c.in-OfExact.vertex) answer tells) in
+    if_ok c.exact.result (λ tone. Gives (Tells c.args.behaviour.now scene c.args.limits (queries.OfExact c.in-OfExact.verdict c.in-OfExact.vertex) order.decisions order.hopeful order.dual) tone c.args.out.now.items c.exact.new.out.items) _
+    (λ tone gives. (gives.0, (is gives.0 gives.1.0, gives.1.1))) c.exact.ensures
+
+pub exact-requires : goal.exact-requires
+exact-requires c = grind (arith, common_steps)
+
 pub of_vertex-requires : goal.of_vertex-requires
 of_vertex-requires c = grind (arith, common_steps)
 

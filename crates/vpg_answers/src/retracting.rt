@@ -1,0 +1,232 @@
+//! The effects of retracting decisions of a page.
+ghost use Rattle.std.specs.Prelude.{◌≡◌, ◌≢◌, ◌↔◌, ◌<◌, ◌++◌, ◌∷◌, [], IfOk, IsTrue, length};
+ghost use Rattle.vpg_answers.specs.Repairs.{AreTried, IsEffect, IsLostBy, without};
+ghost use Rattle.vpg_answers.specs.Room.{EachSearchEnds, SearchEnds};
+ghost use Rattle.vpg_partial.specs.TableLaws.{AreChoicesOf};
+ghost use Rattle.vpg_texts.specs.Scene.{scene_of};
+ghost use Rattle.vpg_why.specs.Explained.{choices};
+ghost use Rattle.vpg_why.specs.Repaired.{IsRepair};
+
+use std::alloc::{AllocError, Global};
+use vpg_measure::Order;
+use vpg_partial::Decision;
+use vpg_verdict::Which;
+use vpg_why::{Aim, Found, Limits, Question, Shown, search_all, suffice};
+
+/// The effect of retracting a decision.
+#[derive(Clone, Copy)]
+pub(crate) enum Effect {
+    /// A product is left that Even wins.
+    Won,
+    /// There is none, but the vertex is possible by the cautious verdict, and was hopeless before.
+    Possible,
+    /// There is none, and the verdict stays.
+    Nothing,
+    /// A limit was met.
+    Unsettled,
+}
+
+/// A decision, and the effect of retracting it alone.
+#[derive(Clone, Copy)]
+pub(crate) struct Tried {
+    pub(crate) decision: Decision,
+    pub(crate) effect: Effect,
+}
+
+/// Decisions to retract together.
+#[derive(Drop)]
+pub(crate) struct Given {
+    /// Those that stay.
+    pub(crate) kept: Vec<Decision>,
+    pub(crate) given: Vec<Decision>,
+    /// Whether it was shown that each of them has to be retracted, beside the older ones that stay.
+    pub(crate) sure: bool,
+}
+
+/// Returns the effect on the verdict, where Even wins no product that agrees with the decisions that stay.
+fn cautious_effect(
+    alloc: Global,
+    order: &Order,
+    kept: &[Decision],
+    vertex: u32,
+    was_hopeless: bool,
+    limits: Limits,
+) -> Result<Effect, AllocError>
+    requires named { AreChoicesOf order.now.diagram.lines (choices kept.now) }
+    requires vertex { vertex < length order.now.game.vertices }
+    requires lost { IsLostBy (scene_of order.now.game order.now.diagram) vertex (choices kept.now) }
+    ensures { IfOk result (IsEffect (scene_of order.now.game order.now.diagram) limits vertex was_hopeless
+        (choices kept.now)) }
+{
+    if !was_hopeless {
+        return Ok(Effect::Nothing);
+    }
+    let which = Which::Hopeful;
+    match suffice(
+        alloc,
+        order,
+        Question::Verdict { which, vertex },
+        kept,
+        limits,
+    )? {
+        Shown::Yes => Ok(Effect::Nothing),
+        Shown::No => Ok(Effect::Possible),
+        Shown::Unsettled => Ok(Effect::Unsettled),
+    }
+}
+
+/// Returns the effect of a retraction, by the decisions that stay.
+pub(crate) fn effect_of(
+    alloc: Global,
+    order: &Order,
+    kept: &[Decision],
+    vertex: u32,
+    was_hopeless: bool,
+    limits: Limits,
+) -> Result<Effect, AllocError>
+    requires named { AreChoicesOf order.now.diagram.lines (choices kept.now) }
+    requires vertex { vertex < length order.now.game.vertices }
+    ensures { IfOk result (IsEffect (scene_of order.now.game order.now.diagram) limits vertex was_hopeless
+        (choices kept.now)) }
+{
+    let which = Which::Hopeful;
+    let found = search_all(alloc, order, Aim::Won { which, vertex }, kept, limits)?;
+    match found {
+        Found::Product(_) => Ok(Effect::Won),
+        Found::Nothing => cautious_effect(alloc, order, kept, vertex, was_hopeless, limits),
+        Found::Unsettled => Ok(Effect::Unsettled),
+    }
+}
+
+/// Returns the decisions without the one at this place.
+fn without(alloc: Global, decisions: &[Decision], place: usize) -> Result<Vec<Decision>, AllocError>
+    requires { place < length decisions.now }
+    ensures { IfOk result (λ kept. kept.items ≡ without place decisions.now) }
+{
+    let mut kept = Vec::from_slice(alloc, &decisions[..place])?;
+    kept.extend_from_slice(&decisions[place + 1..])?;
+    Ok(kept)
+}
+
+/// Returns the effect of retracting the decision at this place alone.
+fn effect_without(
+    alloc: Global,
+    order: &Order,
+    place: usize,
+    vertex: u32,
+    was_hopeless: bool,
+    limits: Limits,
+) -> Result<Effect, AllocError>
+    requires place { place < length order.now.decisions }
+    requires vertex { vertex < length order.now.game.vertices }
+    ensures { IfOk result (IsEffect (scene_of order.now.game order.now.diagram) limits vertex was_hopeless
+        (choices (without place order.now.decisions))) }
+{
+    let kept = without(alloc, order.decisions(), place)?;
+    let found = effect_of(alloc, order, &kept, vertex, was_hopeless, limits)?;
+    Ok(found)
+}
+
+/// Returns the decisions of the page, each with the effect of retracting it alone.
+pub(crate) fn tries(
+    alloc: Global,
+    order: &Order,
+    vertex: u32,
+    was_hopeless: bool,
+    limits: Limits,
+) -> Result<Vec<Tried>, AllocError>
+    requires { vertex < length order.now.game.vertices }
+    ensures { IfOk result (λ tried. AreTried (scene_of order.now.game order.now.diagram) limits vertex was_hopeless
+        order.now.decisions (length order.now.decisions) tried.items) }
+{
+    let decisions = order.decisions();
+    let mut tried = Vec::new(alloc);
+    'trying: for place in 0..decisions.len() {
+        let effect = effect_without(alloc, order, place, vertex, was_hopeless, limits)?;
+        tried.push(Tried {
+            decision: decisions[place],
+            effect,
+        })?;
+    }
+    Ok(tried)
+}
+
+/// Whether Even wins no product that agrees with the decisions.
+pub(crate) fn lost(
+    alloc: Global,
+    order: &Order,
+    decisions: &[Decision],
+    vertex: u32,
+    limits: Limits,
+) -> Result<Shown, AllocError>
+    requires named { AreChoicesOf order.now.diagram.lines (choices decisions.now) }
+    requires vertex { vertex < length order.now.game.vertices }
+    ensures yes { IfOk result (λ shown. shown ≡ Shown.Yes →
+        IsLostBy (scene_of order.now.game order.now.diagram) vertex (choices decisions.now)) }
+    ensures no { IfOk result (λ shown. shown ≡ Shown.No →
+        IsLostBy (scene_of order.now.game order.now.diagram) vertex (choices decisions.now) → ⊥) }
+    ensures settled { IfOk result (λ shown.
+        SearchEnds (scene_of order.now.game order.now.diagram) limits (Aim.Won Which.Hopeful vertex)
+        (choices decisions.now) → shown ≢ Shown.Unsettled) }
+{
+    let which = Which::Hopeful;
+    let aim = Aim::Won { which, vertex };
+    suffice(alloc, order, Question::Lost { aim }, decisions, limits)
+}
+
+// The decisions and one more.
+fn appended(
+    alloc: Global,
+    decisions: &[Decision],
+    more: Decision,
+) -> Result<Vec<Decision>, AllocError>
+    ensures { IfOk result (λ all. all.items ≡ decisions.now ++ more ∷ []) }
+{
+    let mut all = Vec::with_capacity(alloc, decisions.len())?;
+    all.extend_from_slice(decisions)?;
+    all.push(more)?;
+    Ok(all)
+}
+
+fn is_yes(shown: Shown) -> bool
+    ensures { IsTrue result ↔ (shown ≡ Shown.Yes) }
+{
+    match shown {
+        Shown::Yes => true,
+        _ => false,
+    }
+}
+
+/// Returns the decisions to retract together so that Even wins some product left, if the oldest are to stay. It goes
+/// through them from the first, and keeps each with which Even still wins one.
+pub(crate) fn give_up(
+    alloc: Global,
+    order: &Order,
+    decisions: &[Decision],
+    vertex: u32,
+    limits: Limits,
+) -> Result<Given, AllocError>
+    requires named { AreChoicesOf order.now.diagram.lines (choices decisions.now) }
+    requires vertex { vertex < length order.now.game.vertices }
+    requires winner { IsLostBy (scene_of order.now.game order.now.diagram) vertex [] → ⊥ }
+    ensures repair { IfOk result (λ found. IsRepair (IsLostBy (scene_of order.now.game order.now.diagram) vertex)
+        decisions.now found.kept.items found.given.items found.sure) }
+    ensures settled { IfOk result (λ found.
+        EachSearchEnds (scene_of order.now.game order.now.diagram) limits (Aim.Won Which.Hopeful vertex)
+        (choices decisions.now) → IsTrue found.sure) }
+{
+    let mut kept = Vec::new(alloc);
+    let mut given = Vec::new(alloc);
+    let mut sure = true;
+    'deciding: for d in decisions {
+        let more = appended(alloc, &kept, *d)?;
+        let shown = lost(alloc, order, &more, vertex, limits)?;
+        if let Shown::No = shown {
+            kept = more;
+        } else {
+            given.push(*d)?;
+            sure = sure && is_yes(shown);
+        }
+    }
+    Ok(Given { kept, given, sure })
+}
