@@ -2,10 +2,11 @@
 //!
 //! Without words it reads a script of commands from standard input, carries it out on a desk over the built-in game and
 //! diagram, and writes the answers to standard output. `run` does so with the files of a game, a diagram and a script.
-//! `project` writes the plain game of one product, `check` writes the counts and top measures of a game, and `lint`
-//! warns of a family. `draw` writes a picture, of the page that a script leaves if one is named. A system and its
-//! requirements may stand in place of the game, which `model` writes; and `draw` draws the system itself, with a trace
-//! if one is asked for.
+//! `export` writes the configuration that a script leaves, `project` the plain game of one product, `check` the counts
+//! and top measures of a game, and `lint` warns of a family. `diagram` writes the diagram that a feature model means;
+//! such a model may stand in place of each diagram. `draw` writes a picture, of the page that a script leaves if one is
+//! named. A system and its requirements may stand in place of the game, which `model` writes; and `draw` draws the
+//! system itself, with a trace if one is asked for.
 //!
 //! The status is 0 if all goes well. It is 1 if the input is refused or something fails. Then one line on standard
 //! error, `vpgdesk: ` and the fault, says so, and with `--explain` further lines say where and why. It is 2 if the
@@ -25,21 +26,23 @@ ghost use Rattle.vpg_diagram.specs.FeatureDiagram.{feature_count};
 use clap::error::ErrorKind;
 use std::alloc::{AllocError, Global};
 use std::cell::Cell;
-use std::io::IsTerminal;
+use std::io::{IsTerminal, Read};
 use std::process::ExitCode;
 use std::sync::Wait;
 use std::thread::Threads;
 use std::{env, io};
+use vpg_configuration::selecting;
 use vpg_family::{
-    Context, Family, Fault, Known, Paths, Pictured, Texts, Unread, checked, drawn, explained,
-    line_of, linted, open_script, read_known, read_script, read_texts, system_drawn,
+    Context, DiagramFile, Family, Fault, Known, Paths, Pictured, Texts, Unread, checked, drawn,
+    explained, explained_diagram, explained_set, line_of, linted, open_script, read_diagram_file,
+    read_known, read_script, read_texts, system_drawn,
 };
 use vpg_report::{
-    DIAGRAM, End, GAME, drawn_after, end_of, ended, refused_line, run_script, status,
-    system_drawn_after, traced_after,
+    DIAGRAM, End, GAME, drawn_after, end_of, ended, exported_after, refused_line, run_script,
+    status, system_drawn_after, traced_after,
 };
 use vpg_script::{Device, Sink, Source};
-use vpg_serving::{Ending, Manner};
+use vpg_serving::{Ending, Form, Manner};
 use vpg_terminal::{
     Ear, Heard, Invocation, Named, Picture, Setting, Task, Typed, command_list, not_text, read,
 };
@@ -48,13 +51,13 @@ use vpg_terminal::{
 const PLAIN: Manner = Manner {
     is_strict: false,
     goes_on: false,
+    form: Form::Plain,
 };
 
-/// Each line is answered, also one with a fault.
-const FORGIVING: Manner = Manner {
-    is_strict: false,
-    goes_on: true,
-};
+/// Returns the form that answers are asked for in.
+fn form_of(json: bool) -> Form {
+    if json { Form::Json } else { Form::Plain }
+}
 
 /// Writes a text.
 fn put<W: Sink>(writer: &mut W, text: &[u8]) -> Result<(), Fault>
@@ -177,6 +180,54 @@ fn named<'n, W: Sink>(alloc: Global, known: &'n Known, writer: W) -> Named<'n, P
     Named::new(alloc, game, &known.names, writer)
 }
 
+/// The lines of a script, and how they are carried out.
+#[derive(Clone, Copy)]
+struct Work<'a> {
+    /// The file of the script.
+    script: &'a str,
+    /// The file of a configuration before it.
+    config: Option<&'a str>,
+    lifters: u32,
+    manner: Manner,
+}
+
+/// Returns the lines that select the features of a configuration in a file, none if there is no file.
+fn selections(rt: &HostRuntime, alloc: Global, config: Option<&str>) -> Result<Vec<u8>, Fault> {
+    match script_of(rt, alloc, config) {
+        Ok(text) => Ok(selecting(alloc, &text)?),
+        Err(fault) => Err(fault),
+    }
+}
+
+/// Carries a script of a file out on a family, with these names for its vertices. Lines that select come before it.
+fn run_behind<T: Threads + Wait + Sync, W: Sink + Drop>(
+    rt: &HostRuntime,
+    threads: &T,
+    alloc: Global,
+    family: Family,
+    context: &Context,
+    selections: &[u8],
+    writer: W,
+    work: Work<'_>,
+) -> Result<End, Fault>
+    requires lifters { (1 ≤ work.lifters) × (work.lifters ≤ 64) }
+    requires features { (arc_value family.game).features ≡ feature_count (arc_value family.diagram).lines }
+{
+    match open_script(rt, work.script) {
+        Ok(file) => run(
+            threads,
+            alloc,
+            family,
+            context,
+            Device::reader(selections.chain(file)),
+            writer,
+            work.lifters,
+            work.manner,
+        ),
+        Err(fault) => Err(fault),
+    }
+}
+
 /// Carries a script of a file out on a family, with these names for its vertices.
 fn run_file<T: Threads + Wait + Sync, W: Sink + Drop>(
     rt: &HostRuntime,
@@ -184,25 +235,14 @@ fn run_file<T: Threads + Wait + Sync, W: Sink + Drop>(
     alloc: Global,
     family: Family,
     context: &Context,
-    script: &str,
     writer: W,
-    lifters: u32,
-    manner: Manner,
+    work: Work<'_>,
 ) -> Result<End, Fault>
-    requires lifters { (1 ≤ lifters) × (lifters ≤ 64) }
+    requires lifters { (1 ≤ work.lifters) × (work.lifters ≤ 64) }
     requires features { (arc_value family.game).features ≡ feature_count (arc_value family.diagram).lines }
 {
-    match open_script(rt, script) {
-        Ok(file) => run(
-            threads,
-            alloc,
-            family,
-            context,
-            Device::reader(file),
-            writer,
-            lifters,
-            manner,
-        ),
+    match selections(rt, alloc, work.config) {
+        Ok(lines) => run_behind(rt, threads, alloc, family, context, &lines, writer, work),
         Err(fault) => Err(fault),
     }
 }
@@ -213,11 +253,9 @@ fn run_named<T: Threads + Wait + Sync>(
     threads: &T,
     alloc: Global,
     known: &Known,
-    script: &str,
-    lifters: u32,
-    manner: Manner,
+    work: Work<'_>,
 ) -> Result<End, Fault>
-    requires lifters { (1 ≤ lifters) × (lifters ≤ 64) }
+    requires lifters { (1 ≤ work.lifters) × (work.lifters ≤ 64) }
     requires features { (arc_value known.now.family.game).features
         ≡ feature_count (arc_value known.now.family.diagram).lines }
 {
@@ -225,9 +263,7 @@ fn run_named<T: Threads + Wait + Sync>(
         Ok(family) => {
             let writer = named(alloc, known, Device::writer(rt.stdout().lock()));
             let context = &known.context;
-            run_file(
-                rt, threads, alloc, family, context, script, writer, lifters, manner,
-            )
+            run_file(rt, threads, alloc, family, context, writer, work)
         }
         Err(_) => Err(Fault::Memory),
     }
@@ -239,15 +275,13 @@ fn run_named_files<T: Threads + Wait + Sync>(
     threads: &T,
     alloc: Global,
     paths: Paths<'_>,
-    script: &str,
-    lifters: u32,
-    manner: Manner,
+    work: Work<'_>,
     texts: &mut Texts,
 ) -> Result<End, Fault>
-    requires { (1 ≤ lifters) × (lifters ≤ 64) }
+    requires { (1 ≤ work.lifters) × (work.lifters ≤ 64) }
 {
     match read_known(rt, alloc, paths) {
-        Ok(known) => run_named(rt, threads, alloc, &known, script, lifters, manner),
+        Ok(known) => run_named(rt, threads, alloc, &known, work),
         Err(unread) => Err(kept(unread, texts)),
     }
 }
@@ -258,11 +292,9 @@ fn run_known<T: Threads + Wait + Sync>(
     threads: &T,
     alloc: Global,
     known: &Known,
-    script: &str,
-    lifters: u32,
-    manner: Manner,
+    work: Work<'_>,
 ) -> Result<End, Fault>
-    requires lifters { (1 ≤ lifters) × (lifters ≤ 64) }
+    requires lifters { (1 ≤ work.lifters) × (work.lifters ≤ 64) }
     requires features { (arc_value known.now.family.game).features
         ≡ feature_count (arc_value known.now.family.diagram).lines }
 {
@@ -270,9 +302,7 @@ fn run_known<T: Threads + Wait + Sync>(
         Ok(family) => {
             let writer = Device::writer(rt.stdout().lock());
             let context = &known.context;
-            run_file(
-                rt, threads, alloc, family, context, script, writer, lifters, manner,
-            )
+            run_file(rt, threads, alloc, family, context, writer, work)
         }
         Err(_) => Err(Fault::Memory),
     }
@@ -284,15 +314,13 @@ fn run_files<T: Threads + Wait + Sync>(
     threads: &T,
     alloc: Global,
     paths: Paths<'_>,
-    script: &str,
-    lifters: u32,
-    manner: Manner,
+    work: Work<'_>,
     texts: &mut Texts,
 ) -> Result<End, Fault>
-    requires { (1 ≤ lifters) × (lifters ≤ 64) }
+    requires { (1 ≤ work.lifters) × (work.lifters ≤ 64) }
 {
     match read_known(rt, alloc, paths) {
-        Ok(known) => run_known(rt, threads, alloc, &known, script, lifters, manner),
+        Ok(known) => run_known(rt, threads, alloc, &known, work),
         Err(unread) => Err(kept(unread, texts)),
     }
 }
@@ -318,12 +346,14 @@ fn greet<S: Sink>(alloc: Global, family: &Family, talk: &mut S) -> Result<Family
     family.again()
 }
 
-/// Answers commands as they are typed, on a family. The text beside the answers goes to `talk`.
+/// Answers commands as they are typed, on a family. The text beside the answers goes to `talk`. Of answers in JSON the
+/// session hears nothing.
 fn converse<T: Threads + Wait + Sync, R: Source + Drop, S: Sink + Drop, W: Sink + Drop>(
     threads: &T,
     alloc: Global,
     known: &Known,
     lifters: u32,
+    form: Form,
     is_prompted: bool,
     reader: R,
     mut talk: S,
@@ -347,8 +377,14 @@ fn converse<T: Threads + Wait + Sync, R: Source + Drop, S: Sink + Drop, W: Sink 
             let reader = Typed::new(alloc, setting, reader, talk);
             let writer = Ear::new(writer, &heard);
             let context = &known.context;
+            // Each line is answered, also one with a fault.
+            let manner = Manner {
+                is_strict: false,
+                goes_on: true,
+                form,
+            };
             run(
-                threads, alloc, family, context, reader, writer, lifters, FORGIVING,
+                threads, alloc, family, context, reader, writer, lifters, manner,
             )
         }
         Err(_) => Err(Fault::Memory),
@@ -362,6 +398,7 @@ fn converse_here<T: Threads + Wait + Sync, W: Sink + Drop>(
     alloc: Global,
     known: &Known,
     lifters: u32,
+    form: Form,
     writer: W,
 ) -> Result<End, Fault>
     requires lifters { (1 ≤ lifters) × (lifters ≤ 64) }
@@ -376,6 +413,7 @@ fn converse_here<T: Threads + Wait + Sync, W: Sink + Drop>(
         alloc,
         known,
         lifters,
+        form,
         is_prompted,
         reader,
         talk,
@@ -390,6 +428,7 @@ fn sit_at<T: Threads + Wait + Sync>(
     alloc: Global,
     known: &Known,
     lifters: u32,
+    form: Form,
     shows_names: bool,
 ) -> Result<End, Fault>
     requires lifters { (1 ≤ lifters) × (lifters ≤ 64) }
@@ -398,10 +437,10 @@ fn sit_at<T: Threads + Wait + Sync>(
 {
     let writer = Device::writer(rt.stdout().lock());
     if !shows_names {
-        return converse_here(rt, threads, alloc, known, lifters, writer);
+        return converse_here(rt, threads, alloc, known, lifters, form, writer);
     }
     let writer = named(alloc, known, writer);
-    converse_here(rt, threads, alloc, known, lifters, writer)
+    converse_here(rt, threads, alloc, known, lifters, form, writer)
 }
 
 /// Answers commands from standard input on a family of some files.
@@ -411,13 +450,14 @@ fn sit<T: Threads + Wait + Sync>(
     alloc: Global,
     paths: Paths<'_>,
     lifters: u32,
+    form: Form,
     shows_names: bool,
     texts: &mut Texts,
 ) -> Result<End, Fault>
     requires { (1 ≤ lifters) × (lifters ≤ 64) }
 {
     match read_known(rt, alloc, paths) {
-        Ok(known) => sit_at(rt, threads, alloc, &known, lifters, shows_names),
+        Ok(known) => sit_at(rt, threads, alloc, &known, lifters, form, shows_names),
         Err(unread) => Err(kept(unread, texts)),
     }
 }
@@ -466,6 +506,19 @@ fn game_text(
 ) -> Result<Vec<u8>, Fault> {
     match read_texts(rt, alloc, paths) {
         Ok(Texts { game, .. }) => Ok(game),
+        Err(unread) => Err(kept(unread, texts)),
+    }
+}
+
+/// Returns the text of the diagram that a file means.
+fn diagram_text(
+    rt: &HostRuntime,
+    alloc: Global,
+    path: &str,
+    texts: &mut Texts,
+) -> Result<Vec<u8>, Fault> {
+    match read_diagram_file(rt, alloc, path) {
+        Ok(DiagramFile { text, .. }) => Ok(text),
         Err(unread) => Err(kept(unread, texts)),
     }
 }
@@ -644,7 +697,38 @@ fn traced_files<T: Threads + Wait + Sync>(
     }
 }
 
-/// Writes a picture, if it was made, and returns the end of its script.
+/// Returns the configuration of a family on the page that a script of a file leaves, and the script's end.
+fn exported_known<T: Threads + Wait + Sync>(
+    rt: &HostRuntime,
+    threads: &T,
+    alloc: Global,
+    known: &Known,
+    script: &str,
+) -> Result<(Ending, Vec<u8>), Fault>
+    requires { (arc_value known.now.family.game).features ≡ feature_count (arc_value known.now.family.diagram).lines }
+{
+    match read_script(rt, script) {
+        Ok(lines) => exported_after(threads, alloc, &known.family, &known.context, &lines),
+        Err(fault) => Err(fault),
+    }
+}
+
+/// Returns the configuration of a family of some files on the page that a script leaves, and the script's end.
+fn exported<T: Threads + Wait + Sync>(
+    rt: &HostRuntime,
+    threads: &T,
+    alloc: Global,
+    paths: Paths<'_>,
+    script: &str,
+    texts: &mut Texts,
+) -> Result<(Ending, Vec<u8>), Fault> {
+    match read_known(rt, alloc, paths) {
+        Ok(known) => exported_known(rt, threads, alloc, &known, script),
+        Err(unread) => Err(kept(unread, texts)),
+    }
+}
+
+/// Writes a picture or a configuration, if it was made, and returns the end of its script.
 fn put_drawn(rt: &HostRuntime, drawn: Result<(Ending, Vec<u8>), Fault>) -> Result<End, Fault> {
     match drawn {
         Ok((ending, text)) => match put_out(rt, &text) {
@@ -685,32 +769,45 @@ fn carry_out<T: Threads + Wait + Sync>(
         Task::Run {
             paths,
             script,
+            config,
             lifters,
             strict,
             keep_going,
             names,
+            json,
         } => {
-            let manner = Manner {
-                is_strict: *strict,
-                goes_on: *keep_going,
+            let work = Work {
+                script,
+                config: *config,
+                // The parser takes no other number of lifters.
+                lifters: (*lifters).clamp(1, 64),
+                manner: Manner {
+                    is_strict: *strict,
+                    goes_on: *keep_going,
+                    form: form_of(*json),
+                },
             };
-            // The parser takes no other number of lifters.
-            let lifters = (*lifters).clamp(1, 64);
             if *names {
-                run_named_files(rt, threads, alloc, *paths, script, lifters, manner, texts)
+                run_named_files(rt, threads, alloc, *paths, work, texts)
             } else {
-                run_files(rt, threads, alloc, *paths, script, lifters, manner, texts)
+                run_files(rt, threads, alloc, *paths, work, texts)
             }
         }
         Task::Desk {
             paths,
             lifters,
             names,
+            json,
         } => {
             let lifters = (*lifters).clamp(1, 64);
-            sit(rt, threads, alloc, *paths, lifters, *names, texts)
+            let form = form_of(*json);
+            sit(rt, threads, alloc, *paths, lifters, form, *names, texts)
+        }
+        Task::Export { paths, script } => {
+            put_drawn(rt, exported(rt, threads, alloc, *paths, script, texts))
         }
         Task::Model { paths } => put_made(rt, game_text(rt, alloc, *paths, texts)),
+        Task::Diagram { path } => put_made(rt, diagram_text(rt, alloc, path, texts)),
         Task::Project { paths, features } => {
             put_made(rt, projected(rt, alloc, *paths, features, texts))
         }
@@ -748,10 +845,25 @@ fn explanation_of(
     texts: &Texts,
     fault: &Fault,
 ) -> Vec<u8> {
-    let Some(paths) = task.paths() else {
-        return Vec::new(alloc);
+    let script = match task {
+        // Lines of a configuration count before those of its script.
+        Task::Run {
+            config: Some(_),
+            ..
+        } => None,
+        _ => task.script(),
     };
-    match explained(rt, alloc, paths, texts, task.script(), fault) {
+    let lines = match (task, fault) {
+        (Task::Project { paths, features }, Fault::NotAProduct) => {
+            explained_set(alloc, paths.diagram, &texts.diagram, features)
+        }
+        _ => match (task.paths(), task.diagram()) {
+            (Some(paths), _) => explained(rt, alloc, paths, texts, script, fault),
+            (None, Some(path)) => explained_diagram(alloc, path, texts, fault),
+            (None, None) => return Vec::new(alloc),
+        },
+    };
+    match lines {
         Ok(lines) => lines,
         Err(_) => Vec::new(alloc),
     }

@@ -4,7 +4,8 @@ use Rattle.std.specs.Prelude.{length, codes, IfOk, OnOk}
 use Rattle.vpg_features.specs.Names.{index_of}
 use Rattle.vpg_diagram.specs.DiagramText.{NamedDiagram}
 use Rattle.vpg_trail.specs.Page.{Which, Decision, Entry}
-use Rattle.vpg_desk.specs.Book.{Harvest, Call, Reply, Decide, Order, Commit, Settled, Page, Changed, Ordered, Added, IsSettled, PageIs, Refused, Refusal}
+use Rattle.vpg_desk.specs.Book.{Harvest, Call, Reply, Decide, Order, Commit, Settled, Page, Changed, Ordered, Added, IsSettled, PageIs, Refused}
+use Rattle.vpg_faults.specs.declared.refusal.Refusal.{Refusal}
 use Rattle.vpg_desk.specs.Desk.{family_of}
 use Rattle.vpg_desk.specs.History.{Event, IsLegalFrom, book_after}
 use Rattle.vpg_desk.specs.State.{setting_between, setting_of}

@@ -8,8 +8,11 @@ use Rattle.vpg_partial.specs.Known.{literal_of}
 use Rattle.vpg_partial.specs.TableLaws.{AreChoicesOf}
 use Rattle.vpg_measure.specs.Orders.{OrderView, HarvestView, IsOrder}
 use Rattle.vpg_trail.specs.Page.{Literal, stands, choices_of}
-use Rattle.vpg_desk.specs.Book.{Harvest, Commit, Added, Refused, Refusal, Outdated, first_missing, outdated_at, refuses_commit}
-use Rattle.vpg_desk.specs.Commit.{IsOrderOf, commit_refusal, handed_in}
+use Rattle.vpg_desk.specs.Book.{Harvest, Commit, Added, Refused, first_missing, outdated_at, refuses_commit}
+use Rattle.vpg_faults.specs.declared.refusal.Refusal.{Refusal}
+use Rattle.vpg_faults.specs.declared.refusal.Refusal.TheVariants.{Outdated}
+use Rattle.vpg_desk.specs.Commit.{IsOrderOf, handed_in}
+use Rattle.vpg_faults.specs.Refusals.{commit_refusal}
 use Rattle.vpg_faults.specs.declared.fault.CommitFault.{CommitFault}
 use Rattle.vpg_faults.specs.declared.fault.CommitFault.TheVariants as commits
 use Rattle.vpg_desk.specs.State.{DeskState, Replies}
@@ -19,10 +22,12 @@ use Rattle.vpg_report.specs.Client.{ClientState, IsLogged}
 use Rattle.vpg_report.specs.Faults.{Tells, CommitTells, UnlessStray}
 use Rattle.vpg_report.specs.declared.fault.ClientFault.{ClientFault}
 use Rattle.vpg_report.specs.declared.fault.ClientFault.TheVariants as faults
+use Rattle.vpg_report.specs.declared.fault.ClientFault.TheVariants.{LogFull, Refused as Refuses, Stray, Memory}
+use Rattle.vpg_faults.specs.declared.fault.CommitFault.TheVariants.{OtherGame as IsOther, Outdated as IsOutdated, Memory as NoRoom}
 use Rattle.vpg_script.specs.Script as script
 use Rattle.vpg_report.specs.Held.{harvest_kept, without_harvest}
 use Rattle.vpg_report.specs.Answers.{NoHarvest, own_text, first_call, room, call_or, numbered}
-use Rattle.vpg_report.specs.Engine.{EngineState, scene_at, TellsFault, AnswersTo}
+use Rattle.vpg_report.specs.Engine.{EngineState, scene_at, IsFaultWithin, TellsFault, AnswersTo}
 use Rattle.vpg_report.specs.EngineFields.{IsOwnHarvest, AreOwnHarvests, harvests_of}
 use Rattle.vpg_settle.specs.Sweeping.{IsOfPage}
 use Rattle.vpg_report.proofs.Asked.{unasked, asked, unanswered}
@@ -97,6 +102,16 @@ outdated_within limit old new session harvest f fault named tells is = go (subst
       where
         refusal_is : (r : Refusal) → Some (Outdated f) ≡ Some r → r ≡ Outdated f
         refusal_is r e = sym (cc e)
+
+-- the features that the client's faults name
+pub committed_within : (limit : ℕ) (old new : ClientState) (session : ℕ) (harvest : HarvestView) (fault : ClientFault CommitFault) → AreChoicesOf old.desk.diagram.lines (map literal_of harvest.order.decisions) →
+    CommitTells limit old session harvest new fault → IsFaultWithin (feature_count old.desk.diagram.lines) commit_refusal fault
+committed_within limit old new session harvest LogFull named tells = tt
+committed_within limit old new session harvest (Refuses IsOther) named tells = tt
+committed_within limit old new session harvest (Refuses (IsOutdated f)) named tells = outdated_within limit old new session harvest f (Refuses (IsOutdated f)) named tells refl
+committed_within limit old new session harvest (Refuses NoRoom) named tells = tt
+committed_within limit old new session harvest Stray named tells = tt
+committed_within limit old new session harvest Memory named tells = tt
 
 -- ---- the kept harvests are the engine's own
 

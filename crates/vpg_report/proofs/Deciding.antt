@@ -3,8 +3,10 @@ use Rattle.std.proofs.Common.{◌≡◌, ℕ, ◌+◌, ◌<◌, Bool, List, ◌+
 use Rattle.std.specs.Prelude.{codes, slice_get, IfSome}
 use Rattle.std.proofs.lemmas.Option.{slice_get_within}
 use Rattle.vpg_features.specs.Names.{index_of}
-use Rattle.vpg_desk.specs.Book.{Family, Book, Decide, Retract, Changed, Refused, Refusal, Conflict, RefusesDecide, IsReply}
-use Rattle.vpg_desk.specs.Faults.{decide_refusal, retract_refusal}
+use Rattle.vpg_desk.specs.Book.{Family, Book, Decide, Retract, Changed, Refused, RefusesDecide, IsReply}
+use Rattle.vpg_faults.specs.declared.refusal.Refusal.{Refusal}
+use Rattle.vpg_faults.specs.declared.refusal.Refusal.TheVariants.{Conflict}
+use Rattle.vpg_faults.specs.Refusals.{decide_refusal, retract_refusal}
 use Rattle.vpg_faults.specs.declared.fault.DecideFault.{DecideFault}
 use Rattle.vpg_faults.specs.declared.fault.RetractFault.{RetractFault}
 use Rattle.vpg_desk.specs.Desk.{family_of}
@@ -16,10 +18,12 @@ use Rattle.vpg_report.specs.Client.{ClientState, IsLogged}
 use Rattle.vpg_report.specs.Faults.{Tells, UnlessStray}
 use Rattle.vpg_report.specs.declared.fault.ClientFault.{ClientFault}
 use Rattle.vpg_report.specs.declared.fault.ClientFault.TheVariants as faults
+use Rattle.vpg_report.specs.declared.fault.ClientFault.TheVariants.{LogFull, Refused as Refuses, Stray, Memory}
+use Rattle.vpg_faults.specs.declared.fault.DecideFault.TheVariants.{UnknownFeature as Unknown, AlreadyDecided as Decided, Conflict as Conflicts, TooManyChanges as TooMany, Memory as NoRoom}
 use Rattle.vpg_script.specs.Script as script
 use Rattle.vpg_report.specs.Held.{after_change}
 use Rattle.vpg_report.specs.Answers.{NoFeature, own_text, numbered, room, call_or, first_call}
-use Rattle.vpg_report.specs.Engine.{EngineState, scene_at, deciding, TellsFault, AnswersTo}
+use Rattle.vpg_report.specs.Engine.{EngineState, scene_at, deciding, IsFaultWithin, TellsFault, AnswersTo}
 use Rattle.vpg_report.proofs.Asked.{unasked, asked, unanswered, named_first, continues_decided}
 
 module _ (old : EngineState) (session : ℕ) (name : List ℕ) where
@@ -78,3 +82,16 @@ conflict_within limit old new session f g value fault tells is names name found 
     own (r, (same, logged)) =
         conflict_is_own (family_of (setting_of old.desk)) old.desk.book f g value
         (subst (λ (x : Option Refusal). IfSome x (λ y. IsReply (family_of (setting_of old.desk)) old.desk.book (Decide f value) (Refused y))) (sym same) logged.step.step.0)
+
+-- so does each other fault of a decide that the client tells
+pub decided_within : (limit : ℕ) (old new : ClientState) (session f : ℕ) (value : Bool) (fault : ClientFault DecideFault) → Tells limit decide_refusal old session (Decide f value) new fault →
+    (names : List (List ℕ)) (name : List ℕ) → slice_get names f ≡ Some name → IsFaultWithin (length names) decide_refusal fault
+decided_within limit old new session f value LogFull tells names name found = tt
+decided_within limit old new session f value (Refuses Unknown) tells names name found = tt
+decided_within limit old new session f value (Refuses (Decided s)) tells names name found = tt
+decided_within limit old new session f value (Refuses (Conflicts g)) tells names name found =
+    conflict_within limit old new session f g value (Refuses (Conflicts g)) tells refl names name found
+decided_within limit old new session f value (Refuses TooMany) tells names name found = tt
+decided_within limit old new session f value (Refuses NoRoom) tells names name found = tt
+decided_within limit old new session f value Stray tells names name found = tt
+decided_within limit old new session f value Memory tells names name found = tt

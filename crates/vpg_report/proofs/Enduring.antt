@@ -5,7 +5,8 @@ use Rattle.vpg_diagram.specs.DiagramText.{NamedDiagram}
 use Rattle.vpg_diagram.specs.FeatureDiagram.{feature_count}
 use Rattle.vpg_game.specs.Game.{NamedGame}
 use Rattle.vpg_measure.specs.Orders.{HarvestView}
-use Rattle.vpg_desk.specs.Book.{Call, Refusal, Reply}
+use Rattle.vpg_desk.specs.Book.{Call, Reply}
+use Rattle.vpg_faults.specs.declared.refusal.Refusal.{Refusal}
 use Rattle.vpg_desk.specs.State.{DeskState}
 use Rattle.vpg_faults.specs.declared.fault.CommitFault.{CommitFault}
 use Rattle.vpg_report.specs.Client.{ClientState, IsLogged}

@@ -1,5 +1,5 @@
 -- A front that has grown by no call is the same.
-use Rattle.std.proofs.Common.{◌≡◌, List, [], ◌∷◌, ◌++◌, length, refl, sym, ap, ◌∙◌, arith, length-append, append-nil}
+use Rattle.std.proofs.Common.{◌≡◌, ◌<◌, List, [], ◌∷◌, ◌++◌, length, refl, sym, ap, ◌∙◌, arith, length-append, append-nil}
 use mathlib.Core.List.{IsPrefix}
 use Rattle.vpg_desk.specs.History.{Event}
 
@@ -11,3 +11,6 @@ pub same_front : (front new : List Event) → IsPrefix front new → length new 
 same_front front new p same =
     let nothing : p.0 ≡ [] = none_of p.0 (omega (arith, same, ap length p.1, length-append front p.0)) in
     sym p.1 ∙ ap (λ (l : List Event). front ++ l) nothing ∙ append-nil front
+
+pub more_front : (front log : List Event) → IsPrefix front log → ¬ (length log ≡ length front) → length front < length log
+more_front front log p other = omega (arith, other, ap length p.1, length-append front p.0)

@@ -8,7 +8,8 @@ use Rattle.vpg_diagram.specs.DiagramText.{NamedDiagram}
 use Rattle.vpg_diagram.specs.FeatureDiagram.{feature_count}
 use Rattle.vpg_game.specs.Game.{NamedGame, NamedVertex, vertex_ids}
 use Rattle.vpg_measure.specs.Orders.{OrderView, IsOrder}
-use Rattle.vpg_desk.specs.Book.{Call, Order, Ordered, Refusal, Reply}
+use Rattle.vpg_desk.specs.Book.{Call, Order, Ordered, Reply}
+use Rattle.vpg_faults.specs.declared.refusal.Refusal.{Refusal}
 use Rattle.vpg_desk.specs.Commit.{IsOrderOf}
 use Rattle.vpg_serving.specs.Answer.{Gives, IsGiven, refused}
 use Rattle.vpg_serving.specs.declared.tone.Tone.{Tone}

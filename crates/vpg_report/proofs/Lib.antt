@@ -11,7 +11,9 @@ pub mod Exchanging
 pub mod LiftedOnce
 pub mod Committing
 pub mod Enduring
+pub mod Named
 pub mod Settling
+pub mod Strays
 pub mod Within
 pub mod Written
 pub mod Histories
@@ -23,5 +25,6 @@ pub mod OneText
 pub mod OneRun
 pub mod Results
 pub mod Draws
+pub mod Exports
 pub mod RunEnds
 pub mod Winning

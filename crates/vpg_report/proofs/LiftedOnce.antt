@@ -14,7 +14,8 @@ use Rattle.vpg_measure.specs.TwoGames.{IsTableBelow}
 use Rattle.vpg_measure.proofs.OrderLemmas.{IsLawfulTable, own_lawful, raised_lawful}
 use Rattle.vpg_measure.proofs.TwoGames.{arena_length}
 use Rattle.vpg_desk.specs.Book.{Order, Ordered, Commit, Added}
-use Rattle.vpg_desk.specs.Commit.{IsOrderOf, commit_refusal, handed_in}
+use Rattle.vpg_desk.specs.Commit.{IsOrderOf, handed_in}
+use Rattle.vpg_faults.specs.Refusals.{commit_refusal}
 use Rattle.vpg_faults.specs.declared.fault.CommitFault.{CommitFault}
 use Rattle.vpg_desk.specs.Desk.{family_of}
 use Rattle.vpg_desk.specs.Lawful.{harvested}

@@ -1,6 +1,6 @@
 -- Settled answers are one.
 use Rattle.std.proofs.Common.{◌≡◌, ℕ, ◌+◌, Bool, true, false, List, [], ◌∷◌, ◌++◌, length, Option, Some, None, Result, Ok, Err, sym, ap, ap₂, ◌∙◌, subst, inl, inr, arith}
-use Rattle.std.specs.Prelude.{IfSome, map, not, if◌then◌else◌, ⊤}
+use Rattle.std.specs.Prelude.{IfSome, map, not, if◌then◌else◌, ⊤, codes}
 use Rattle.vpg_features.specs.Names.{index_of}
 use Rattle.vpg_guards.specs.Known.{kleene}
 use Rattle.vpg_guards.specs.declared.tri.Tri.{Tri}
@@ -9,7 +9,9 @@ use Rattle.vpg_measure.specs.Lifts.{raised}
 use Rattle.vpg_measure.specs.Orders.{other_table}
 use Rattle.vpg_measure.specs.TwoGames.{levels_for, arena_for}
 use Rattle.vpg_trail.specs.Page.{Which, Hopeful, Dual, Decision, Entry, literal_of, decisions_of, choices_of, table_of}
-use Rattle.vpg_desk.specs.Book.{Family, Book, Harvest, IsSettledPage, raises_of, next, Call, Decide, Retract, Undo, Redo, Keep, Forget, Order, Commit, Settled, Page, Reply, Changed, Undone, Redone, Spent, Ordered, Added, IsSettled, VerdictIs, PageIs, Refused, Refusal, OtherGame, first_missing, outdated_at, refuses_commit, IsReply}
+use Rattle.vpg_desk.specs.Book.{Family, Book, Harvest, IsSettledPage, raises_of, next, Call, Decide, Retract, Undo, Redo, Keep, Forget, Order, Commit, Settled, Page, Reply, Changed, Undone, Redone, Spent, Ordered, Added, IsSettled, VerdictIs, PageIs, Refused, first_missing, outdated_at, refuses_commit, IsReply}
+use Rattle.vpg_faults.specs.declared.refusal.Refusal.{Refusal}
+use Rattle.vpg_faults.specs.declared.refusal.Refusal.TheVariants.{OtherGame}
 use Rattle.vpg_desk.specs.History.{Event, IsLegalFrom, book_after}
 use Rattle.vpg_desk.specs.Desk.{family_of}
 use Rattle.vpg_desk.specs.Lawful.{harvested}
@@ -30,7 +32,8 @@ use Rattle.vpg_answers.proofs.One.{answers_are_one}
 use Rattle.vpg_report.specs.Run.{Between, as_meant, begun}
 use Rattle.vpg_report.specs.Settling.{settling, TellsSettle, AreChecked, SettledAnswersAreOne}
 use Rattle.vpg_texts.proofs.Planned.{known_is_one}
-use Rattle.vpg_texts.proofs.Seen.{seen_one}
+use Rattle.vpg_answers.specs.Asserted.{failing}
+use Rattle.vpg_answers.proofs.Looked.{looked_one}
 use Rattle.vpg_report.proofs.Replies.{reply_one}
 use Rattle.vpg_report.proofs.LeastHarvests.{same_harvests, checked_are_one, settling_are_one}
 use Rattle.vpg_report.proofs.Settling.{none_missing}
@@ -191,6 +194,14 @@ module _ (behaviour : Option Behaviour) (scene : Scene) (held : Held) (Told : An
     tells_page Tells one (PageIs page) = λ calls more answer other new newer a b fit fits. (a.1 ∙ sym b.1, one page answer other a.0 b.0, a.2 ∙ sym b.2)
     tells_page Tells one _ = λ calls more answer other new newer a. absurd a
 
+    tells_look : (lookup : script.Lookup) → ((answer : Answer) → Told answer → ¬ (answer ≡ failing (codes "unsettled"))) → (reply : Reply) → IsOne book (TellsPage (Sees scene lookup) held reply)
+    tells_look lookup sure (PageIs page) = λ calls more answer other new newer a b fit fits. (
+      a.1 ∙ sym b.1,
+      looked_one scene answer_limits lookup page (decisions_of page) (table_of Hopeful page (length scene.game)) (table_of Dual page (length scene.game)) answer other a.0 b.0 (sure answer fit.told) (sure other fits.told),
+      a.2 ∙ sym b.2,
+    )
+    tells_look lookup sure _ = λ calls more answer other new newer a. absurd a
+
     tells_verdicts : (reply : Reply) → IsOne book (TellsVerdicts scene held reply)
     tells_verdicts (PageIs page) = ends book _ (with_seen held (verdicts_on scene page))
     tells_verdicts _ = λ calls more answer other new newer a. absurd a
@@ -319,14 +330,15 @@ module _ (behaviour : Option Behaviour) (scene : Scene) (held : Held) (Told : An
     begins_order inquiry sure (Err own) = ends book _ held
     begins_order inquiry sure (Ok query) = begins (script.Ask inquiry) Order (tells_answer inquiry sure)
 
-    begins_page : (lookup : script.Lookup) (has : Bool) → IsOne book (Begins behaviour scene held made label (script.Look lookup) (page_if has))
-    begins_page lookup true = begins (script.Look lookup) Page (λ reply told. tells_page _ (Sees scene lookup) (λ page one other. seen_one scene page (decisions_of page) _ _ lookup one other) reply)
-    begins_page lookup false = ends book _ held
+    begins_page : (lookup : script.Lookup) → ((answer : Answer) → Told answer → ¬ (answer ≡ failing (codes "unsettled"))) → (has : Bool) → IsOne book (Begins behaviour scene held made label (script.Look lookup) (page_if has))
+    begins_page lookup sure true = begins (script.Look lookup) Page (λ reply told. tells_look _ lookup sure reply)
+    begins_page lookup sure false = ends book _ held
 
     -- where a settle is told to be one that was answered `settled`, and an answer about the page to be one without a doubt
     abbrev SettleIsTold : script.Command → Type 0
     SettleIsTold (script.Settle n) = (answer : Answer) → Told answer → (m : ℕ) × (answer.text ≡ settled_text true m)
     SettleIsTold (script.Ask inquiry) = (answer : Answer) → Told answer → ¬ (HasDoubt answer.text)
+    SettleIsTold (script.Look lookup) = (answer : Answer) → Told answer → ¬ (answer ≡ failing (codes "unsettled"))
     SettleIsTold _ = ⊤
 
     serves : (command : script.Command) → SettleIsTold command → IsOne book (Begins behaviour scene held made label command (first_call behaviour scene held command))
@@ -341,7 +353,7 @@ module _ (behaviour : Option Behaviour) (scene : Scene) (held : Held) (Told : An
     serves script.Harvest is = begins script.Harvest Order keeps
     serves (script.Commit k) is = begins_or (script.Commit k) NoHarvest Commit (harvest_kept held.harvests k) (λ made reply told. tells_added _ (without_harvest held k) reply)
     serves (script.Settle n) is = begins (script.Settle n) Order (sweeps _ is)
-    serves (script.Look lookup) is = begins_page lookup (has_vertices scene.identifiers lookup)
+    serves (script.Look lookup) is = begins_page lookup is (has_vertices scene.identifiers lookup)
     serves script.Changed is = begins script.Changed Page (λ reply told. tells_verdicts _ reply)
     serves (script.Known name) is = begins_or (script.Known name) NoFeature (λ f. Page) (index_of scene.names name) (λ f reply told. tells_page _ (λ page. IsDone (TellsNamed scene name page)) (λ page one other a b. done_one (TellsNamed scene name page) (TellsNamed scene name page) one other (named_one scene (decisions_of page) (index_of scene.names name) one.text other.text) a b) reply)
     serves (script.Ask inquiry) is = begins_order inquiry is (query_of behaviour scene inquiry)
@@ -361,7 +373,7 @@ settle_is_told behaviour scene held book made label (script.Forget s) = tt
 settle_is_told behaviour scene held book made label (script.Lift table named) = tt
 settle_is_told behaviour scene held book made label script.Harvest = tt
 settle_is_told behaviour scene held book made label (script.Commit k) = tt
-settle_is_told behaviour scene held book made label (script.Look lookup) = tt
+settle_is_told behaviour scene held book made label (script.Look lookup) = λ answer told. told
 settle_is_told behaviour scene held book made label script.Changed = tt
 settle_is_told behaviour scene held book made label (script.Known name) = tt
 

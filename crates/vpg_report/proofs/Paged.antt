@@ -31,8 +31,9 @@ use Rattle.vpg_script.specs.Script as script
 use Rattle.vpg_texts.specs.Scene.{EntryIsWithin, TellsFeature, scene_of}
 use Rattle.vpg_texts.specs.Text.{known_text}
 use Rattle.vpg_texts.specs.Changed.{changed_text, verdicts_by}
-use Rattle.vpg_texts.specs.Sights.{IsSeen, has_vertices}
-use Rattle.vpg_report.specs.Answers.{NoFeature, NoVertex, call_or, first_call, page_if, room, verdicts_on}
+use Rattle.vpg_texts.specs.Sights.{has_vertices}
+use Rattle.vpg_answers.specs.Looked.{IsLooked}
+use Rattle.vpg_report.specs.Answers.{NoFeature, NoVertex, answer_limits, call_or, first_call, page_if, room, verdicts_on}
 use Rattle.vpg_report.specs.Held.{with_seen}
 use Rattle.vpg_report.specs.Engine.{EngineState, scene_at, AnswersTo}
 use Rattle.vpg_report.proofs.Asked.{asked, page_told, unasked}
@@ -133,11 +134,11 @@ module _ (limit : ℕ) (limit_is : limit ≡ room) (old new : EngineState) (sess
       table_here which table is = is ∙ ap (λ (page : List Entry). table_of which page (length (graph_of old.client.desk.game))) (sym present)
 
       pub look_answers : {tone : Tone} (lookup : script.Lookup) → has_vertices (vertex_ids game.vertices) lookup ≡ true →
-          Gives (IsSeen (scene_of game diagram) lookup entries decisions hopeful dual) tone before after →
+          Gives (IsLooked (scene_of game diagram) answer_limits lookup entries decisions hopeful dual) tone before after →
           AnswersTo old (record { label = session; command = script.Look lookup }) tone before after new
       look_answers lookup has (answer, (seen, given)) =
           page_told limit limit_is session old new (script.Look lookup) entries answer before after (looks old lookup game game_is has) logged
-          (coe 0 1 (k. IsSeen (scene_of (game_is k) (diagram_is k)) lookup entries (decisions_here k) (table_here Hopeful hopeful hopeful_is k) (table_here Dual dual dual_is k) answer) seen, refl, held) given
+          (coe 0 1 (k. IsLooked (scene_of (game_is k) (diagram_is k)) answer_limits lookup entries (decisions_here k) (table_here Hopeful hopeful hopeful_is k) (table_here Dual dual dual_is k) answer) seen, refl, held) given
 
 -- what changed, with the game and the tables as the code has them
 pub changed_answers : (limit : ℕ) → limit ≡ room → (old new : EngineState) (session : ℕ) (game shown : NamedGame) (before after : List ℕ) → game ≡ old.client.desk.game → shown ≡ old.client.desk.game →

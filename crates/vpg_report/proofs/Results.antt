@@ -5,6 +5,7 @@ use Rattle.std.specs.Prelude.{IsErrOf}
 use Rattle.vpg_faults.specs.declared.fault.OpenFault.{OpenFault}
 use Rattle.vpg_serving.specs.Output.{Machine}
 use Rattle.vpg_serving.specs.Manners.{MannerOutcome}
+use Rattle.vpg_serving.specs.declared.framing.Form.TheVariants.{Plain}
 use Rattle.vpg_serving.specs.declared.serving.Manner.{Manner}
 use Rattle.vpg_serving.specs.declared.serving.Ending.{Ending}
 use Rattle.vpg_serving.specs.declared.fault.RunFault.{RunFault}
@@ -42,17 +43,17 @@ outcome_as manner serves Refuses old input left before after (Err stops.Stray) s
 
 -- without a manner a run is what it was
 pub outcome_done : {S : Type 0} (manner : Manner) (serves : Machine S) (Refuses : OpenFault → Type 0) (old : S) (input left before after : Option (List ℕ)) (ending : Ending) →
-    manner.is_strict ≡ false → manner.goes_on ≡ false → OutcomeAs manner serves Refuses old input left before after (Ok ending) → Outcome serves Refuses old input left before after (Ok tt)
-outcome_done manner serves Refuses old input left before after ending lax off so = plain_outcome manner serves old input left before after (Ok ending) lax off so
+    manner.is_strict ≡ false → manner.goes_on ≡ false → manner.form ≡ Plain → OutcomeAs manner serves Refuses old input left before after (Ok ending) → Outcome serves Refuses old input left before after (Ok tt)
+outcome_done manner serves Refuses old input left before after ending lax off plain so = plain_outcome manner serves old input left before after (Ok ending) lax off plain so
 
 pub outcome_stopped : {S : Type 0} (manner : Manner) (serves : Machine S) (Refuses : OpenFault → Type 0) (old : S) (input left before after : Option (List ℕ)) (fault : RunFault) →
-    manner.is_strict ≡ false → manner.goes_on ≡ false → OutcomeAs manner serves Refuses old input left before after (Err fault) → Outcome serves Refuses old input left before after (Err fault)
-outcome_stopped manner serves Refuses old input left before after (stops.Line n fault) lax off so = plain_outcome manner serves old input left before after (Err (stops.Line n fault)) lax off so
-outcome_stopped manner serves Refuses old input left before after stops.Read lax off so = plain_outcome manner serves old input left before after (Err stops.Read) lax off so
-outcome_stopped manner serves Refuses old input left before after stops.Write lax off so = plain_outcome manner serves old input left before after (Err stops.Write) lax off so
-outcome_stopped manner serves Refuses old input left before after (stops.Open fault) lax off so = so
-outcome_stopped manner serves Refuses old input left before after stops.Memory lax off so = plain_outcome manner serves old input left before after (Err stops.Memory) lax off so
-outcome_stopped manner serves Refuses old input left before after stops.Stray lax off so = plain_outcome manner serves old input left before after (Err stops.Stray) lax off so
+    manner.is_strict ≡ false → manner.goes_on ≡ false → manner.form ≡ Plain → OutcomeAs manner serves Refuses old input left before after (Err fault) → Outcome serves Refuses old input left before after (Err fault)
+outcome_stopped manner serves Refuses old input left before after (stops.Line n fault) lax off plain so = plain_outcome manner serves old input left before after (Err (stops.Line n fault)) lax off plain so
+outcome_stopped manner serves Refuses old input left before after stops.Read lax off plain so = plain_outcome manner serves old input left before after (Err stops.Read) lax off plain so
+outcome_stopped manner serves Refuses old input left before after stops.Write lax off plain so = plain_outcome manner serves old input left before after (Err stops.Write) lax off plain so
+outcome_stopped manner serves Refuses old input left before after (stops.Open fault) lax off plain so = so
+outcome_stopped manner serves Refuses old input left before after stops.Memory lax off plain so = plain_outcome manner serves old input left before after (Err stops.Memory) lax off plain so
+outcome_stopped manner serves Refuses old input left before after stops.Stray lax off plain so = plain_outcome manner serves old input left before after (Err stops.Stray) lax off plain so
 
 -- the same fault of a run with another value
 pub stopped_alike : (A B : Type 0) (fault stop : RunFault) → IsErrOf {T = A} (Err fault) stop → IsErrOf {T = B} (Err fault) stop

@@ -1,6 +1,6 @@
 -- Tokens by their serials.
 use Rattle.std.proofs.Common.{◌≡◌, ℕ, zero, suc, ◌+◌, List, [], ◌∷◌, ◌++◌, length, Option, Some, None, refl, sym, ap, ap₂, ◌∙◌}
-use Rattle.std.specs.Prelude.{◌==◌, IfSome, cond, nat_lt, not, position, slice_get, slice_index_or}
+use Rattle.std.specs.Prelude.{◌==◌, IfOk, Result, Ok, Err, cond, nat_lt, not, position, slice_get, slice_index_or}
 use Rattle.std.specs.List.{position_or_len, remove, insert}
 use Rattle.vpg_office.specs.Token.{TokenView as Token}
 use Rattle.vpg_report.specs.Serials.{serials}
@@ -14,10 +14,10 @@ serials_length [] = refl
 serials_length (t ∷ tokens) = ap suc (serials_length tokens)
 
 -- the tokens that are held are as many as their serials
-pub further_counted : (further : Option ℕ) (undos redos : List Token) (tokens : ℕ) → IfSome further (λ n. n + length undos + length redos ≡ tokens) →
-    IfSome further (λ n. n + length (serials undos) + length (serials redos) ≡ tokens)
-further_counted None undos redos tokens is = tt
-further_counted (Some n) undos redos tokens is = ap₂ (λ (a b : ℕ). n + a + b) (serials_length undos) (serials_length redos) ∙ is
+pub further_counted : {E : Type 0} (further : Result ℕ E) (undos redos : List Token) (tokens : ℕ) → IfOk further (λ n. n + length undos + length redos ≡ tokens) →
+    IfOk further (λ n. n + length (serials undos) + length (serials redos) ≡ tokens)
+further_counted (Err e) undos redos tokens is = tt
+further_counted (Ok n) undos redos tokens is = ap₂ (λ (a b : ℕ). n + a + b) (serials_length undos) (serials_length redos) ∙ is
 
 pub serials_removed : (tokens : List Token) (i : ℕ) → serials (remove tokens i) ≡ remove (serials tokens) i
 serials_removed [] zero = refl

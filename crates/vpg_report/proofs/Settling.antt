@@ -16,7 +16,8 @@ use Rattle.vpg_measure.specs.Orders.{OrderView, HarvestView, IsOrder, IsSettledH
 use Rattle.vpg_measure.specs.TwoGames.{IsTableBelow}
 use Rattle.vpg_measure.proofs.TwoGames.{arena_length}
 use Rattle.vpg_guards.specs.Formula.{Formula}
-use Rattle.vpg_desk.specs.Book.{Family, Harvest, Order, Ordered, Commit, Added, Settled, IsSettled, Refusal, first_missing}
+use Rattle.vpg_desk.specs.Book.{Family, Harvest, Order, Ordered, Commit, Added, Settled, IsSettled, first_missing}
+use Rattle.vpg_faults.specs.declared.refusal.Refusal.{Refusal}
 use Rattle.vpg_desk.specs.Setting.{IsSetting}
 use Rattle.vpg_desk.specs.Desk.{family_of}
 use Rattle.vpg_desk.specs.Lawful.{harvested}
@@ -30,7 +31,8 @@ use Rattle.vpg_report.specs.Held.{with_harvest}
 use Rattle.vpg_report.specs.Engine.{EngineState, SweepsTo}
 use Rattle.vpg_report.specs.Made.{IsMadeBy}
 use Rattle.vpg_report.proofs.Asked.{settle_full, commit_full, settles, keeps}
-use Rattle.vpg_desk.specs.Commit.{IsOrderOf, commit_refusal, handed_in}
+use Rattle.vpg_desk.specs.Commit.{IsOrderOf, handed_in}
+use Rattle.vpg_faults.specs.Refusals.{commit_refusal}
 use Rattle.vpg_faults.specs.declared.fault.CommitFault.{CommitFault}
 use Rattle.vpg_report.specs.Client.{ClientState, IsLogged}
 use Rattle.vpg_report.specs.Faults.{Tells}

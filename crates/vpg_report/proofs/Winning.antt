@@ -2,7 +2,7 @@
 use Rattle.std.proofs.Common.{◌≡◌, ℕ, zero, suc, ◌+◌, ◌<◌, ◌≤◌, ◌==◌, Bool, true, false, ◌&&◌, List, [], ◌∷◌, ◌++◌, length, Option, Some, None, Ok, Err, slice_index, refl, sym, ap, ◌∙◌, inl, inr, arith, append-nil, subst}
 use Rattle.std.specs.Prelude.{◌⊎◌, map, is_some, codes, decimal}
 use Rattle.std.specs.List.{range_with_len}
-use Rattle.std.proofs.lemmas.Bool.{cases_lt}
+use Rattle.std.proofs.lemmas.Bool.{cases_lt, false≢true}
 use Rattle.std.proofs.lemmas.List.{length-append, length-map, get_or_append_left, get_or-append-add}
 use Rattle.std.proofs.lemmas.List.Concat.{flat_map-cons}
 use Rattle.std.proofs.lemmas.List.FromFn.{map-range_with_len_more}
@@ -29,8 +29,9 @@ use Rattle.vpg_serving.specs.Output.{Speaks, Answered}
 use Rattle.vpg_serving.proofs.Given.{is_done}
 use Rattle.vpg_texts.specs.Changed.{verdict_of, verdicts_below, unseen, seen_at, changed_text}
 use Rattle.vpg_texts.specs.Scene.{Scene, scene_of}
-use Rattle.vpg_texts.specs.Sights.{has_vertices, line_at, named_lines, verdicts_at, verdicts_answer}
+use Rattle.vpg_texts.specs.Sights.{IsSeen, has_vertices, line_at, named_lines, verdicts_at, verdicts_answer}
 use Rattle.vpg_texts.specs.Text.{answer_line, blank_number, decisions_line, hopeless_text, sure_text, vertex_line, vertex_lines}
+use Rattle.vpg_answers.specs.Looked.{asserts_verdicts}
 use Rattle.vpg_report.specs.Answers.{vertex_of, page_if, own_text, NoVertex, refusal_text, Follows, Asks, Sees, verdicts_on}
 use Rattle.vpg_report.specs.Held.{Held}
 use Rattle.vpg_report.specs.Requests.{Continues, Begins, Serves}
@@ -115,15 +116,22 @@ module _ (scene : Scene) (page : List Entry) where
       ∙ flat_map-append said_line (range_with_len 0 n) (n ∷ [])
       ∙ (λ k. range_lines n (omega (arith, le)) k ++ (flat_map-cons said_line n [] ∙ append-nil (said_line n) ∙ line_is n le) k)
 
+  -- a lookup that asserts no verdicts has the text that is seen
+  text_of : (lookup : script.Lookup) (answer : Answer) → asserts_verdicts lookup ≡ false → Sees scene lookup page answer → IsSeen scene lookup page (decisions_of page) hopeful dual answer
+  text_of lookup answer not (inl a) = absurd (false≢true (sym not ∙ a.0))
+  text_of lookup answer not (inr (inl a)) = absurd (false≢true (sym not ∙ a.0))
+  text_of lookup answer not (inr (inr a)) = a.1
+
   -- what `show` writes
   show_says : length scene.identifiers ≡ length scene.game → (answer : Answer) → Sees scene script.Show page answer → SaysVerdicts scene (script.Look script.Show) (verdicts_on scene page) answer
   show_says sized answer sees =
-      let told = sees.1.1.1 in
+      let seen = text_of script.Show answer refl sees in
+      let told = seen.1.1.1 in
       let head = decisions_line scene.names (map literal_of (decisions_of page)) ++ codes "full" ++ answer_line told.full ++ codes "settled" ++ answer_line told.settled in (
         head,
         hopeful,
         dual,
-        is_done answer _ sees.0 (told.text_is ∙ ap (λ (l : List ℕ). head ++ l)
+        is_done answer _ seen.0 (told.text_is ∙ ap (λ (l : List ℕ). head ++ l)
             (ap (vertex_lines (top_for Hopeful scene.game) (top_for Dual scene.game) scene.identifiers hopeful dual) sized ∙ sym (range_lines (length scene.game) (omega arith)))),
       )
 
@@ -168,16 +176,20 @@ module _ (scene : Scene) (page : List Entry) where
         SaysVerdicts scene (script.Look (script.Vertices named)) (verdicts_on scene page) answer
     named_says named answer has sees =
         let n = places_of named has in
-        (n.vertices, hopeful, dual, n.are, is_done answer _ sees.0 (sees.1 ∙ n.lines))
+        let seen = text_of (script.Vertices named) answer refl sees in
+        (n.vertices, hopeful, dual, n.are, is_done answer _ seen.0 (seen.1 ∙ n.lines))
 
     -- what `assert V ..` writes
     assert_says : (vertex : script.Vertex) (claims : List Claim) (answer : Answer) → (found : Option ℕ) → vertex_of scene vertex ≡ found → is_some found ≡ true → Sees scene (script.Assert (script.Verdicts vertex claims)) page answer →
         SaysVerdicts scene (script.Look (script.Assert (script.Verdicts vertex claims))) (verdicts_on scene page) answer
     assert_says vertex claims answer None is some sees = absurd (cc some)
-    assert_says vertex claims answer (Some v) is some sees =
-        let told = sees.1.1 in
+    assert_says vertex claims answer (Some v) is some (inl none) = inr (inl none.2)
+    assert_says vertex claims answer (Some v) is some (inr (inl short)) = inr (inr short.2)
+    assert_says vertex claims answer (Some v) is some (inr (inr sees)) =
+        let told = sees.1.1.1 in
         let within = vertex_inside vertex v is in
-        let inside : v < length scene.game = omega (arith, within, sized) in (
+        let inside : v < length scene.game = omega (arith, within, sized) in
+        inl (
           v,
           told.settled,
           is,

@@ -10,7 +10,9 @@ use Rattle.vpg_measure.specs.Lifts.{raised}
 use Rattle.vpg_measure.specs.Orders.{other_table}
 use Rattle.vpg_measure.specs.TwoGames.{levels_for, arena_for}
 use Rattle.vpg_trail.specs.Page.{Which, Hopeful, Dual, Decision, Entry, literal_of, decisions_of, table_of}
-use Rattle.vpg_desk.specs.Book.{Family, Harvest, Call, Decide, Retract, Undo, Redo, Keep, Forget, Order, Commit, Settled, Page, Reply, Changed, Undone, Redone, Spent, Ordered, Added, IsSettled, PageIs, Refused, Refusal, UnknownFeature, AlreadyDecided, Conflict, TooManyChanges, NotDecided, Sealed, NotNewest, Overtaken, NotNext, OtherGame, Outdated}
+use Rattle.vpg_desk.specs.Book.{Family, Harvest, Call, Decide, Retract, Undo, Redo, Keep, Forget, Order, Commit, Settled, Page, Reply, Changed, Undone, Redone, Spent, Ordered, Added, IsSettled, PageIs, Refused}
+use Rattle.vpg_faults.specs.declared.refusal.Refusal.{Refusal}
+use Rattle.vpg_faults.specs.declared.refusal.Refusal.TheVariants.{UnknownFeature, AlreadyDecided, Conflict, TooManyChanges, NotDecided, Sealed, NotNewest, Overtaken, NotNext, OtherGame, Outdated}
 use Rattle.vpg_desk.specs.History.{Event}
 use Rattle.vpg_desk.specs.Lawful.{IsLawful, harvested}
 use Rattle.vpg_desk.specs.Setting.{Setting}
@@ -22,7 +24,9 @@ use Rattle.vpg_texts.specs.Text.{blank_number, blank_name}
 use Rattle.vpg_texts.specs.Scene.{Scene, table_in, TellsFeature}
 use Rattle.vpg_texts.specs.Changed.{changed_text, verdicts_by}
 use Rattle.vpg_texts.specs.Sights as sights
-use Rattle.vpg_texts.specs.Sights.{IsSeen, has_vertices}
+use Rattle.vpg_texts.specs.Sights.{has_vertices}
+use Rattle.vpg_why.specs.declared.question.Limits.{Limits}
+use Rattle.vpg_answers.specs.Looked.{IsLooked}
 use Rattle.vpg_report.specs.Setting.{setting_in}
 
 -- ---- the texts of replies
@@ -245,10 +249,14 @@ TellsSpent answer held _ calls given new = ⊥
 
 -- ---- texts of a page
 
+-- the limits of an answer
+abbrev pub answer_limits : Limits
+answer_limits = record { budget = 134217728; rounds = 1000; trials = 10000 }
+
 -- the answer to a lookup on a page
 abbrev pub Sees : Scene → script.Lookup → List Entry → Answer → Type 0
 Sees scene lookup page answer =
-    IsSeen scene lookup page (decisions_of page) (table_of Hopeful page (length scene.game))
+    IsLooked scene answer_limits lookup page (decisions_of page) (table_of Hopeful page (length scene.game))
     (table_of Dual page (length scene.game)) answer
 
 -- the text says what is known of the feature of this name

@@ -1,5 +1,5 @@
 -- The state of an office's client: the desk that it serves, and how many calls it has made. This project's own.
-use Rattle.std.specs.Prelude.{◌≡◌, ℕ, ◌+◌, ◌<◌, ◌≤◌, ◌==◌, if◌then◌else◌, List, [], ◌∷◌, length, Option, Some, None, slice_index_or}
+use Rattle.std.specs.Prelude.{◌≡◌, ◌⊎◌, ℕ, ◌+◌, ◌<◌, ◌≤◌, ◌==◌, if◌then◌else◌, List, [], ◌∷◌, length, Option, Some, None, slice_index_or}
 use Rattle.vpg_diagram.specs.DiagramText.{NamedDiagram}
 use Rattle.vpg_game.specs.Game.{NamedGame}
 use Rattle.vpg_trail.specs.Page.{Entry}
@@ -85,6 +85,17 @@ pub record IsUnseated (old : ClientState) (label : ℕ) (new : ClientState) : Ty
   pub calls : new.calls ≡ old.calls
   pub own : new.own ≡ old.own
   pub beyond : IsBeyond label new.unseated
+
+-- a front of the calls that the client knows of
+pub record IsFrontOf (client : ClientState) (front : List Event) : Type 0 where
+  pub counted : length front ≡ client.calls
+  pub leaves : book_after (family_between client.desk.game client.desk.diagram) opened front ≡ client.desk.book
+
+-- The log has more calls than the client knows of. Or it lacks the last of those that the client knows of, as this
+-- relation of a log and a front says.
+abbrev pub HasUnknownCall : (Lacks : (log front : List Event) → Type 0) → ClientState → (log : List Event) → Type 0
+HasUnknownCall Lacks client log =
+    (client.calls < length log) ⊎ ((front : List Event) × (IsFrontOf client front × Lacks log front))
 
 -- the present page just before the call that gave the token
 abbrev pub page_of : DeskState → TokenView → List Entry

@@ -10,6 +10,7 @@ use Rattle.vpg_checking.specs.Behaviours.{Behaviour}
 use Rattle.vpg_verdict.specs.declared.verdict.Verdict.{Verdict}
 use Rattle.vpg_system_draw.specs.Traced.{Trail}
 use Rattle.vpg_steps.specs.Steps.{IsRetold, page_with}
+use Rattle.vpg_serving.specs.declared.framing.Form.TheVariants.{Plain}
 use Rattle.vpg_serving.specs.declared.serving.Manner.{Manner}
 use Rattle.vpg_serving.specs.declared.serving.Ending.{Ending}
 use Rattle.vpg_family.specs.Pages.{IsRedrawn, sight_drawing, sight_of}
@@ -22,9 +23,9 @@ use Rattle.vpg_family.specs.declared.known.Context.{Context}
 abbrev pub drawing_script : List ℕ → List ℕ
 drawing_script script = script ++ codes "\ndraw\n"
 
--- each line is answered, and a fault ends the script
+-- each line is answered with its text, and a fault ends the script
 abbrev pub plain : Manner
-plain = record { is_strict = false; goes_on = false }
+plain = record { is_strict = false; goes_on = false; form = Plain }
 
 -- an office on the family, in this context, writes this for the script's lines and a last line `draw`, by one lifter
 abbrev pub AreWritten : NamedDiagram → NamedGame → Context → (script : List ℕ) → Ending → (written : List ℕ) →

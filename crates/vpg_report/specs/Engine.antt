@@ -1,12 +1,14 @@
 -- How the engine serves a request.
-use Rattle.std.specs.Prelude.{◌≡◌, ℕ, ◌+◌, List, [], ⊤, ◌==◌, Bool, true, false, position, Option, Some, None, Result}
+use Rattle.std.specs.Prelude.{◌≡◌, ℕ, ◌+◌, ◌<◌, List, [], ⊤, ◌==◌, Bool, true, false, position, Option, Some, None, Result, IfSome}
 use Rattle.vpg_diagram.specs.DiagramText.{NamedDiagram}
 use Rattle.vpg_game.specs.Game.{NamedGame, IsAtLimit}
 use Rattle.vpg_partial.specs.KnownLaws.{HasConflictOf}
 use Rattle.vpg_report.specs.Client.{ClientState, client_of}
 use Rattle.vpg_report.specs.declared.fault.ClientFault.{ClientFault}
 use Rattle.vpg_report.specs.declared.fault.ClientFault.TheVariants.{LogFull, Refused}
-use Rattle.vpg_desk.specs.Book.{Call, Refusal, Reply}
+use Rattle.vpg_desk.specs.Book.{Call, Reply}
+use Rattle.vpg_faults.specs.declared.refusal.Refusal.{Refusal}
+use Rattle.vpg_faults.specs.declared.refusal.Refusal.TheVariants.{Conflict as Conflicts, Outdated}
 use Rattle.vpg_faults.specs.declared.fault.OpenFault.{OpenFault}
 use Rattle.vpg_faults.specs.declared.fault.OpenFault.TheVariants.{AtLimit, Conflict, Memory}
 use Rattle.vpg_report.specs.Answers.{Own, NoFeature, NoVertex, NoSystem, Rest, first_call, Continues, full_log, refusal_text}
@@ -87,6 +89,17 @@ abbrev pub TellsFault : {F : Type 0} → List (List ℕ) → (F → Option Refus
 TellsFault names refusal LogFull told before after = IsGiven full_log told before after
 TellsFault names refusal (Refused fault) told before after = TellsRefusal names (refusal fault) told before after
 TellsFault names refusal _ told before after = ⊥
+
+-- the feature that a refusal names, if it names one, is one of so many
+abbrev pub IsNamedWithin : ℕ → Refusal → Type 0
+IsNamedWithin count (Conflicts f) = f < count
+IsNamedWithin count (Outdated f) = f < count
+IsNamedWithin count _ = ⊤
+
+-- so is the one that a fault's refusal names
+abbrev pub IsFaultWithin : {F : Type 0} → ℕ → (F → Option Refusal) → ClientFault F → Type 0
+IsFaultWithin count refusal (Refused fault) = IfSome (refusal fault) (IsNamedWithin count)
+IsFaultWithin count refusal _ = ⊤
 
 -- why an office isn't opened
 abbrev pub IsOpenFault : NamedGame → NamedDiagram → OpenFault → Type 0

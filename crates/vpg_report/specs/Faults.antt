@@ -3,8 +3,10 @@ use Rattle.std.specs.Prelude.{◌≡◌, ◌⊎◌, ℕ, ◌+◌, Bool, true, Li
 use Rattle.std.specs.Bool.{Decides}
 use Rattle.vpg_measure.specs.Orders.{HarvestView}
 use Rattle.vpg_desk.specs.Book as book
-use Rattle.vpg_desk.specs.Book.{Call, Commit, Refusal}
-use Rattle.vpg_desk.specs.Commit.{IsOrderOf, commit_refusal, handed_in}
+use Rattle.vpg_desk.specs.Book.{Call, Commit}
+use Rattle.vpg_faults.specs.declared.refusal.Refusal.{Refusal}
+use Rattle.vpg_desk.specs.Commit.{IsOrderOf, handed_in}
+use Rattle.vpg_faults.specs.Refusals.{commit_refusal}
 use Rattle.vpg_faults.specs.declared.fault.CommitFault.{CommitFault}
 use Rattle.vpg_desk.specs.History.{Event}
 use Rattle.vpg_office.specs.declared.fault.Fault.{Fault}
@@ -16,6 +18,11 @@ use Rattle.vpg_report.specs.declared.fault.ClientFault.TheVariants.{LogFull, Ref
 -- the log grew by a call that no session of the client made, or the label's session isn't of its number
 abbrev pub HasStrayed : ClientState → ℕ → ClientState → Type 0
 HasStrayed old label new = HasForeignCall old new ⊎ IsUnseated old label new
+
+-- A line strayed over its calls: the log grew by a call that no session of the client made; or the session of the
+-- label, or of one before it, has another number.
+abbrev pub IsAstray : ClientState → ℕ → ClientState → Type 0
+IsAstray old label new = HasForeignCall old new ⊎ IsBeyond label new.unseated
 
 -- The log is full exactly if it has as many calls as it takes; then nothing changes. The desk's own refusal is logged.
 -- Out of memory, nothing changes. A stray shows in the log, which grew by a call that no session of the client made; or

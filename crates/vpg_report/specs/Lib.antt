@@ -15,6 +15,7 @@ pub mod Results
 pub mod Run
 pub mod Settling
 pub mod Draws
+pub mod Exports
 pub mod Ends
 pub mod Runs
 pub mod Winners

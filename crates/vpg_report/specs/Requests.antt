@@ -4,6 +4,7 @@ use Rattle.std.specs.Prelude.{◌≡◌, ℕ, ◌+◌, ◌==◌, Bool, true, fal
 use Rattle.vpg_features.specs.Names.{index_of}
 use Rattle.vpg_desk.specs.Book.{Call, Order, Reply, Ordered}
 use Rattle.vpg_report.specs.Answers as engine
+pub use Rattle.vpg_report.specs.Answers.{answer_limits}
 use Rattle.vpg_report.specs.Answers.{Own, NoFeature, NoVertex, NoSystem, Rest, vertex_of}
 use Rattle.vpg_report.specs.Held.{Held}
 use Rattle.vpg_script.specs.Script as script
@@ -15,7 +16,6 @@ use Rattle.vpg_checking.specs.Behaviours.{Behaviour}
 use Rattle.vpg_answers.specs.Answers.{IsAnswer}
 use Rattle.vpg_answers.specs.declared.query.Query.{Query}
 use Rattle.vpg_answers.specs.declared.query.Query.TheVariants as queries
-use Rattle.vpg_why.specs.declared.question.Limits.{Limits}
 
 abbrev pub query_or : Own → (ℕ → Query) → Option ℕ → Result Query Own
 query_or own query None = Err own
@@ -46,10 +46,8 @@ query_of behaviour scene (script.OfFeature name) =
 query_of behaviour scene (script.OfChoice value name) =
     query_or NoFeature (λ f. queries.OfChoice f value) (index_of scene.names name)
 query_of behaviour scene (script.OfPage question) = Ok (queries.OfPage question)
-
--- the limits of an answer
-abbrev pub answer_limits : Limits
-answer_limits = record { budget = 134217728; rounds = 1000; trials = 10000 }
+query_of behaviour scene (script.OfExact verdict vertex) =
+    query_or NoVertex (queries.OfExact verdict) (vertex_of scene vertex)
 
 -- a query takes an order
 abbrev pub order_or : Result Query Own → Result Call Own

@@ -1,5 +1,5 @@
 -- The winners, by the answers of a run. This project's own.
-use Rattle.std.specs.Prelude.{◌≡◌, ◌⊎◌, ℕ, ◌<◌, Bool, Option, List, ◌++◌, length, map, Some, flat_map, slice_index, decimal, ⊤}
+use Rattle.std.specs.Prelude.{◌≡◌, ◌⊎◌, ℕ, ◌<◌, Bool, Option, List, ◌++◌, length, map, Some, flat_map, slice_index, codes, decimal, ⊤}
 use Rattle.std.specs.List.{range_with_len}
 use Rattle.vpg_diagram.specs.DiagramText.{NamedDiagram}
 use Rattle.vpg_game.specs.Game.{NamedGame}
@@ -16,6 +16,7 @@ use Rattle.vpg_texts.specs.Changed.{changed_text, seen_at}
 use Rattle.vpg_texts.specs.Scene.{Scene, scene_of}
 use Rattle.vpg_texts.specs.Sights.{verdicts_answer}
 use Rattle.vpg_texts.specs.Text.{blank_number, hopeless_text, sure_text}
+use Rattle.vpg_answers.specs.Asserted.{failing}
 use Rattle.vpg_report.specs.Answers.{vertex_of}
 use Rattle.vpg_report.specs.Run.{Between, begun, answering, as_meant}
 use Rattle.vpg_report.specs.Setting.{setting_in}
@@ -50,10 +51,11 @@ SaysVerdicts scene (script.Look (script.Vertices named)) verdicts answer =
     (vertices : List ℕ) × (hopeful : List ℕ) × (dual : List ℕ) ×
     (map (vertex_of scene) named ≡ map Some vertices) ×
     (answer ≡ done (verdict_lines scene hopeful dual verdicts vertices))
--- it compares the vertex's verdict with the asserted ones
+-- it compares the vertex's verdict with the asserted ones, or fails since no product was found
 SaysVerdicts scene (script.Look (script.Assert (script.Verdicts named claims))) verdicts answer =
-    (v : ℕ) × (settled : Bool) × (vertex_of scene named ≡ Some v) ×
-    (answer ≡ verdicts_answer settled (seen_at verdicts v).hopeless (seen_at verdicts v).sure claims)
+    ((v : ℕ) × (settled : Bool) × (vertex_of scene named ≡ Some v) ×
+    (answer ≡ verdicts_answer settled (seen_at verdicts v).hopeless (seen_at verdicts v).sure claims))
+    ⊎ (answer ≡ failing (codes "empty")) ⊎ (answer ≡ failing (codes "unsettled"))
 -- it lists those that differ from the ones reported before
 SaysVerdicts scene script.Changed verdicts answer =
     (seen : List Verdict) × (answer ≡ done (changed_text scene.identifiers seen verdicts))

@@ -1,5 +1,6 @@
 //! A server of scripts: an engine, with questions about the page.
-ghost use Rattle.std.specs.Prelude.{◌≡◌, ◌≤◌, IfOk, OnOk};
+ghost use Rattle.std.specs.Prelude.{◌≡◌, ◌≤◌, IfOk, IsErrOf, OnOk};
+ghost use Rattle.vpg_report.specs.Faults.{IsAstray};
 ghost use Rattle.vpg_report.specs.Server.{AnswersTo};
 ghost use Rattle.vpg_report.specs.Run.{answering};
 ghost use Rattle.vpg_report.specs.Engine.{between_of, scene_at};
@@ -38,9 +39,10 @@ fn ask<L: Terms, R: Wait>(
     inquiry: Inquiry<'_>,
     out: &mut Vec<u8>,
 ) -> Result<Tone, ServeFault>
-    ensures { IfOk result (λ tone. AnswersTo behaviour.now engine.old
+    ensures answer { IfOk result (λ tone. AnswersTo behaviour.now engine.old
         (record { label = session; command = Ask (inquiry_shown inquiry.entry) }) tone
         out.old.items out.new.items engine.new) }
+    ensures strayed { IsErrOf result ServeFault.Stray → IsAstray engine.old.client session engine.new.client }
 {
     let query = match query_of(behaviour, engine.game(), engine.diagram(), inquiry) {
         Ok(query) => query,
@@ -70,6 +72,8 @@ fn answer<L: Terms, T: Threads + Wait + Sync>(
         (λ answer. answering behaviour.now (scene_at engine.old) lifters (between_of engine.old)
         (request_shown request.now) answer (between_of engine.new)) tone out.old.items out.new.items) }
     ensures scene { OnOk result (scene_at engine.new ≡ scene_at engine.old) }
+    ensures strayed { IsErrOf result ServeFault.Stray →
+        IsAstray engine.old.client request.now.label engine.new.client }
 {
     match &request.command {
         Command::Ask(inquiry) => ask(engine, rt, alloc, request.label, behaviour, *inquiry, out),

@@ -3,8 +3,9 @@ ghost use Rattle.std.specs.Prelude.{◌≡◌, ◌+◌, ◌≤◌, None, Some, O
 ghost use Rattle.vpg_report.specs.Faults.{Sorts};
 
 use crate::client::has_one_more;
-use crate::fault::{ClientFault, Returned, Token, sorted};
+use crate::fault::{ClientFault, Token, sorted};
 use vpg_desk::{RedoFault, UndoFault};
+use vpg_faults::Returned;
 use vpg_office::{Fault, Front, Redo, Terms, Undo};
 
 /// Returns the value that a session made, if the front has one call more than `calls`. The value comes back if the call
@@ -13,7 +14,7 @@ pub(crate) fn answered<L: Terms, T, F: Drop>(
     answer: Result<T, Fault<L, F>>,
     calls: usize,
     front: &Front<L>,
-) -> Result<T, Returned<F, Option<T>>>
+) -> Result<T, Returned<ClientFault<F>, Option<T>>>
     ensures made { IfOk result (λ made. answer ≡ Ok made) }
     ensures more { OnOk result (length front.now ≡ calls + 1) }
     ensures fault { IfErr result
@@ -69,10 +70,10 @@ pub(crate) fn looked<L: Terms, T: Drop, F: Drop>(
 /// Returns a session's answer to a value that was handed in, if the front has one call more than `calls`. The value
 /// comes back unless it was taken.
 pub(crate) fn handed_in<L: Terms, T: Drop, F: Drop, V>(
-    answer: Result<T, vpg_office::Returned<L, F, V>>,
+    answer: Result<T, Returned<Fault<L, F>, V>>,
     calls: usize,
     front: &Front<L>,
-) -> Result<T, Returned<F, Option<V>>>
+) -> Result<T, Returned<ClientFault<F>, Option<V>>>
     ensures made { IfOk result (λ made. answer ≡ Ok made) }
     ensures more { OnOk result (length front.now ≡ calls + 1) }
     ensures fault { IfErr result
@@ -92,7 +93,7 @@ pub(crate) fn handed_in<L: Terms, T: Drop, F: Drop, V>(
                 })
             }
         }
-        Err(vpg_office::Returned { fault, value }) => Err(Returned {
+        Err(Returned { fault, value }) => Err(Returned {
             fault: sorted(fault, calls, front),
             value: Some(value),
         }),
@@ -102,10 +103,10 @@ pub(crate) fn handed_in<L: Terms, T: Drop, F: Drop, V>(
 /// Returns a session's answer to an undo, if the front has one call more than `calls`. A token comes back with each
 /// refusal.
 pub(crate) fn undone<L: Terms>(
-    answer: Result<Redo<L>, vpg_office::Returned<L, UndoFault, Undo<L>>>,
+    answer: Result<Redo<L>, Returned<Fault<L, UndoFault>, Undo<L>>>,
     calls: usize,
     front: &Front<L>,
-) -> Result<Redo<L>, Returned<UndoFault, Token<L>>>
+) -> Result<Redo<L>, Returned<ClientFault<UndoFault>, Token<L>>>
     ensures made { IfOk result (λ made. answer ≡ Ok made) }
     ensures more { OnOk result (length front.now ≡ calls + 1) }
     ensures fault { IfErr result
@@ -125,7 +126,7 @@ pub(crate) fn undone<L: Terms>(
                 })
             }
         }
-        Err(vpg_office::Returned { fault, value }) => Err(Returned {
+        Err(Returned { fault, value }) => Err(Returned {
             fault: sorted(fault, calls, front),
             value: Token::Undo(value),
         }),
@@ -135,10 +136,10 @@ pub(crate) fn undone<L: Terms>(
 /// Returns a session's answer to a redo, if the front has one call more than `calls`. A token comes back with each
 /// refusal.
 pub(crate) fn redone<L: Terms>(
-    answer: Result<Undo<L>, vpg_office::Returned<L, RedoFault, Redo<L>>>,
+    answer: Result<Undo<L>, Returned<Fault<L, RedoFault>, Redo<L>>>,
     calls: usize,
     front: &Front<L>,
-) -> Result<Undo<L>, Returned<RedoFault, Token<L>>>
+) -> Result<Undo<L>, Returned<ClientFault<RedoFault>, Token<L>>>
     ensures made { IfOk result (λ made. answer ≡ Ok made) }
     ensures more { OnOk result (length front.now ≡ calls + 1) }
     ensures fault { IfErr result
@@ -158,7 +159,7 @@ pub(crate) fn redone<L: Terms>(
                 })
             }
         }
-        Err(vpg_office::Returned { fault, value }) => Err(Returned {
+        Err(Returned { fault, value }) => Err(Returned {
             fault: sorted(fault, calls, front),
             value: Token::Redo(value),
         }),

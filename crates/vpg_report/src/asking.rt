@@ -91,5 +91,9 @@ pub(crate) fn query_of(
             None => Err(Missing::Feature),
         },
         Inquiry::OfPage(question) => Ok(Query::OfPage { question }),
+        Inquiry::OfExact(verdict, named) => match vertex_at(game, named) {
+            Some(vertex) => Ok(Query::OfExact { verdict, vertex }),
+            None => Err(Missing::Vertex),
+        },
     }
 }

@@ -6,23 +6,25 @@ ghost use Rattle.vpg_measure.specs.Games.{ArePageGames};
 ghost use Rattle.vpg_measure.specs.Orders.{IsOrder};
 ghost use Rattle.vpg_trail.specs.Page.{Hopeful, Dual, choices_of, decisions_of, table_of};
 ghost use Rattle.vpg_desk.specs.Book as book;
-ghost use Rattle.vpg_desk.specs.Commit.{IsOrderOf, commit_refusal, handed_in};
+ghost use Rattle.vpg_desk.specs.Commit.{IsOrderOf, handed_in};
+ghost use Rattle.vpg_faults.specs.Refusals.{commit_refusal};
 ghost use Rattle.vpg_desk.specs.Desk.{family_of};
-ghost use Rattle.vpg_desk.specs.Faults.{decide_refusal, redo_refusal, retract_refusal, undo_refusal};
+ghost use Rattle.vpg_faults.specs.Refusals.{decide_refusal, redo_refusal, retract_refusal, undo_refusal};
 ghost use Rattle.vpg_desk.specs.Headline.{Tells as PageTells};
 ghost use Rattle.vpg_desk.specs.Lawful.{PageIsBelow};
 ghost use Rattle.vpg_desk.specs.Setting.{IsSetting};
 ghost use Rattle.vpg_desk.specs.State.{IsReached, setting_of};
-ghost use Rattle.vpg_office.specs.Faults.{never_refused};
+ghost use Rattle.vpg_faults.specs.Refusals.{never_refused};
 ghost use Rattle.vpg_report.specs.Client.{IsLogged, page_of};
 ghost use Rattle.vpg_report.specs.Faults.{CommitTells, Tells, UnlessStray};
 
 use crate::answers::{answered, handed_in, looked, redone, undone};
 use crate::client::{Client, seat};
-use crate::fault::{ClientFault, Returned, Token, follow_answer, follow_returned};
+use crate::fault::{ClientFault, Token, follow_answer, follow_returned};
 use std::alloc::Global;
 use std::sync::{Arc, Wait};
 use vpg_desk::{CommitFault, DecideFault, RedoFault, RetractFault, UndoFault};
+use vpg_faults::Returned;
 use vpg_measure::{Harvest, Order, PageGames};
 use vpg_office::{Never, Redo, Terms, Undo};
 use vpg_trail::Page;
@@ -37,7 +39,7 @@ impl<L: Terms> Client<L> {
         label: u32,
         feature: u16,
         value: bool,
-    ) -> Result<Undo<L>, Returned<DecideFault, Option<Undo<L>>>>
+    ) -> Result<Undo<L>, Returned<ClientFault<DecideFault>, Option<Undo<L>>>>
         ensures accepted { IfOk result
             (λ undo. IsLogged L.limit self.old label (book.Decide feature value) (book.Changed undo.serial) self.new) }
         ensures token { IfOk result (λ undo. page_of self.new.desk undo ≡ self.old.desk.book.present) }
@@ -70,7 +72,7 @@ impl<L: Terms> Client<L> {
         alloc: Global,
         label: u32,
         feature: u16,
-    ) -> Result<Undo<L>, Returned<RetractFault, Option<Undo<L>>>>
+    ) -> Result<Undo<L>, Returned<ClientFault<RetractFault>, Option<Undo<L>>>>
         ensures accepted { IfOk result
             (λ undo. IsLogged L.limit self.old label (book.Retract feature) (book.Changed undo.serial) self.new) }
         ensures token { IfOk result (λ undo. page_of self.new.desk undo ≡ self.old.desk.book.present) }
@@ -102,7 +104,7 @@ impl<L: Terms> Client<L> {
         alloc: Global,
         label: u32,
         token: Undo<L>,
-    ) -> Result<Redo<L>, Returned<UndoFault, Token<L>>>
+    ) -> Result<Redo<L>, Returned<ClientFault<UndoFault>, Token<L>>>
         ensures accepted { IfOk result
             (λ redo. IsLogged L.limit self.old label (book.Undo token.serial) (book.Undone redo.serial) self.new) }
         ensures restores { OnOk result (self.new.desk.book.present ≡ page_of self.old.desk token) }
@@ -132,7 +134,7 @@ impl<L: Terms> Client<L> {
         alloc: Global,
         label: u32,
         token: Redo<L>,
-    ) -> Result<Undo<L>, Returned<RedoFault, Token<L>>>
+    ) -> Result<Undo<L>, Returned<ClientFault<RedoFault>, Token<L>>>
         ensures accepted { IfOk result
             (λ undo. IsLogged L.limit self.old label (book.Redo token.serial) (book.Redone undo.serial) self.new) }
         ensures restores { OnOk result (self.new.desk.book.present ≡ page_of self.old.desk token) }
@@ -160,7 +162,7 @@ impl<L: Terms> Client<L> {
         rt: &R,
         label: u32,
         token: Undo<L>,
-    ) -> Result<(), Returned<Never, Option<Undo<L>>>>
+    ) -> Result<(), Returned<ClientFault<Never>, Option<Undo<L>>>>
         ensures accepted { OnOk result (IsLogged L.limit self.old label (book.Keep token.serial) book.Spent self.new) }
         ensures fault { IfErr result
             (λ r. Tells L.limit never_refused self.old label (book.Keep token.serial) self.new r.fault) }
@@ -185,7 +187,7 @@ impl<L: Terms> Client<L> {
         rt: &R,
         label: u32,
         token: Redo<L>,
-    ) -> Result<(), Returned<Never, Option<Redo<L>>>>
+    ) -> Result<(), Returned<ClientFault<Never>, Option<Redo<L>>>>
         ensures accepted { OnOk result
             (IsLogged L.limit self.old label (book.Forget token.serial) book.Spent self.new) }
         ensures fault { IfErr result
@@ -241,7 +243,7 @@ impl<L: Terms> Client<L> {
         alloc: Global,
         label: u32,
         harvest: Harvest,
-    ) -> Result<u32, Returned<CommitFault, Option<Harvest>>>
+    ) -> Result<u32, Returned<ClientFault<CommitFault>, Option<Harvest>>>
         ensures accepted { IfOk result
             (λ added. IsLogged L.limit self.old label (book.Commit (handed_in true harvest))
             (book.Added added) self.new) }
@@ -270,7 +272,7 @@ impl<L: Terms> Client<L> {
         alloc: Global,
         label: u32,
         harvest: Harvest,
-    ) -> Result<u32, Returned<CommitFault, Option<Harvest>>>
+    ) -> Result<u32, Returned<ClientFault<CommitFault>, Option<Harvest>>>
         requires ours { IsOrderOf self.old.desk harvest.order }
         ensures accepted { IfOk result
             (λ added. IsLogged L.limit self.old label (book.Commit (handed_in true harvest))

@@ -1,12 +1,16 @@
 //! The client: an office, the one front that its sessions share, and the sessions by their labels.
 ghost use Rattle.std.specs.Arc.{arc_value};
 ghost use Rattle.std.specs.Prelude.{◌≡◌, ◌+◌, ◌<◌, ◌≤◌, ◌↔◌, ◌++◌, ◌∷◌, ℕ, [], length, slice_index_or};
-ghost use Rattle.std.specs.Prelude.{true, false, IfOk, IfErr, IfSome, OnOk};
+ghost use Rattle.std.specs.Prelude.{true, false, IfOk, IfErr, OnOk};
 ghost use Rattle.vpg_diagram.specs.FeatureDiagram.{feature_count};
 ghost use Rattle.vpg_game.specs.Game.{IsAtLimit};
 ghost use Rattle.vpg_partial.specs.KnownLaws.{HasConflictOf};
+ghost use Rattle.vpg_desk.specs.Book.{opened};
+ghost use Rattle.vpg_desk.specs.History.{book_after};
 ghost use Rattle.vpg_desk.specs.State.{IsOpened};
-ghost use Rattle.vpg_report.specs.Client.{IsBeyond, IsNumbered, calls_of, client_of, nobody, unseated_from};
+ghost use Rattle.vpg_office.specs.Fronts.{family_between};
+ghost use Rattle.vpg_office.specs.Kept.{IsElsewhere};
+ghost use Rattle.vpg_report.specs.Client.{HasUnknownCall, IsBeyond, IsNumbered, calls_of, client_of, nobody, unseated_from};
 ghost use Rattle.vpg_report.specs.Faults.{IsAbsent};
 
 use crate::fault::ClientFault;
@@ -16,7 +20,7 @@ use std::sync::{Arc, Wait};
 use vpg_desk::OpenFault;
 use vpg_diagram::Diagram;
 use vpg_game::GuardedGame;
-use vpg_office::{Front, NotOpened, Office, Redo, Session, Site, Terms, Undo};
+use vpg_office::{Front, NotOpened, Office, Redo, Session, Site, Terms, Undo, Unshared};
 
 /// The one caller of an office, for labels from 1 to 1,024. Contracts see the desk that it serves, the number of calls
 /// in the log, how many of them its own sessions made, and the first label whose session has another number. A client
@@ -26,6 +30,30 @@ pub struct Client<L: Terms> {
     pub(crate) front: Front<L>,
     // that of label N at place N - 1
     pub(crate) sessions: Vec<Session<L>>,
+}
+
+/// The office of a client, whose log has a call that the client doesn't know of, and tokens. It can't be dropped: `end`
+/// ends it.
+pub struct NotEnded<L: Terms> {
+    pub office: Unshared<L>,
+    pub undos: Vec<Undo<L>>,
+    pub redos: Vec<Redo<L>>,
+}
+
+impl<L: Terms> NotEnded<L> {
+    /// Spends the tokens, and ends the office. Returns how many further tokens are out.
+    pub fn end<R: Wait>(self, rt: &R) -> u64
+        ensures { result + length self.undos.items + length self.redos.items
+            ≡ (book_after (family_between L.game L.diagram) opened self.office).tokens }
+    {
+        let NotEnded {
+            office,
+            undos,
+            redos,
+        } = self;
+        let ended = office.end(rt, undos, redos);
+        ended.further()
+    }
 }
 
 impl<L: Terms> Model for Client<L> {
@@ -78,10 +106,20 @@ impl<L: Terms> Client<L> {
         }
     }
 
-    /// Spends the tokens handed in, and ends the office. Returns how many further tokens are out, or `None` if the log
-    /// has calls that this client didn't make.
-    pub fn end<R: Wait>(self, rt: &R, undos: Vec<Undo<L>>, redos: Vec<Redo<L>>) -> Option<u64>
-        ensures { IfSome result (λ further. further + length undos.items + length redos.items ≡ self.desk.book.tokens) }
+    /// Spends the tokens handed in, and ends the office. Returns how many further tokens are out. If the log has a call
+    /// that this client doesn't know of, the office and the tokens come back.
+    pub fn end<R: Wait>(
+        self,
+        rt: &R,
+        undos: Vec<Undo<L>>,
+        redos: Vec<Redo<L>>,
+    ) -> Result<u64, NotEnded<L>>
+        ensures ended { IfOk result
+            (λ further. further + length undos.items + length redos.items ≡ self.desk.book.tokens) }
+        ensures others { IfErr result
+            (λ back. HasUnknownCall (IsElsewhere L.shelves (family_between L.game L.diagram)) self back.office) }
+        ensures undos_back { IfErr result (λ back. back.undos ≡ undos) }
+        ensures redos_back { IfErr result (λ back. back.redos ≡ redos) }
     {
         let Client {
             office,
@@ -89,13 +127,23 @@ impl<L: Terms> Client<L> {
             sessions: _,
         } = self;
         let office = office.unshare();
+        if !office.has(&front) {
+            return Err(NotEnded {
+                office,
+                undos,
+                redos,
+            });
+        }
         let log = office.log();
-        if !office.has(&front) || log.len() != front.len() {
-            let _further = office.end(rt, undos, redos);
-            return None;
+        if log.len() != front.len() {
+            return Err(NotEnded {
+                office,
+                undos,
+                redos,
+            });
         }
         let ended = office.end(rt, undos, redos);
-        Some(ended.further())
+        Ok(ended.further())
     }
 }
 

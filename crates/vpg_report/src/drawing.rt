@@ -16,7 +16,7 @@ use vpg_family::{
 };
 use vpg_partial::Decision;
 use vpg_script::Device;
-use vpg_serving::{Ending, Manner};
+use vpg_serving::{Ending, Form, Manner};
 use vpg_steps::path_told;
 use vpg_system_draw::Path;
 
@@ -48,6 +48,7 @@ fn answered<T: Threads + Wait + Sync>(
     let plain = Manner {
         is_strict: false,
         goes_on: false,
+        form: Form::Plain,
     };
     match run_script(
         rt,

@@ -1,22 +1,25 @@
 //! The engine carries out what a script's lines request. It is an office that this run alone serves, with the tokens
 //! and harvests that lines leave.
 ghost use Rattle.std.specs.Arc.{arc_value};
-ghost use Rattle.std.specs.Prelude.{◌≡◌, ◌+◌, ◌≤◌, OnOk, IfOk, IfErr, IfSome, length};
+ghost use Rattle.std.specs.Prelude.{◌≡◌, ◌+◌, ◌≤◌, OnOk, IfOk, IfErr, IsErrOf, length};
 ghost use Rattle.vpg_diagram.specs.FeatureDiagram.{feature_count};
 ghost use Rattle.vpg_measure.specs.Orders.{IsOrder};
 ghost use Rattle.vpg_desk.specs.Book as book;
 ghost use Rattle.vpg_desk.specs.Commit.{IsOrderOf};
 ghost use Rattle.vpg_desk.specs.State.{IsOpened};
-ghost use Rattle.vpg_office.specs.Faults.{never_refused};
-ghost use Rattle.vpg_report.specs.Client.{IsLogged};
-ghost use Rattle.vpg_report.specs.Faults.{Tells};
+ghost use Rattle.vpg_faults.specs.Refusals.{never_refused};
+ghost use Rattle.vpg_office.specs.Fronts.{family_between};
+ghost use Rattle.vpg_office.specs.Kept.{IsElsewhere};
+ghost use Rattle.vpg_report.specs.Client.{HasUnknownCall, IsLogged};
+ghost use Rattle.vpg_report.specs.Faults.{IsAstray, Tells};
 ghost use Rattle.vpg_report.specs.Answers.{IsOwn};
 ghost use Rattle.vpg_report.specs.Engine.{AnswersTo, SweepsTo, IsOpenFault, deciding, engine_of};
 ghost use Rattle.vpg_script.specs.Script.{Retract, Undo as Undoes, Redo as Redoes, Keep, Forget, Lift, Harvest as Harvests, Commit, Settle, Look, Changed, Known};
 ghost use Rattle.vpg_script.specs.View.{lookup_shown, request_shown, vertex_shown};
 
-use crate::client::Client;
-use crate::fault::{ClientFault, Returned};
+use crate::answering::LIMITS;
+use crate::client::{Client, NotEnded};
+use crate::fault::ClientFault;
 use crate::held::{
     hold_redo, hold_redone, hold_strayed, hold_undo, hold_undone, put_back_unspent, redo_place,
     return_harvest, take_harvest, undo_place,
@@ -26,9 +29,11 @@ use std::alloc::{AllocError, Global};
 use std::marker::Model;
 use std::sync::{Arc, Wait};
 use std::thread::Threads;
+use vpg_answers::look;
 use vpg_board::OpenGate;
 use vpg_desk::OpenFault;
 use vpg_diagram::Diagram;
+use vpg_faults::Returned;
 use vpg_game::GuardedGame;
 use vpg_guards::Names;
 use vpg_guess::Groundwork;
@@ -37,7 +42,7 @@ use vpg_office::{Never, NotOpened, Redo, Site, Terms, Undo};
 use vpg_script::{Command, Lookup, Request, Vertex};
 use vpg_serving::{ServeFault, Tone};
 use vpg_settle::swept;
-use vpg_texts::{has_vertices, look_over, put_changed, put_known_over, verdicts_over, vertex_at};
+use vpg_texts::{has_vertices, put_changed, put_known_over, verdicts_over, vertex_at};
 use vpg_verdict::{Verdict, Which};
 
 /// The number of calls that the log of a run's office takes.
@@ -108,8 +113,9 @@ impl<L: Terms> Engine<L> {
         value: bool,
         out: &mut Vec<u8>,
     ) -> Result<Tone, ServeFault>
-        ensures { IfOk result (λ tone. AnswersTo self.old
+        ensures answer { IfOk result (λ tone. AnswersTo self.old
             (record { label = session; command = deciding value name.now }) tone out.old.items out.new.items self.new) }
+        ensures strayed { IsErrOf result ServeFault.Stray → IsAstray self.old.client session self.new.client }
     {
         let Some(feature) = self.names().get(name) else {
             return lines::refused(b"UnknownFeature", out);
@@ -119,7 +125,7 @@ impl<L: Terms> Engine<L> {
             Ok(undo) => hold_undo(&mut self.undos, undo, b"done", out),
             Err(Returned { fault, value }) => {
                 hold_strayed(&mut self.undos, value);
-                lines::decide_refused(self.names(), fault, out)
+                lines::put_fault(self.names(), fault, out)
             }
         }
     }
@@ -133,8 +139,9 @@ impl<L: Terms> Engine<L> {
         name: &[u8],
         out: &mut Vec<u8>,
     ) -> Result<Tone, ServeFault>
-        ensures { IfOk result (λ tone. AnswersTo self.old
+        ensures answer { IfOk result (λ tone. AnswersTo self.old
             (record { label = session; command = Retract name.now }) tone out.old.items out.new.items self.new) }
+        ensures strayed { IsErrOf result ServeFault.Stray → IsAstray self.old.client session self.new.client }
     {
         let Some(feature) = self.names().get(name) else {
             return lines::refused(b"UnknownFeature", out);
@@ -144,7 +151,7 @@ impl<L: Terms> Engine<L> {
             Ok(undo) => hold_undo(&mut self.undos, undo, b"done", out),
             Err(Returned { fault, value }) => {
                 hold_strayed(&mut self.undos, value);
-                lines::retract_refused(self.names(), fault, out)
+                lines::put_fault(self.names(), fault, out)
             }
         }
     }
@@ -158,8 +165,9 @@ impl<L: Terms> Engine<L> {
         serial: Option<u64>,
         out: &mut Vec<u8>,
     ) -> Result<Tone, ServeFault>
-        ensures { IfOk result (λ tone. AnswersTo self.old
+        ensures answer { IfOk result (λ tone. AnswersTo self.old
             (record { label = session; command = Undoes serial }) tone out.old.items out.new.items self.new) }
+        ensures strayed { IsErrOf result ServeFault.Stray → IsAstray self.old.client session self.new.client }
     {
         let Some(place) = undo_place(&self.undos, serial) else {
             return lines::refused(b"NoToken", out);
@@ -170,7 +178,7 @@ impl<L: Terms> Engine<L> {
             Ok(redo) => hold_redo(&mut self.redos, redo, b"undone", out),
             Err(Returned { fault, value }) => {
                 hold_undone(&mut self.undos, &mut self.redos, place, value);
-                lines::undo_refused(self.names(), fault, out)
+                lines::put_fault(self.names(), fault, out)
             }
         }
     }
@@ -184,8 +192,9 @@ impl<L: Terms> Engine<L> {
         serial: Option<u64>,
         out: &mut Vec<u8>,
     ) -> Result<Tone, ServeFault>
-        ensures { IfOk result (λ tone. AnswersTo self.old
+        ensures answer { IfOk result (λ tone. AnswersTo self.old
             (record { label = session; command = Redoes serial }) tone out.old.items out.new.items self.new) }
+        ensures strayed { IsErrOf result ServeFault.Stray → IsAstray self.old.client session self.new.client }
     {
         let Some(place) = redo_place(&self.redos, serial) else {
             return lines::refused(b"NoToken", out);
@@ -196,7 +205,7 @@ impl<L: Terms> Engine<L> {
             Ok(undo) => hold_undo(&mut self.undos, undo, b"redone", out),
             Err(Returned { fault, value }) => {
                 hold_redone(&mut self.undos, &mut self.redos, place, value);
-                lines::redo_refused(self.names(), fault, out)
+                lines::put_fault(self.names(), fault, out)
             }
         }
     }
@@ -209,8 +218,9 @@ impl<L: Terms> Engine<L> {
         serial: u64,
         out: &mut Vec<u8>,
     ) -> Result<Tone, ServeFault>
-        ensures { IfOk result (λ tone. AnswersTo self.old
+        ensures answer { IfOk result (λ tone. AnswersTo self.old
             (record { label = session; command = Keep serial }) tone out.old.items out.new.items self.new) }
+        ensures strayed { IsErrOf result ServeFault.Stray → IsAstray self.old.client session self.new.client }
     {
         let Some(place) = undo_place(&self.undos, Some(serial)) else {
             return lines::refused(b"NoToken", out);
@@ -233,8 +243,9 @@ impl<L: Terms> Engine<L> {
         serial: u64,
         out: &mut Vec<u8>,
     ) -> Result<Tone, ServeFault>
-        ensures { IfOk result (λ tone. AnswersTo self.old
+        ensures answer { IfOk result (λ tone. AnswersTo self.old
             (record { label = session; command = Forget serial }) tone out.old.items out.new.items self.new) }
+        ensures strayed { IsErrOf result ServeFault.Stray → IsAstray self.old.client session self.new.client }
     {
         let Some(place) = redo_place(&self.redos, Some(serial)) else {
             return lines::refused(b"NoToken", out);
@@ -259,9 +270,10 @@ impl<L: Terms> Engine<L> {
         vertex: Vertex<'_>,
         out: &mut Vec<u8>,
     ) -> Result<Tone, ServeFault>
-        ensures { IfOk result (λ tone. AnswersTo self.old
+        ensures answer { IfOk result (λ tone. AnswersTo self.old
             (record { label = session; command = Lift table (vertex_shown vertex.entry) }) tone
             out.old.items out.new.items self.new) }
+        ensures strayed { IsErrOf result ServeFault.Stray → IsAstray self.old.client session self.new.client }
     {
         let Some(v) = vertex_at(&self.game, vertex) else {
             return lines::refused(b"NoVertex", out);
@@ -288,8 +300,9 @@ impl<L: Terms> Engine<L> {
         out: &mut Vec<u8>,
     ) -> Result<Tone, ServeFault>
         requires lifters { (1 ≤ lifters) × (lifters ≤ 64) }
-        ensures { IfOk result (λ tone. SweepsTo self.old lifters
+        ensures answer { IfOk result (λ tone. SweepsTo self.old lifters
             (record { label = session; command = Harvests }) tone out.old.items out.new.items self.new) }
+        ensures strayed { IsErrOf result ServeFault.Stray → IsAstray self.old.client session self.new.client }
     {
         self.harvests.reserve(1)?;
         let order = match self.client.order(rt, alloc, session) {
@@ -311,8 +324,9 @@ impl<L: Terms> Engine<L> {
         number: u64,
         out: &mut Vec<u8>,
     ) -> Result<Tone, ServeFault>
-        ensures { IfOk result (λ tone. AnswersTo self.old
+        ensures answer { IfOk result (λ tone. AnswersTo self.old
             (record { label = session; command = Commit number }) tone out.old.items out.new.items self.new) }
+        ensures strayed { IsErrOf result ServeFault.Stray → IsAstray self.old.client session self.new.client }
     {
         let Some(harvest) = take_harvest(&mut self.harvests, number) else {
             return lines::refused(b"NoHarvest", out);
@@ -321,7 +335,7 @@ impl<L: Terms> Engine<L> {
             Ok(added) => lines::numbered(b"added", added as u64, out),
             Err(Returned { fault, value }) => {
                 return_harvest(&mut self.harvests, number, &fault, value);
-                lines::commit_refused(self.names(), fault, out)
+                lines::put_fault(self.names(), fault, out)
             }
         }
     }
@@ -337,8 +351,9 @@ impl<L: Terms> Engine<L> {
         out: &mut Vec<u8>,
     ) -> Result<Tone, ServeFault>
         requires lifters { (1 ≤ lifters) × (lifters ≤ 64) }
-        ensures { IfOk result (λ tone. SweepsTo self.old lifters
+        ensures answer { IfOk result (λ tone. SweepsTo self.old lifters
             (record { label = session; command = Settle sweeps }) tone out.old.items out.new.items self.new) }
+        ensures strayed { IsErrOf result ServeFault.Stray → IsAstray self.old.client session self.new.client }
     {
         let order = match self.client.order(rt, alloc, session) {
             Ok(order) => order,
@@ -374,9 +389,10 @@ impl<L: Terms> Engine<L> {
         lookup: &Lookup<'_>,
         out: &mut Vec<u8>,
     ) -> Result<Tone, ServeFault>
-        ensures { IfOk result (λ tone. AnswersTo self.old
+        ensures answer { IfOk result (λ tone. AnswersTo self.old
             (record { label = session; command = Look (lookup_shown lookup.now) }) tone
             out.old.items out.new.items self.new) }
+        ensures strayed { IsErrOf result ServeFault.Stray → IsAstray self.old.client session self.new.client }
     {
         if !has_vertices(&self.game, lookup) {
             return lines::put_missing(lines::Missing::Vertex, out);
@@ -385,7 +401,8 @@ impl<L: Terms> Engine<L> {
             Ok(both) => both,
             Err(fault) => return lines::put_unanswered(fault, out),
         };
-        let tone = look_over(alloc, &games, &page, &self.game, &self.diagram, lookup, out)?;
+        let (game, diagram) = (&self.game, &self.diagram);
+        let tone = look(alloc, &games, &page, game, diagram, lookup, LIMITS, out)?;
         Ok(tone)
     }
 
@@ -397,8 +414,9 @@ impl<L: Terms> Engine<L> {
         session: u32,
         out: &mut Vec<u8>,
     ) -> Result<Tone, ServeFault>
-        ensures { IfOk result (λ tone. AnswersTo self.old
+        ensures answer { IfOk result (λ tone. AnswersTo self.old
             (record { label = session; command = Changed }) tone out.old.items out.new.items self.new) }
+        ensures strayed { IsErrOf result ServeFault.Stray → IsAstray self.old.client session self.new.client }
     {
         let (page, games) = match self.client.page_with_games(rt, alloc, session) {
             Ok(both) => both,
@@ -419,8 +437,9 @@ impl<L: Terms> Engine<L> {
         name: &[u8],
         out: &mut Vec<u8>,
     ) -> Result<Tone, ServeFault>
-        ensures { IfOk result (λ tone. AnswersTo self.old
+        ensures answer { IfOk result (λ tone. AnswersTo self.old
             (record { label = session; command = Known name.now }) tone out.old.items out.new.items self.new) }
+        ensures strayed { IsErrOf result ServeFault.Stray → IsAstray self.old.client session self.new.client }
     {
         let Some(feature) = self.names().get(name) else {
             return lines::refused(b"UnknownFeature", out);
@@ -467,11 +486,14 @@ impl<L: Terms> Engine<L> {
         }
     }
 
-    /// Spends all tokens, and ends the office. Returns how many further tokens are out, or `None` if the log has calls
-    /// that this engine didn't make.
-    pub fn end<R: Wait>(self, rt: &R) -> Option<u64>
-        ensures { IfSome result
+    /// Spends all tokens, and ends the office. Returns how many further tokens are out. If the log has a call that this
+    /// engine doesn't know of, the office and the tokens come back.
+    pub fn end<R: Wait>(self, rt: &R) -> Result<u64, NotEnded<L>>
+        ensures ended { IfOk result
             (λ further. further + length self.held.undos + length self.held.redos ≡ self.client.desk.book.tokens) }
+        ensures others { IfErr result
+            (λ back. HasUnknownCall (IsElsewhere L.shelves (family_between L.game L.diagram)) self.client
+            back.office) }
     {
         let Engine {
             game: _,
@@ -531,9 +553,12 @@ impl<L: Terms> Engine<L> {
         out: &mut Vec<u8>,
     ) -> Result<Tone, ServeFault>
         requires lifters { (1 ≤ lifters) × (lifters ≤ 64) }
-        ensures { IfOk result
+        ensures answer { IfOk result
             (λ tone. IsOwn (request_shown request.now).command ×
             SweepsTo self.old lifters (request_shown request.now) tone out.old.items out.new.items self.new) }
+        // A request of its own strays only where the log or the sessions show it.
+        ensures strayed { IsErrOf result ServeFault.Stray → IsOwn (request_shown request.now).command →
+            IsAstray self.old.client request.now.label self.new.client }
     {
         let session = request.label;
         match &request.command {

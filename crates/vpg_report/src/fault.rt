@@ -5,6 +5,7 @@ ghost use Rattle.vpg_report.specs.Faults.{Sorts, shown_after, shown_by};
 use crate::client::has_one_more;
 use std::fmt::Display;
 use thiserror::Error;
+use vpg_faults::Returned;
 use vpg_office::{Fault, Front, Redo, Terms, Undo};
 
 /// Why a call gives no answer. `Refused` is the desk's own refusal, which is logged.
@@ -23,12 +24,6 @@ pub enum ClientFault<F> {
     /// A growth was refused, or the office has no session for the label: it has 1,024 at most, from 1.
     #[error("Memory")]
     Memory,
-}
-
-/// A fault, with the value that the call took, or made before it strayed.
-pub struct Returned<F, T> {
-    pub fault: ClientFault<F>,
-    pub value: T,
 }
 
 /// A token of either kind: an undo that strays may have exchanged its token already.
@@ -61,7 +56,7 @@ pub(crate) fn follow_answer<L: Terms, T, F>(answer: &Result<T, Fault<L, F>>, fro
 
 /// Sets the front to the log, if the answer to a value that was handed in has it.
 pub(crate) fn follow_returned<L: Terms, T, F, V>(
-    answer: &Result<T, vpg_office::Returned<L, F, V>>,
+    answer: &Result<T, Returned<Fault<L, F>, V>>,
     front: &mut Front<L>,
 )
     ensures { front.new ≡ shown_after answer.now (λ b. b.fault) front.old }

@@ -1,5 +1,5 @@
 //! The tokens and harvests that the engine holds.
-ghost use Rattle.std.specs.Prelude.{◌≡◌, ◌+◌, ◌-◌, ◌<◌, ◌≤◌, ◌==◌, ◌++◌, ◌∷◌, [], ℕ, length, max, position, slice_get, slice_index_or, vec_len, vec_capacity, slice_set, Some, None, IfOk, OnOk, IfSome, IfNone};
+ghost use Rattle.std.specs.Prelude.{◌≡◌, ◌+◌, ◌-◌, ◌<◌, ◌≤◌, ◌==◌, ◌++◌, ◌∷◌, [], ℕ, length, max, position, slice_get, slice_index_or, vec_len, vec_capacity, slice_set, Some, None, IfOk, OnOk, IfSome, IfNone, IsOkUnless};
 ghost use Rattle.std.specs.List.{reduce, remove, insert};
 ghost use Rattle.vpg_report.specs.Faults.{UnlessStray};
 ghost use Rattle.vpg_office.specs.Token.{TokenView};
@@ -66,6 +66,7 @@ pub(crate) fn hold_undo<L: Terms>(
     ensures held { serials undos.new.items ≡ serials undos.old.items ++ undo.serial ∷ [] }
     ensures told { IfOk result
         (λ tone. IsGiven (done (numbered word.now undo.serial)) tone out.old.items out.new.items) }
+    ensures memory { IsOkUnless result ServeFault.Memory }
 {
     let serial = undo.serial();
     undos.push_reserved(undo);
@@ -83,6 +84,7 @@ pub(crate) fn hold_redo<L: Terms>(
     ensures held { serials redos.new.items ≡ serials redos.old.items ++ redo.serial ∷ [] }
     ensures told { IfOk result
         (λ tone. IsGiven (done (numbered word.now redo.serial)) tone out.old.items out.new.items) }
+    ensures memory { IsOkUnless result ServeFault.Memory }
 {
     let serial = redo.serial();
     redos.push_reserved(redo);

@@ -31,8 +31,8 @@
 //! `specs/Answers` and `specs/Line`. `specs/Made` defines how harvests were made, and `specs/Engine` how an engine
 //! serves a line. Over these stand `specs/Requests`, `specs/Server` and `specs/Run`, with questions about the page;
 //! `specs/Output` defines a run's result. `specs/Runs` defines the text that a run on a family reads and writes, and
-//! how its end is reported. `specs/Winners` defines who wins by the text, `specs/Draws` which page is drawn, and
-//! `specs/Ends` the program's exit status. All are this project's own.
+//! how its end is reported. `specs/Winners` defines who wins by the text, `specs/Draws` which page is drawn,
+//! `specs/Exports` which page is exported, and `specs/Ends` the program's exit status. All are this project's own.
 #![tactic(auto)]
 
 mod answering;
@@ -44,6 +44,7 @@ mod client;
 mod drawing;
 mod ending;
 mod engine;
+mod exporting;
 mod fault;
 mod held;
 pub mod laws;
@@ -52,11 +53,12 @@ mod running;
 mod runs;
 
 pub use built_in::{DIAGRAM, GAME};
-pub use client::Client;
+pub use client::{Client, NotEnded};
 pub use drawing::{drawn_after, system_drawn_after, traced_after};
 pub use ending::{End, end_of, ended, refused_line, status};
 pub use engine::Engine;
-pub use fault::{ClientFault, Returned, Token};
+pub use exporting::exported_after;
+pub use fault::{ClientFault, Token};
 pub use lines::{Missing, put_missing, put_unanswered};
 pub use running::run_script;
 pub use runs::{run, run_as, run_called};

@@ -1,15 +1,13 @@
 //! The lines that answer commands.
-ghost use Rattle.std.specs.Prelude.{◌≡◌, ◌++◌, ◌∷◌, ◌<◌, ℕ, List, length, codes, IfOk, OnOk};
-ghost use Rattle.vpg_desk.specs.Commit.{commit_refusal};
-ghost use Rattle.vpg_desk.specs.Faults.{decide_refusal, retract_refusal, undo_refusal, redo_refusal};
-ghost use Rattle.vpg_report.specs.Answers.{full_log, numbered, own_text, settled_text};
-ghost use Rattle.vpg_report.specs.Engine.{TellsFault, TellsRefusal, own_of};
+ghost use Rattle.std.specs.Prelude.{◌≡◌, ◌++◌, ◌∷◌, ◌<◌, ℕ, List, length, codes, IfOk, OnOk, IsErrOf, IsOkUnless};
+ghost use Rattle.vpg_report.specs.Answers.{full_log, numbered, own_text, refusal_text, settled_text};
+ghost use Rattle.vpg_report.specs.Engine.{IsFaultWithin, IsNamedWithin, TellsFault, own_of};
 ghost use Rattle.vpg_serving.specs.Answer.{IsGiven, done, refused};
 ghost use Rattle.vpg_texts.specs.Text.{blank_number, blank_name};
 
 use crate::fault::ClientFault;
 use thiserror::Error;
-use vpg_desk::{CommitFault, DecideFault, RedoFault, RetractFault, UndoFault};
+use vpg_faults::{Refusal, Refuses};
 use vpg_guards::Names;
 use vpg_serving::{ServeFault, Tone};
 use vpg_texts::{blank_name, blank_number};
@@ -27,7 +25,8 @@ pub enum Missing {
 
 /// Writes a word and a number, and returns the tone of a line that is carried out.
 pub(crate) fn numbered(word: &[u8], n: u64, out: &mut Vec<u8>) -> Result<Tone, ServeFault>
-    ensures { IfOk result (λ tone. IsGiven (done (numbered word.now n)) tone out.old.items out.new.items) }
+    ensures told { IfOk result (λ tone. IsGiven (done (numbered word.now n)) tone out.old.items out.new.items) }
+    ensures memory { IsOkUnless result ServeFault.Memory }
 {
     out.extend_from_slice(word)?;
     blank_number(n, out)?;
@@ -37,7 +36,8 @@ pub(crate) fn numbered(word: &[u8], n: u64, out: &mut Vec<u8>) -> Result<Tone, S
 
 /// Writes whether the page is settled, and how many entries were added.
 pub(crate) fn settled(settled: bool, added: u32, out: &mut Vec<u8>) -> Result<Tone, ServeFault>
-    ensures { IfOk result (λ tone. IsGiven (done (settled_text settled added)) tone out.old.items out.new.items) }
+    ensures told { IfOk result (λ tone. IsGiven (done (settled_text settled added)) tone out.old.items out.new.items) }
+    ensures memory { IsOkUnless result ServeFault.Memory }
 {
     if settled {
         numbered(b"settled", added as u64, out)
@@ -48,7 +48,8 @@ pub(crate) fn settled(settled: bool, added: u32, out: &mut Vec<u8>) -> Result<To
 
 /// Writes a refusal of one word.
 pub(crate) fn refused(why: &[u8], out: &mut Vec<u8>) -> Result<Tone, ServeFault>
-    ensures { IfOk result (λ tone. IsGiven (refused why.now) tone out.old.items out.new.items) }
+    ensures told { IfOk result (λ tone. IsGiven (refused why.now) tone out.old.items out.new.items) }
+    ensures memory { IsOkUnless result ServeFault.Memory }
 {
     out.extend_from_slice(b"refused ")?;
     out.extend_from_slice(why)?;
@@ -58,7 +59,8 @@ pub(crate) fn refused(why: &[u8], out: &mut Vec<u8>) -> Result<Tone, ServeFault>
 
 /// Writes the refusal of a name that is missing.
 pub fn put_missing(what: Missing, out: &mut Vec<u8>) -> Result<Tone, ServeFault>
-    ensures { IfOk result (λ tone. IsGiven (refused (own_text (own_of what))) tone out.old.items out.new.items) }
+    ensures told { IfOk result (λ tone. IsGiven (refused (own_text (own_of what))) tone out.old.items out.new.items) }
+    ensures memory { IsOkUnless result ServeFault.Memory }
 {
     match what {
         Missing::Vertex => refused(b"NoVertex", out),
@@ -69,8 +71,9 @@ pub fn put_missing(what: Missing, out: &mut Vec<u8>) -> Result<Tone, ServeFault>
 
 /// Writes a refusal that names a serial.
 fn refused_at(why: &[u8], serial: u64, out: &mut Vec<u8>) -> Result<Tone, ServeFault>
-    ensures { IfOk result
+    ensures told { IfOk result
         (λ tone. IsGiven (refused (why.now ++ blank_number serial)) tone out.old.items out.new.items) }
+    ensures memory { IsOkUnless result ServeFault.Memory }
 {
     out.extend_from_slice(b"refused ")?;
     out.extend_from_slice(why)?;
@@ -87,8 +90,9 @@ fn refused_feature(
     out: &mut Vec<u8>,
 ) -> Result<Tone, ServeFault>
     requires { feature < length names.now }
-    ensures { IfOk result
+    ensures told { IfOk result
         (λ tone. IsGiven (refused (why.now ++ blank_name names.now feature)) tone out.old.items out.new.items) }
+    ensures memory { IsOkUnless result ServeFault.Memory }
 {
     out.extend_from_slice(b"refused ")?;
     out.extend_from_slice(why)?;
@@ -97,86 +101,32 @@ fn refused_feature(
     Ok(Tone::Refused)
 }
 
-/// Writes why a feature isn't decided.
-fn decide_refusal_told(
-    names: &Names,
-    fault: DecideFault,
-    out: &mut Vec<u8>,
-) -> Result<Tone, ServeFault>
-    requires { (feature : ℕ) → fault ≡ DecideFault.Conflict feature → feature < length names.now }
-    ensures { IfOk result
-        (λ tone. TellsRefusal names.now (decide_refusal fault) tone out.old.items out.new.items) }
+/// Writes why a desk refuses a call.
+fn put_refusal(names: &Names, refusal: Refusal, out: &mut Vec<u8>) -> Result<Tone, ServeFault>
+    requires { IsNamedWithin (length names.now) refusal }
+    ensures told { IfOk result
+        (λ tone. IsGiven (refused (refusal_text names.now refusal)) tone out.old.items out.new.items) }
+    ensures memory { IsOkUnless result ServeFault.Memory }
 {
-    match fault {
-        DecideFault::UnknownFeature => refused(b"UnknownFeature", out),
-        DecideFault::AlreadyDecided { serial } => refused_at(b"AlreadyDecided", serial, out),
-        DecideFault::Conflict { feature } => refused_feature(b"Conflict", names, feature, out),
-        DecideFault::TooManyChanges => refused(b"TooManyChanges", out),
-        DecideFault::Memory => Err(ServeFault::Memory),
-    }
-}
-
-/// Writes why a feature isn't retracted.
-fn retract_refusal_told(
-    names: &Names,
-    fault: RetractFault,
-    out: &mut Vec<u8>,
-) -> Result<Tone, ServeFault>
-    ensures { IfOk result
-        (λ tone. TellsRefusal names.now (retract_refusal fault) tone out.old.items out.new.items) }
-{
-    match fault {
-        RetractFault::UnknownFeature => refused(b"UnknownFeature", out),
-        RetractFault::NotDecided => refused(b"NotDecided", out),
-        RetractFault::TooManyChanges => refused(b"TooManyChanges", out),
-        RetractFault::Memory => Err(ServeFault::Memory),
-    }
-}
-
-/// Writes why a change isn't undone.
-fn undo_refusal_told(names: &Names, fault: UndoFault, out: &mut Vec<u8>) -> Result<Tone, ServeFault>
-    ensures { IfOk result
-        (λ tone. TellsRefusal names.now (undo_refusal fault) tone out.old.items out.new.items) }
-{
-    match fault {
-        UndoFault::Sealed => refused(b"Sealed", out),
-        UndoFault::NotNewest { newest } => refused_at(b"NotNewest", newest, out),
-        UndoFault::Memory => Err(ServeFault::Memory),
-    }
-}
-
-/// Writes why a change isn't redone.
-fn redo_refusal_told(names: &Names, fault: RedoFault, out: &mut Vec<u8>) -> Result<Tone, ServeFault>
-    ensures { IfOk result
-        (λ tone. TellsRefusal names.now (redo_refusal fault) tone out.old.items out.new.items) }
-{
-    match fault {
-        RedoFault::Overtaken => refused(b"Overtaken", out),
-        RedoFault::NotNext { next } => refused_at(b"NotNext", next, out),
-        RedoFault::Memory => Err(ServeFault::Memory),
-    }
-}
-
-/// Writes why a harvest isn't committed.
-fn commit_refusal_told(
-    names: &Names,
-    fault: CommitFault,
-    out: &mut Vec<u8>,
-) -> Result<Tone, ServeFault>
-    requires { (feature : ℕ) → fault ≡ CommitFault.Outdated feature → feature < length names.now }
-    ensures { IfOk result
-        (λ tone. TellsRefusal names.now (commit_refusal fault) tone out.old.items out.new.items) }
-{
-    match fault {
-        CommitFault::OtherGame => refused(b"OtherGame", out),
-        CommitFault::Outdated { feature } => refused_feature(b"Outdated", names, feature, out),
-        CommitFault::Memory => Err(ServeFault::Memory),
+    match refusal {
+        Refusal::UnknownFeature => refused(b"UnknownFeature", out),
+        Refusal::AlreadyDecided { serial } => refused_at(b"AlreadyDecided", serial, out),
+        Refusal::Conflict { feature } => refused_feature(b"Conflict", names, feature, out),
+        Refusal::TooManyChanges => refused(b"TooManyChanges", out),
+        Refusal::NotDecided => refused(b"NotDecided", out),
+        Refusal::Sealed => refused(b"Sealed", out),
+        Refusal::NotNewest { newest } => refused_at(b"NotNewest", newest, out),
+        Refusal::Overtaken => refused(b"Overtaken", out),
+        Refusal::NotNext { next } => refused_at(b"NotNext", next, out),
+        Refusal::OtherGame => refused(b"OtherGame", out),
+        Refusal::Outdated { feature } => refused_feature(b"Outdated", names, feature, out),
     }
 }
 
 /// Writes the answer to a line with a call that finds the log full.
 fn full(out: &mut Vec<u8>) -> Result<Tone, ServeFault>
-    ensures { IfOk result (λ tone. IsGiven full_log tone out.old.items out.new.items) }
+    ensures told { IfOk result (λ tone. IsGiven full_log tone out.old.items out.new.items) }
+    ensures memory { IsOkUnless result ServeFault.Memory }
 {
     refused(b"LogFull", out)
 }
@@ -186,6 +136,8 @@ fn full(out: &mut Vec<u8>) -> Result<Tone, ServeFault>
 pub fn put_unanswered<F: Drop>(fault: ClientFault<F>, out: &mut Vec<u8>) -> Result<Tone, ServeFault>
     ensures full { OnOk result (fault ≡ ClientFault.LogFull) }
     ensures told { IfOk result (λ tone. IsGiven full_log tone out.old.items out.new.items) }
+    ensures strayed { IsErrOf result ServeFault.Stray →
+        ¬ (fault ≡ ClientFault.LogFull) × ¬ (fault ≡ ClientFault.Memory) }
 {
     match fault {
         ClientFault::LogFull => full(out),
@@ -194,88 +146,23 @@ pub fn put_unanswered<F: Drop>(fault: ClientFault<F>, out: &mut Vec<u8>) -> Resu
     }
 }
 
-/// Writes the answer if a feature isn't decided: the desk's refusal, or that the log is full.
-pub(crate) fn decide_refused(
+/// Writes the answer to a line with a call that is not made: the desk's refusal, or that the log is full.
+pub(crate) fn put_fault<F: Refuses>(
     names: &Names,
-    fault: ClientFault<DecideFault>,
+    fault: ClientFault<F>,
     out: &mut Vec<u8>,
 ) -> Result<Tone, ServeFault>
-    requires { (feature : ℕ) → fault ≡ ClientFault.Refused (DecideFault.Conflict feature) → feature < length names.now }
-    ensures { IfOk result
-        (λ tone. TellsFault names.now decide_refusal fault tone out.old.items out.new.items) }
+    requires { IsFaultWithin (length names.now) F.refusal_of fault }
+    ensures told { IfOk result
+        (λ tone. TellsFault names.now F.refusal_of fault tone out.old.items out.new.items) }
+    ensures strayed { IsErrOf result ServeFault.Stray → fault ≡ ClientFault.Stray }
 {
     match fault {
         ClientFault::LogFull => full(out),
-        ClientFault::Refused { fault } => decide_refusal_told(names, fault, out),
-        ClientFault::Stray => Err(ServeFault::Stray),
-        ClientFault::Memory => Err(ServeFault::Memory),
-    }
-}
-
-/// Writes the answer if a feature isn't retracted: the desk's refusal, or that the log is full.
-pub(crate) fn retract_refused(
-    names: &Names,
-    fault: ClientFault<RetractFault>,
-    out: &mut Vec<u8>,
-) -> Result<Tone, ServeFault>
-    ensures { IfOk result
-        (λ tone. TellsFault names.now retract_refusal fault tone out.old.items out.new.items) }
-{
-    match fault {
-        ClientFault::LogFull => full(out),
-        ClientFault::Refused { fault } => retract_refusal_told(names, fault, out),
-        ClientFault::Stray => Err(ServeFault::Stray),
-        ClientFault::Memory => Err(ServeFault::Memory),
-    }
-}
-
-/// Writes the answer if a change isn't undone: the desk's refusal, or that the log is full.
-pub(crate) fn undo_refused(
-    names: &Names,
-    fault: ClientFault<UndoFault>,
-    out: &mut Vec<u8>,
-) -> Result<Tone, ServeFault>
-    ensures { IfOk result
-        (λ tone. TellsFault names.now undo_refusal fault tone out.old.items out.new.items) }
-{
-    match fault {
-        ClientFault::LogFull => full(out),
-        ClientFault::Refused { fault } => undo_refusal_told(names, fault, out),
-        ClientFault::Stray => Err(ServeFault::Stray),
-        ClientFault::Memory => Err(ServeFault::Memory),
-    }
-}
-
-/// Writes the answer if a change isn't redone: the desk's refusal, or that the log is full.
-pub(crate) fn redo_refused(
-    names: &Names,
-    fault: ClientFault<RedoFault>,
-    out: &mut Vec<u8>,
-) -> Result<Tone, ServeFault>
-    ensures { IfOk result
-        (λ tone. TellsFault names.now redo_refusal fault tone out.old.items out.new.items) }
-{
-    match fault {
-        ClientFault::LogFull => full(out),
-        ClientFault::Refused { fault } => redo_refusal_told(names, fault, out),
-        ClientFault::Stray => Err(ServeFault::Stray),
-        ClientFault::Memory => Err(ServeFault::Memory),
-    }
-}
-
-/// Writes the answer if a harvest isn't committed: the desk's refusal, or that the log is full.
-pub(crate) fn commit_refused(
-    names: &Names,
-    fault: ClientFault<CommitFault>,
-    out: &mut Vec<u8>,
-) -> Result<Tone, ServeFault>
-    requires { (feature : ℕ) → fault ≡ ClientFault.Refused (CommitFault.Outdated feature) → feature < length names.now }
-    ensures { IfOk result
-        (λ tone. TellsFault names.now commit_refusal fault tone out.old.items out.new.items) }
-{
-    match fault {
-        ClientFault::LogFull => full(out),
-        ClientFault::Refused { fault } => commit_refusal_told(names, fault, out),
+        ClientFault::Refused { fault } => match fault.refusal() {
+            Some(refusal) => put_refusal(names, refusal, out),
+            None => Err(ServeFault::Memory),
+        },
         ClientFault::Stray => Err(ServeFault::Stray),
         ClientFault::Memory => Err(ServeFault::Memory),
     }

@@ -22,7 +22,7 @@ use vpg_family::Context;
 use vpg_game::GuardedGame;
 use vpg_office::{Site, Terms};
 use vpg_script::{Sink, Source};
-use vpg_serving::{Ending, Manner, RunFault, answer_script_as};
+use vpg_serving::{Ending, Form, Manner, RunFault, answer_script_as};
 
 /// Opens an office on the game and the diagram, reads a script, and answers its lines in order, each before the next is
 /// read. A label is a session of the office. 1 to 64 lifters sweep at once, in threads of their own.
@@ -65,6 +65,7 @@ pub fn run<T: Threads + Wait + Sync, R: Source, W: Sink>(
     let plain = Manner {
         is_strict: false,
         goes_on: false,
+        form: Form::Plain,
     };
     match run_as(rt, alloc, game, diagram, reader, writer, lifters, plain) {
         Ok(_) => Ok(()),
@@ -72,8 +73,9 @@ pub fn run<T: Threads + Wait + Sync, R: Source, W: Sink>(
     }
 }
 
-/// Runs a script as `run` does, in a manner: a strict run ends at the first refusal, and one that goes on answers a
-/// line with a fault. If the run comes to the script's end, `Failed` says that an assertion failed.
+/// Runs a script as `run` does, in a manner: a strict run ends at the first refusal, one that goes on answers a line
+/// with a fault, and each writes its answers in a form. If the run comes to the script's end, `Failed` says that an
+/// assertion failed.
 ///
 /// `Open` comes before any line is read; `Line` only if the run does not go on, `Read` and `Write` as the run meets
 /// them. `Memory` comes only if a growth was refused, and `Stray` only if the office has a call that no line made.
@@ -91,7 +93,8 @@ pub fn run_as<T: Threads + Wait + Sync, R: Source, W: Sink>(
     requires lifters { (1 ≤ lifters) × (lifters ≤ 64) }
     requires features { (arc_value game).features ≡ feature_count (arc_value diagram).lines }
 
-    // The answers to the lines read are written, as `run` writes them, and the result is their end.
+    // The answers to the lines read are written in the manner's form: `run` writes the same ones plainly. The result is
+    // their end.
     ensures output { OutcomeAs manner (answering None (scene_of (arc_value game) (arc_value diagram)) lifters)
         (IsOpenRefusal (arc_value game) (arc_value diagram)) begun (R.remaining reader.old) (R.remaining reader.new)
         (W.contents writer.old) (W.contents writer.new) result }
@@ -158,6 +161,13 @@ pub fn run_called<T: Threads + Wait + Sync, R: Source, W: Sink>(
     )
 }
 
+/// Ends an engine, and its office whatever calls its log has.
+fn end_engine<L: Terms, R: Wait>(rt: &R, engine: Engine<L>) {
+    if let Err(others) = engine.end(rt) {
+        let _further = others.end(rt);
+    }
+}
+
 /// Runs a script at an office with this row and this ledger, which `L` names.
 fn run_there<L: Terms, T: Threads + Wait + Sync, R: Source, W: Sink>(
     rt: &T,
@@ -195,6 +205,6 @@ fn run_there<L: Terms, T: Threads + Wait + Sync, R: Source, W: Sink>(
     let mut server = Answering { engine, context };
     let result = answer_script_as(rt, alloc, lifters, manner, &mut server, reader, writer);
     let Answering { engine, context: _ } = server;
-    let _further = engine.end(rt);
+    end_engine(rt, engine);
     result
 }

@@ -16,6 +16,13 @@ fn lifters<'a>(arg: Arg<'a>) -> Arg<'a> {
         .default_value("1")
 }
 
+/// Returns an option without a value, which goes without another one.
+fn apart<'a>(arg: Arg<'a>, name: &'a str, without: &'a str) -> Result<Arg<'a>, AllocError> {
+    arg.long(name)
+        .action(ArgAction::SetTrue)
+        .conflicts_with(without)
+}
+
 /// Returns an option without a value, which goes with another one, and without a third.
 fn choice<'a>(
     arg: Arg<'a>,
@@ -37,6 +44,7 @@ fn arg_of<'a>(alloc: Global, argument: Argument) -> Result<Arg<'a>, AllocError> 
         Kind::Words => Ok(arg.required(true).num_args(1..)),
         Kind::Optional => Ok(arg),
         Kind::Flag => Ok(arg.long(argument.name).action(ArgAction::SetTrue)),
+        Kind::Apart { without } => apart(arg, argument.name, without),
         Kind::Choice { with, without } => choice(arg, argument.name, with, without),
         Kind::Lifters => Ok(lifters(arg)),
         Kind::Value { value, with } => {
@@ -282,7 +290,7 @@ fn files_of<'a>(name: &str, matches: &ArgMatches<'a>) -> Option<Files<'a>> {
     }
     match (matches.get_str("system"), matches.get_str("requirements")) {
         (Some(system), Some(requirements)) => {
-            let takes_script = name == "run" || name == "draw";
+            let takes_script = name == "run" || name == "draw" || name == "export";
             shifted(matches, takes_script, system, requirements)
         }
         (Some(system), None) => system_files(matches, system),
@@ -321,16 +329,20 @@ fn task_of<'a>(
         "run" => Ok(script.map(|script| Task::Run {
             paths,
             script,
+            config: matches.get_str("config"),
             lifters: matches.get_one("lifters").unwrap_or(1),
             strict: matches.get_flag("strict"),
             keep_going: matches.get_flag("keep-going"),
             names: matches.get_flag("names"),
+            json: matches.get_flag("json"),
         })),
         "desk" => Ok(Some(Task::Desk {
             paths,
             lifters: matches.get_one("lifters").unwrap_or(1),
             names: matches.get_flag("names"),
+            json: matches.get_flag("json"),
         })),
+        "export" => Ok(script.map(|script| Task::Export { paths, script })),
         "model" => Ok(Some(Task::Model { paths })),
         "project" => Ok(Some(Task::Project {
             paths,
@@ -374,6 +386,17 @@ fn asked_of<'a>(
     }
 }
 
+/// Returns the request of the command over the file of a diagram.
+fn asked_of_diagram<'a>(alloc: Global, matches: &ArgMatches<'a>) -> Result<Invocation<'a>, Error> {
+    match matches.get_str("MODEL") {
+        Some(path) => Ok(Invocation {
+            task: Task::Diagram { path },
+            explains: matches.get_flag("explain"),
+        }),
+        None => refused(lacking(alloc)),
+    }
+}
+
 /// Returns the request of a command over a family.
 fn asked<'a>(alloc: Global, name: &str, matches: &ArgMatches<'a>) -> Result<Invocation<'a>, Error> {
     if has_sign(matches) {
@@ -381,6 +404,9 @@ fn asked<'a>(alloc: Global, name: &str, matches: &ArgMatches<'a>) -> Result<Invo
     }
     if has_break(matches) {
         return refused(broken(alloc));
+    }
+    if name == "diagram" {
+        return asked_of_diagram(alloc, matches);
     }
     match files_of(name, matches) {
         Some(

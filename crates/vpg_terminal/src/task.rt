@@ -26,6 +26,8 @@ pub enum Task<'a> {
     Run {
         paths: Paths<'a>,
         script: &'a str,
+        /// A configuration whose features are selected before the script.
+        config: Option<&'a str>,
         /// From 1 to 64.
         lifters: u32,
         /// The first refusal ends the script.
@@ -34,6 +36,8 @@ pub enum Task<'a> {
         keep_going: bool,
         /// The names of vertices stand beside answers.
         names: bool,
+        /// Answers are written in JSON.
+        json: bool,
     },
     /// A script that is typed in, on a family.
     Desk {
@@ -42,10 +46,21 @@ pub enum Task<'a> {
         lifters: u32,
         /// The names of vertices stand beside answers.
         names: bool,
+        /// Answers are written in JSON.
+        json: bool,
     },
     /// The game of a system and its requirements.
     Model {
         paths: Paths<'a>,
+    },
+    /// The configuration of a family on the page that a script leaves.
+    Export {
+        paths: Paths<'a>,
+        script: &'a str,
+    },
+    /// The diagram of a file, which may have a feature model that means it.
+    Diagram {
+        path: &'a str,
     },
     /// The plain game of the product that has just these features.
     Project {
@@ -78,17 +93,25 @@ impl Drop for Task<'_> {
             Task::Run {
                 paths: _,
                 script: _,
+                config: _,
                 lifters: _,
                 strict: _,
                 keep_going: _,
                 names: _,
+                json: _,
             } => {}
             Task::Desk {
                 paths: _,
                 lifters: _,
                 names: _,
+                json: _,
+            } => {}
+            Task::Export {
+                paths: _,
+                script: _,
             } => {}
             Task::Model { paths: _ } => {}
+            Task::Diagram { path: _ } => {}
             Task::Project {
                 paths: _,
                 features: _,
@@ -109,9 +132,10 @@ impl<'a> Task<'a> {
     /// Returns the files of the family that it is about, if they are named.
     pub fn paths(&self) -> Option<Paths<'a>> {
         match self {
-            Task::BuiltIn => None,
+            Task::BuiltIn | Task::Diagram { .. } => None,
             Task::Run { paths, .. } => Some(*paths),
             Task::Desk { paths, .. } => Some(*paths),
+            Task::Export { paths, .. } => Some(*paths),
             Task::Model { paths } => Some(*paths),
             Task::Project { paths, .. } => Some(*paths),
             Task::Check { paths } => Some(*paths),
@@ -120,10 +144,19 @@ impl<'a> Task<'a> {
         }
     }
 
+    /// Returns the file of the diagram that it is about alone, if it is about one.
+    pub fn diagram(&self) -> Option<&'a str> {
+        match self {
+            Task::Diagram { path } => Some(*path),
+            _ => None,
+        }
+    }
+
     /// Returns the file of its script, if it has one.
     pub fn script(&self) -> Option<&'a str> {
         match self {
             Task::Run { script, .. } => Some(*script),
+            Task::Export { script, .. } => Some(*script),
             Task::Draw { script, .. } => *script,
             _ => None,
         }

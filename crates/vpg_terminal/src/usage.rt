@@ -47,6 +47,8 @@ number, N a number):
   known F                whether F is known to be in or out
   assert V WORD ..       whether V is hopeless, possible, sure or unsure, and
                          stays so
+  assert V won           whether a product is left, and Even wins at V in each;
+                         lost: Odd in each; mixed: each of them in some
   assert full            whether each feature is known;
   assert settled         whether the page is settled
   why V, why F           decisions that make V's verdicts so, or F known
@@ -57,7 +59,7 @@ number, N a number):
   won V                  the same of Odd
   offer V                what each further decision would make of V
   needs V                what every product has that is left and won at V
-  repair V               what to retract so that V is possible
+  repair V               what to retract so that Even wins at V in some product
   spoil V                moves of Odd that win at V in every product left;
   plan V                 the same of Even
   trace V                where V is hopeless or sure, how the winner wins there,
@@ -83,6 +85,7 @@ Examples:
   vpgdesk run game diagram script
   vpgdesk desk game diagram
   vpgdesk project game diagram lift sensor overload
+  vpgdesk diagram model.uvl > diagram
   vpgdesk draw game diagram | dot -Tsvg > game.svg
   vpgdesk draw --system system diagram | dot -Tsvg > system.svg
   vpgdesk check --system system --requirements requirements diagram
@@ -126,6 +129,12 @@ pub(crate) const DESK_USAGE: &str = "\
 vpgdesk desk [OPTIONS] <GAME> <DIAGRAM>
        vpgdesk desk [OPTIONS] --system <SYSTEM> --requirements <FILE> <DIAGRAM>";
 
+/// The words of `export`.
+pub(crate) const EXPORT_USAGE: &str = "\
+vpgdesk export [OPTIONS] <GAME> <DIAGRAM> <SCRIPT>
+       vpgdesk export [OPTIONS] --system <SYSTEM> --requirements <FILE>
+                      <DIAGRAM> <SCRIPT>";
+
 /// The words of `check`.
 pub(crate) const CHECK_USAGE: &str = "\
 vpgdesk check [OPTIONS] <GAME> <DIAGRAM>
@@ -144,7 +153,9 @@ vpgdesk draw [OPTIONS] <GAME> <DIAGRAM> [SCRIPT]
        vpgdesk draw [OPTIONS] --system <SYSTEM> <DIAGRAM>";
 
 pub(crate) const DIAGRAM_HELP: &str =
-    "A feature diagram, a line each: `root r`, `optional r f`, ..";
+    "A feature diagram, or a feature model, as MODEL of `diagram`";
+
+pub(crate) const MODEL_HELP: &str = "NAME.uvl in UVL, NAME.xml of FeatureIDE, else a diagram";
 
 pub(crate) const SCRIPT_HELP: &str = "One command a line, as `select f`, `settle` or `show`";
 
@@ -157,6 +168,10 @@ pub(crate) const STRICT_HELP: &str = "End at the first refused line, with status
 pub(crate) const KEEP_GOING_HELP: &str = "Answer a line with a fault `refused ..`, and go on";
 
 pub(crate) const NAMES_HELP: &str = "Show the names of vertices beside answers";
+
+pub(crate) const CONFIG_HELP: &str = "Select the features that this file names first";
+
+pub(crate) const JSON_HELP: &str = "Write each answer as an object of JSON in one line";
 
 pub(crate) const FEATURE_HELP: &str =
     "The features of the product, all of them, the root among them";

@@ -1,9 +1,10 @@
 //! The commands of the program, and their arguments.
 use crate::usage::{
-    CHECK_USAGE, DESK_USAGE, DIAGRAM_HELP, DRAW_USAGE, DRAWN_SCRIPT_HELP, DRAWN_SYSTEM_HELP,
-    EXPLAIN_HELP, FEATURE_HELP, FEATURES_HELP, GAME_HELP, KEEP_GOING_HELP, LIFTERS_HELP,
-    LINT_USAGE, NAMES_HELP, REQUIREMENTS_HELP, RUN_USAGE, SCRIPT_HELP, STATES_HELP, STRICT_HELP,
-    SYSTEM_HELP, TAKEN_REQUIREMENTS_HELP, TAKEN_SYSTEM_HELP, TRACE_HELP,
+    CHECK_USAGE, CONFIG_HELP, DESK_USAGE, DIAGRAM_HELP, DRAW_USAGE, DRAWN_SCRIPT_HELP,
+    DRAWN_SYSTEM_HELP, EXPLAIN_HELP, EXPORT_USAGE, FEATURE_HELP, FEATURES_HELP, GAME_HELP,
+    JSON_HELP, KEEP_GOING_HELP, LIFTERS_HELP, LINT_USAGE, MODEL_HELP, NAMES_HELP,
+    REQUIREMENTS_HELP, RUN_USAGE, SCRIPT_HELP, STATES_HELP, STRICT_HELP, SYSTEM_HELP,
+    TAKEN_REQUIREMENTS_HELP, TAKEN_SYSTEM_HELP, TRACE_HELP,
 };
 
 /// The kind of a command's argument.
@@ -19,6 +20,10 @@ pub(crate) enum Kind {
     Optional,
     /// An option without a value.
     Flag,
+    /// Such an option, which goes without another one.
+    Apart {
+        without: &'static str,
+    },
     /// Such an option, which goes with another one, and without a third.
     Choice {
         with: &'static str,
@@ -71,6 +76,12 @@ const LAST_DIAGRAM: Argument = Argument {
     kind: Kind::Last,
     name: "DIAGRAM",
     help: DIAGRAM_HELP,
+};
+
+const MODEL: Argument = Argument {
+    kind: Kind::Word,
+    name: "MODEL",
+    help: MODEL_HELP,
 };
 
 const SYSTEM: Argument = Argument {
@@ -127,6 +138,18 @@ const NAMES: Argument = Argument {
     help: NAMES_HELP,
 };
 
+const CONFIG: Argument = Argument {
+    kind: Kind::Lone { value: "FILE" },
+    name: "config",
+    help: CONFIG_HELP,
+};
+
+const JSON: Argument = Argument {
+    kind: Kind::Apart { without: "names" },
+    name: "json",
+    help: JSON_HELP,
+};
+
 const SCRIPT: Argument = Argument {
     kind: Kind::Last,
     name: "SCRIPT",
@@ -181,8 +204,8 @@ const TRACE: Argument = Argument {
     help: TRACE_HELP,
 };
 
-/// The commands in the order of the help. All are over the files of a family.
-pub(crate) static VERBS: [Verb; 7] = [
+/// The commands in the order of the help. All but one are over the files of a family.
+pub(crate) static VERBS: [Verb; 9] = [
     Verb {
         name: "run",
         about: "Carries a script out on a family",
@@ -195,9 +218,11 @@ pub(crate) static VERBS: [Verb; 7] = [
             TAKEN_SYSTEM,
             TAKEN_REQUIREMENTS,
             LIFTERS,
+            CONFIG,
             STRICT,
             KEEP_GOING,
             NAMES,
+            JSON,
         ],
     },
     Verb {
@@ -211,6 +236,20 @@ pub(crate) static VERBS: [Verb; 7] = [
             TAKEN_REQUIREMENTS,
             LIFTERS,
             NAMES,
+            JSON,
+        ],
+    },
+    Verb {
+        name: "export",
+        about: "Writes the configuration that a script leaves",
+        usage: Some(EXPORT_USAGE),
+        arguments: &[
+            GAME,
+            DIAGRAM,
+            EXPLAIN,
+            SCRIPT,
+            TAKEN_SYSTEM,
+            TAKEN_REQUIREMENTS,
         ],
     },
     Verb {
@@ -218,6 +257,12 @@ pub(crate) static VERBS: [Verb; 7] = [
         about: "Writes the game of a system and its requirements",
         usage: None,
         arguments: &[SYSTEM, REQUIREMENTS, DIAGRAM, EXPLAIN],
+    },
+    Verb {
+        name: "diagram",
+        about: "Writes the diagram that a feature model means",
+        usage: None,
+        arguments: &[MODEL, EXPLAIN],
     },
     Verb {
         name: "project",

@@ -3,8 +3,8 @@ use Rattle.vpg_texts.specs.Text.{blank_number}
 use Rattle.vpg_report.proofs.Written.{refused_words}
 use Rattle.vpg_report.proofs.lines.refused_at.Goals as goal
 
-pub returns : goal.returns
-returns c = (
+pub returns-clause-told : goal.returns-clause-told
+returns-clause-told c = (
   refl,
   refused_words c.args.out.now.items c.extend_from_slice.new.self.items c.extend_from_slice-2.new.self.items c.blank_number.new.out.items c.extend_from_slice-3.new.self.items c.args.why.now (blank_number c.args.serial)
       c.in_ok-extend_from_slice.ensures.items c.in_ok-extend_from_slice-2.ensures.items c.in_ok-blank_number.ensures c.in_ok-extend_from_slice-3.ensures.items,

@@ -1,7 +1,8 @@
 use Rattle.std.proofs.Common.{◌+◌, ◌≡◌, Some, length, sym}
 use Rattle.std.specs.Prelude.{true, slice_set}
 use Rattle.vpg_desk.specs.Book as book
-use Rattle.vpg_desk.specs.Commit.{IsOrderOf, commit_refusal, handed_in}
+use Rattle.vpg_desk.specs.Commit.{IsOrderOf, handed_in}
+use Rattle.vpg_faults.specs.Refusals.{commit_refusal}
 use Rattle.vpg_office.specs.Fronts.{family_between}
 use Rattle.vpg_report.proofs.Logged.{step_made, all_commit_told, all_own_told, comes_back, absent_tells, given_back, grew}
 use Rattle.vpg_report.specs.Client.{client_after}

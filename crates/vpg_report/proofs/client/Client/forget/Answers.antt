@@ -1,6 +1,6 @@
 use Rattle.std.proofs.Common.{◌+◌, ◌≡◌, Some, length}
 use Rattle.vpg_desk.specs.Book as book
-use Rattle.vpg_office.specs.Faults.{never_refused}
+use Rattle.vpg_faults.specs.Refusals.{never_refused}
 use Rattle.vpg_office.specs.Fronts.{family_between}
 use Rattle.vpg_report.proofs.Logged.{step_made, all_told, comes_back, absent_tells, given_back, grew}
 use Rattle.vpg_report.specs.Faults.{Sorts}

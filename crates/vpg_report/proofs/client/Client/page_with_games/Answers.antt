@@ -10,7 +10,7 @@ use Rattle.vpg_desk.specs.History.{book_after}
 use Rattle.vpg_desk.specs.Lawful.{PageIsBelow}
 use Rattle.vpg_desk.specs.Setting.{IsSetting}
 use Rattle.vpg_desk.specs.State.{IsReached, setting_of, setting_between}
-use Rattle.vpg_office.specs.Faults.{never_refused}
+use Rattle.vpg_faults.specs.Refusals.{never_refused}
 use Rattle.vpg_office.specs.Fronts.{family_between}
 use Rattle.vpg_report.proofs.Logged.{step_made, of_present, look_told, absent_tells, grew}
 use Rattle.vpg_report.proofs.client.Client.page_with_games.Goals as goal

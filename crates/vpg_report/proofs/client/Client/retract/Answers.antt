@@ -1,7 +1,7 @@
 use Rattle.std.proofs.Common.{◌+◌, ◌≡◌, None, Option, length}
 use Rattle.vpg_office.specs.Token.{TokenView}
 use Rattle.vpg_desk.specs.Book as book
-use Rattle.vpg_desk.specs.Faults.{retract_refusal}
+use Rattle.vpg_faults.specs.Refusals.{retract_refusal}
 use Rattle.vpg_office.specs.Fronts.{family_between}
 use Rattle.vpg_report.proofs.Logged.{token_made, token_stands, all_told, same_back, absent_tells, given_back, token_grew}
 use Rattle.vpg_report.specs.Faults.{Sorts}

@@ -1,5 +1,5 @@
 use Rattle.vpg_desk.specs.Book as book
-use Rattle.vpg_office.specs.Faults.{never_refused}
+use Rattle.vpg_faults.specs.Refusals.{never_refused}
 use Rattle.vpg_office.specs.Fronts.{family_between}
 use Rattle.vpg_report.proofs.Logged.{step_made, look_told, absent_tells, grew}
 use Rattle.vpg_report.proofs.client.Client.settled.Goals as goal

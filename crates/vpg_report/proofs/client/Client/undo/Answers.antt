@@ -1,6 +1,6 @@
 use Rattle.std.proofs.Common.{◌+◌, ◌≡◌, length}
 use Rattle.vpg_desk.specs.Book as book
-use Rattle.vpg_desk.specs.Faults.{undo_refusal}
+use Rattle.vpg_faults.specs.Refusals.{undo_refusal}
 use Rattle.vpg_office.specs.Fronts.{family_between}
 use Rattle.vpg_report.proofs.Logged.{token_made, token_stands, page_restored, all_told, comes_back, absent_tells, given_back, token_grew}
 use Rattle.vpg_report.specs.Faults.{Sorts}

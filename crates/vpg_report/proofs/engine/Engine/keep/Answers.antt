@@ -2,7 +2,7 @@ use Rattle.std.proofs.Common.{◌≡◌, ℕ, List, Option, Some, None, refl, sy
 use Rattle.std.specs.Prelude.{IfSome}
 use Rattle.std.specs.List.{insert}
 use Rattle.vpg_office.specs.Token.{TokenView as Token}
-use Rattle.vpg_office.specs.Faults.{never_refused}
+use Rattle.vpg_faults.specs.Refusals.{never_refused}
 use Rattle.vpg_desk.specs.Book.{Keep}
 use Rattle.vpg_script.specs.Script as script
 use Rattle.vpg_report.specs.Held.{Held, undo_meant}
@@ -15,6 +15,7 @@ use Rattle.vpg_report.proofs.Enduring.{endures, stays, unless_stray}
 use Rattle.vpg_report.proofs.Places.{Stands, stands}
 use Rattle.vpg_report.proofs.Serials.{serials_removed, serials_length, serial_at}
 use Rattle.vpg_report.proofs.Exchanging.{kept, put_again}
+use Rattle.vpg_report.proofs.Strays.{never_stray, on_seen, unstrayed}
 use Rattle.vpg_report.proofs.engine.Engine.keep.Goals as goal
 
 pub invariant_of-self : goal.invariant_of-self
@@ -37,8 +38,8 @@ remove-token-requires g c =
     let here : Stands at.0 c.in-Some.place (serials tokens) = stands at.0 c.in-Some.place (serials tokens) at.1.1 in
     omega (arith, serials_length tokens, here.within, e.undos.ok.0)
 
-pub returns-in-Ok : goal.returns-in-Ok
-returns-in-Ok g c =
+pub returns-in-Ok-clause-answer : goal.returns-in-Ok-clause-answer
+returns-in-Ok-clause-answer g c =
     let e = c.self.inside in
     let old = engine_in e.client e.undos.items e.redos.items e.harvests.items e.seen.items in
     let tokens = e.undos.items in
@@ -49,10 +50,10 @@ returns-in-Ok g c =
     on_view c.numbered.result _ old _ _ _ _ _ c.self.view_is
     (λ tone told. kept g.L.Terms.limit c.self.invariant.room_is old _ c.args.session at.0 c.in-Some.place token.serial c.args.out.now.items _ c.args.serial at.1.0 here
     (serial_at tokens c.in-Some.place token token c.remove-token.ensures.value token.serial refl) c.in-Ok.ensures.accepted
-    (ap holds (ap serials c.remove-token.ensures.items ∙ serials_removed tokens c.in-Some.place)) told) c.numbered.ensures
+    (ap holds (ap serials c.remove-token.ensures.items ∙ serials_removed tokens c.in-Some.place)) told) c.numbered.ensures.told
 
-pub returns-in-Err : goal.returns-in-Err
-returns-in-Err g c =
+pub returns-in-Err-clause-answer : goal.returns-in-Err-clause-answer
+returns-in-Err-clause-answer g c =
     let e = c.self.inside in
     let old = engine_in e.client e.undos.items e.redos.items e.harvests.items e.seen.items in
     let tokens = e.undos.items in
@@ -77,10 +78,23 @@ put_back_unspent-requires-clause-place g c =
     let here : Stands at.0 c.in-Some.place (serials tokens) = stands at.0 c.in-Some.place (serials tokens) at.1.1 in
     omega (arith, here.within, serials_length tokens, c.remove-token.ensures.len, e.undos.ok.0)
 
-pub returns-in_default : goal.returns-in_default
-returns-in_default g c =
+pub returns-in_default-clause-answer : goal.returns-in_default-clause-answer
+returns-in_default-clause-answer g c =
     let e = c.self.inside in
     let old = engine_in e.client e.undos.items e.redos.items e.harvests.items e.seen.items in
     let none = subst (λ (ts : List Token). IsPlaceOf (undo_meant (serials ts) (Some c.args.serial)) (serials ts) None) c.deref.ensures.value c.in_default.ensures in
     on_same_view c.refused.result _ old _ _ _ _ c.self.view_is
-    (λ tone told. unasked old c.args.session (script.Keep c.args.serial) NoToken c.args.out.now.items _ (ap (λ (x : Option ℕ). call_or NoToken Keep x) none) told) c.refused.ensures
+    (λ tone told. unasked old c.args.session (script.Keep c.args.serial) NoToken c.args.out.now.items _ (ap (λ (x : Option ℕ). call_or NoToken Keep x) none) told) c.refused.ensures.told
+
+pub returns-in-Ok-clause-strayed : goal.returns-in-Ok-clause-strayed
+returns-in-Ok-clause-strayed g c = λ is. unstrayed c.numbered.result _ c.numbered.ensures.memory is
+
+pub returns-in_default-clause-strayed : goal.returns-in_default-clause-strayed
+returns-in_default-clause-strayed g c = λ is. unstrayed c.refused.result _ c.refused.ensures.memory is
+
+pub returns-in-Err-clause-strayed : goal.returns-in-Err-clause-strayed
+returns-in-Err-clause-strayed g c = λ is.
+    let e = c.self.inside in
+    let old = engine_in e.client e.undos.items e.redos.items e.harvests.items e.seen.items in
+    on_seen old _ c.args.session _ c.self.view_is
+    (never_stray g.L.Terms.limit e.client c.args.session (Keep c.remove-token.result.serial) _ c.in-Err.field-0.fault c.in-Err.ensures.fault (c.put_unanswered.ensures.strayed is))

@@ -2,7 +2,7 @@ use Rattle.std.proofs.Common.{◌≡◌, ◌<◌, ℕ, List, length, Option, Som
 use Rattle.std.proofs.lemmas.Option.{slice_get_within}
 use Rattle.vpg_features.specs.Names.{index_of}
 use Rattle.vpg_diagram.specs.DiagramText.{NamedDiagram}
-use Rattle.vpg_office.specs.Faults.{never_refused}
+use Rattle.vpg_faults.specs.Refusals.{never_refused}
 use Rattle.vpg_desk.specs.Book.{Call, Page}
 use Rattle.vpg_script.specs.Script as script
 use Rattle.vpg_report.specs.Answers.{Own, NoFeature, call_or}
@@ -11,6 +11,7 @@ use Rattle.vpg_report.specs.EngineFields.{engine_in}
 use Rattle.vpg_report.proofs.Asked.{on_view, on_view_told, on_same_view, both_on, log_full, unasked}
 use Rattle.vpg_report.proofs.Enduring.{endures, stays, unless_stray_any}
 use Rattle.vpg_report.proofs.Paged.{games_are, known_answers}
+use Rattle.vpg_report.proofs.Strays.{never_stray, on_seen, unstrayed}
 use Rattle.vpg_report.proofs.engine.Engine.known.Goals as goal
 
 abbrev page_or : Option ℕ → Result Call Own
@@ -34,14 +35,14 @@ invariant_of-self-2 g c =
     let step = c.in-Ok.ensures.accepted.step in
     endures g.L.Terms.limit _ _ e.client.desk e.harvests.items c.self.invariant _ e.harvests.items step.game step.diagram c.self.invariant.harvests
 
-pub returns-in_default : goal.returns-in_default
-returns-in_default g c =
+pub returns-in_default-clause-answer : goal.returns-in_default-clause-answer
+returns-in_default-clause-answer g c =
     let e = c.self.inside in
     let old = engine_in e.client e.undos.items e.redos.items e.harvests.items e.seen.items in
     let none : index_of old.client.desk.diagram.names c.args.name.now ≡ None =
     ap (λ (s : EngineState). index_of s.client.desk.diagram.names c.args.name.now) c.self.view_is ∙ ap (λ (ns : List (List ℕ)). index_of ns c.args.name.now) (sym c.names.ensures) ∙ sym c.in_default.ensures.index in
     on_same_view c.refused.result _ old _ _ _ _ c.self.view_is
-    (λ tone told. unasked old c.args.session (script.Known c.args.name.now) NoFeature c.args.out.now.items _ (ap page_or none) told) c.refused.ensures
+    (λ tone told. unasked old c.args.session (script.Known c.args.name.now) NoFeature c.args.out.now.items _ (ap page_or none) told) c.refused.ensures.told
 
 pub put_known_over-requires-clause-known : goal.put_known_over-requires-clause-known
 put_known_over-requires-clause-known g c =
@@ -55,8 +56,8 @@ put_known_over-requires-clause-feature g c =
     subst (λ (ns : List (List ℕ)). c.in-Some.feature < length ns) names_are (slice_get_within c.names.result.now c.in-Some.feature c.args.name.now c.in-Some.ensures.found) in
     subst (λ (d : NamedDiagram). c.in-Some.feature < length d.names) (sym (c.deref-2.ensures ∙ c.self.invariant.diagram)) within
 
-pub returns : goal.returns
-returns g c =
+pub returns-clause-answer : goal.returns-clause-answer
+returns-clause-answer g c =
     let e = c.self.inside in
     let old = engine_in e.client e.undos.items e.redos.items e.harvests.items e.seen.items in
     let desk = e.client.desk in
@@ -67,8 +68,8 @@ returns g c =
     on_view_told old _ _ _ _ _ c.self.view_is
     (known_answers g.L.Terms.limit c.self.invariant.room_is old _ c.args.session desk.game c.deref-2.result.now c.args.out.now.items _ refl diagram_is c.in-Ok.both.0.entries c.in-Ok.ensures.accepted refl c.in-Ok.both.0.decisions c.in-Ok.ensures.decisions c.deref.result.now are c.args.name.now c.in-Some.feature found c.in_ok-put_known_over.ensures.known)
 
-pub returns-in-Err : goal.returns-in-Err
-returns-in-Err g c =
+pub returns-in-Err-clause-answer : goal.returns-in-Err-clause-answer
+returns-in-Err-clause-answer g c =
     let e = c.self.inside in
     let old = engine_in e.client e.undos.items e.redos.items e.harvests.items e.seen.items in
     let found : index_of old.client.desk.diagram.names c.args.name.now ≡ Some c.in-Some.feature =
@@ -76,3 +77,13 @@ returns-in-Err g c =
     on_view c.put_unanswered.result _ old _ _ _ _ _ c.self.view_is
     (λ tone told. log_full g.L.Terms.limit c.self.invariant.room_is c.args.session never_refused old _ (script.Known c.args.name.now) Page c.in-Err.fault c.args.out.now.items _ (ap page_or found) c.in-Err.ensures.fault (unless_stray_any c.in-Err.fault _ refl) told.0 told.1)
     (both_on c.put_unanswered.result _ _ c.put_unanswered.ensures.full c.put_unanswered.ensures.told)
+
+pub returns-in-Err-clause-strayed : goal.returns-in-Err-clause-strayed
+returns-in-Err-clause-strayed g c = λ is.
+    let e = c.self.inside in
+    let old = engine_in e.client e.undos.items e.redos.items e.harvests.items e.seen.items in
+    on_seen old _ c.args.session _ c.self.view_is
+    (never_stray g.L.Terms.limit e.client c.args.session Page _ c.in-Err.fault c.in-Err.ensures.fault (c.put_unanswered.ensures.strayed is))
+
+pub returns-in_default-clause-strayed : goal.returns-in_default-clause-strayed
+returns-in_default-clause-strayed g c = λ is. unstrayed c.refused.result _ c.refused.ensures.memory is

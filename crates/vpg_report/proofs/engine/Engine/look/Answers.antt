@@ -1,7 +1,8 @@
 use Rattle.std.proofs.Common.{Ok, refl, sym, ◌∙◌, ap}
+use Rattle.std.specs.Arc.{arc_value}
 use Rattle.vpg_script.specs.View.{lookup_shown}
 use Rattle.vpg_trail.specs.Page.{Hopeful, Dual}
-use Rattle.vpg_office.specs.Faults.{never_refused}
+use Rattle.vpg_faults.specs.Refusals.{never_refused}
 use Rattle.vpg_desk.specs.Book.{Page}
 use Rattle.vpg_script.specs.Script as script
 use Rattle.vpg_report.specs.EngineFields.{engine_in}
@@ -11,6 +12,7 @@ use Rattle.vpg_report.proofs.Paged.{games_are, has_there, named, table_length, t
 use Rattle.vpg_diagram.specs.DiagramText.{NamedDiagram}
 use Rattle.vpg_diagram.specs.FeatureDiagram.{feature_count}
 use Rattle.vpg_game.specs.Game.{NamedGame}
+use Rattle.vpg_report.proofs.Strays.{never_stray, on_seen, unstrayed}
 use Rattle.vpg_report.proofs.engine.Engine.look.Goals as goal
 
 pub invariant_of-self : goal.invariant_of-self
@@ -31,56 +33,56 @@ invariant_of-self-in_err-tone g c =
     let step = c.in-Ok.ensures.accepted.step in
     endures g.L.Terms.limit _ _ e.client.desk e.harvests.items c.self.invariant _ e.harvests.items step.game step.diagram c.self.invariant.harvests
 
-pub look_over-requires-clause-vertices : goal.look_over-requires-clause-vertices
-look_over-requires-clause-vertices g c = has_there (lookup_shown c.args.lookup.now) _ c.deref-3.result.now _ c.deref.ensures c.deref-3.ensures (sym c.has_vertices.ensures ∙ c.if-not-has_vertices.false)
+pub look-requires-clause-vertices : goal.look-requires-clause-vertices
+look-requires-clause-vertices g c = has_there (lookup_shown c.args.lookup.now) _ (arc_value c.self.inside.game) _ c.deref.ensures refl (sym c.has_vertices.ensures ∙ c.if-not-has_vertices.false)
 
-pub look_over-requires-clause-games : goal.look_over-requires-clause-games
-look_over-requires-clause-games g c =
-    games_are c.self.inside.client.desk _ c.deref-2.result.now c.in-Ok.ensures.games c.deref-2.ensures c.deref-3.result.now c.deref-4.result.now c.in-Ok.both.0.decisions (c.deref-3.ensures ∙ c.self.invariant.game) (c.deref-4.ensures ∙ c.self.invariant.diagram) c.in-Ok.ensures.decisions
+pub look-requires-clause-games : goal.look-requires-clause-games
+look-requires-clause-games g c =
+    games_are c.self.inside.client.desk _ (arc_value c.in-Ok.both.1) c.in-Ok.ensures.games refl (arc_value c.self.inside.game) (arc_value c.self.inside.diagram) c.in-Ok.both.0.decisions c.self.invariant.game c.self.invariant.diagram c.in-Ok.ensures.decisions
 
-pub look_over-requires-clause-named : goal.look_over-requires-clause-named
-look_over-requires-clause-named g c =
-    named c.self.inside.client.desk c.in-Ok.ensures.tells c.deref-4.result.now c.in-Ok.both.0.decisions (c.deref-4.ensures ∙ c.self.invariant.diagram) c.in-Ok.ensures.decisions
+pub look-requires-clause-named : goal.look-requires-clause-named
+look-requires-clause-named g c =
+    named c.self.inside.client.desk c.in-Ok.ensures.tells (arc_value c.self.inside.diagram) c.in-Ok.both.0.decisions c.self.invariant.diagram c.in-Ok.ensures.decisions
 
-pub look_over-requires-clause-entries : goal.look_over-requires-clause-entries
-look_over-requires-clause-entries g c =
-    entries_are_within c.self.inside.client.desk c.in-Ok.ensures.tells c.in-Ok.ensures.setting c.in-Ok.ensures.reached c.deref-3.result.now c.deref-4.result.now c.in-Ok.both.0.entries (c.deref-3.ensures ∙ c.self.invariant.game) (c.deref-4.ensures ∙ c.self.invariant.diagram) c.in-Ok.ensures.accepted.step.step.0
+pub look-requires-clause-entries : goal.look-requires-clause-entries
+look-requires-clause-entries g c =
+    entries_are_within c.self.inside.client.desk c.in-Ok.ensures.tells c.in-Ok.ensures.setting c.in-Ok.ensures.reached (arc_value c.self.inside.game) (arc_value c.self.inside.diagram) c.in-Ok.both.0.entries c.self.invariant.game c.self.invariant.diagram c.in-Ok.ensures.accepted.step.step.0
 
-pub look_over-requires-clause-hopeful : goal.look_over-requires-clause-hopeful
-look_over-requires-clause-hopeful g c =
-    table_length c.self.inside.client.desk c.in-Ok.ensures.tells c.in-Ok.ensures.setting c.deref-3.result.now Hopeful c.in-Ok.both.0.hopeful (c.deref-3.ensures ∙ c.self.invariant.game) c.in-Ok.ensures.hopeful
+pub look-requires-clause-hopeful : goal.look-requires-clause-hopeful
+look-requires-clause-hopeful g c =
+    table_length c.self.inside.client.desk c.in-Ok.ensures.tells c.in-Ok.ensures.setting (arc_value c.self.inside.game) Hopeful c.in-Ok.both.0.hopeful c.self.invariant.game c.in-Ok.ensures.hopeful
 
-pub look_over-requires-clause-dual : goal.look_over-requires-clause-dual
-look_over-requires-clause-dual g c =
-    table_length c.self.inside.client.desk c.in-Ok.ensures.tells c.in-Ok.ensures.setting c.deref-3.result.now Dual c.in-Ok.both.0.dual (c.deref-3.ensures ∙ c.self.invariant.game) c.in-Ok.ensures.dual
+pub look-requires-clause-dual : goal.look-requires-clause-dual
+look-requires-clause-dual g c =
+    table_length c.self.inside.client.desk c.in-Ok.ensures.tells c.in-Ok.ensures.setting (arc_value c.self.inside.game) Dual c.in-Ok.both.0.dual c.self.invariant.game c.in-Ok.ensures.dual
 
-pub look_over-requires-clause-hopeful_within : goal.look_over-requires-clause-hopeful_within
-look_over-requires-clause-hopeful_within g c =
-    table_within c.self.inside.client.desk c.in-Ok.ensures.tells c.in-Ok.ensures.setting c.deref-3.result.now Hopeful c.in-Ok.both.0.hopeful (c.deref-3.ensures ∙ c.self.invariant.game) c.in-Ok.ensures.hopeful
+pub look-requires-clause-hopeful_within : goal.look-requires-clause-hopeful_within
+look-requires-clause-hopeful_within g c =
+    table_within c.self.inside.client.desk c.in-Ok.ensures.tells c.in-Ok.ensures.setting (arc_value c.self.inside.game) Hopeful c.in-Ok.both.0.hopeful c.self.invariant.game c.in-Ok.ensures.hopeful
 
-pub look_over-requires-clause-dual_within : goal.look_over-requires-clause-dual_within
-look_over-requires-clause-dual_within g c =
-    table_within c.self.inside.client.desk c.in-Ok.ensures.tells c.in-Ok.ensures.setting c.deref-3.result.now Dual c.in-Ok.both.0.dual (c.deref-3.ensures ∙ c.self.invariant.game) c.in-Ok.ensures.dual
+pub look-requires-clause-dual_within : goal.look-requires-clause-dual_within
+look-requires-clause-dual_within g c =
+    table_within c.self.inside.client.desk c.in-Ok.ensures.tells c.in-Ok.ensures.setting (arc_value c.self.inside.game) Dual c.in-Ok.both.0.dual c.self.invariant.game c.in-Ok.ensures.dual
 
-pub returns-then-not-has_vertices : goal.returns-then-not-has_vertices
-returns-then-not-has_vertices g c =
+pub returns-then-not-has_vertices-clause-answer : goal.returns-then-not-has_vertices-clause-answer
+returns-then-not-has_vertices-clause-answer g c =
     let e = c.self.inside in
     let old = engine_in e.client e.undos.items e.redos.items e.harvests.items e.seen.items in
     on_same_view c.put_missing.result _ old _ _ _ _ c.self.view_is
     (λ tone told. missing_vertex old c.args.session (lookup_shown c.args.lookup.now) c.deref.result.now c.args.out.now.items _ (c.deref.ensures ∙ c.self.invariant.game)
-    (sym c.has_vertices.ensures ∙ c.if-not-has_vertices.true) told) c.put_missing.ensures
+    (sym c.has_vertices.ensures ∙ c.if-not-has_vertices.true) told) c.put_missing.ensures.told
 
-pub returns : goal.returns
-returns g c =
+pub returns-clause-answer : goal.returns-clause-answer
+returns-clause-answer g c =
     let e = c.self.inside in
     let old = engine_in e.client e.undos.items e.redos.items e.harvests.items e.seen.items in
     on_view_told old _ _ _ _ _ c.self.view_is
-    (look_answers g.L.Terms.limit c.self.invariant.room_is old _ c.args.session c.deref-3.result.now c.deref-4.result.now c.args.out.now.items _ (c.deref-3.ensures ∙ c.self.invariant.game) (c.deref-4.ensures ∙ c.self.invariant.diagram)
+    (look_answers g.L.Terms.limit c.self.invariant.room_is old _ c.args.session (arc_value c.self.inside.game) (arc_value c.self.inside.diagram) c.args.out.now.items _ c.self.invariant.game c.self.invariant.diagram
     c.in-Ok.both.0.entries c.in-Ok.ensures.accepted refl c.in-Ok.both.0.decisions c.in-Ok.ensures.decisions c.in-Ok.both.0.hopeful c.in-Ok.both.0.dual c.in-Ok.ensures.hopeful c.in-Ok.ensures.dual (lookup_shown c.args.lookup.now)
-    (has_there (lookup_shown c.args.lookup.now) _ c.deref-3.result.now _ c.deref.ensures c.deref-3.ensures (sym c.has_vertices.ensures ∙ c.if-not-has_vertices.false)) c.in_ok-tone.ensures.seen)
+    (has_there (lookup_shown c.args.lookup.now) _ (arc_value c.self.inside.game) _ c.deref.ensures refl (sym c.has_vertices.ensures ∙ c.if-not-has_vertices.false)) c.in_ok-tone.ensures)
 
-pub returns-in-Err : goal.returns-in-Err
-returns-in-Err g c =
+pub returns-in-Err-clause-answer : goal.returns-in-Err-clause-answer
+returns-in-Err-clause-answer g c =
     let e = c.self.inside in
     let old = engine_in e.client e.undos.items e.redos.items e.harvests.items e.seen.items in
     let first = looks old (lookup_shown c.args.lookup.now) c.deref.result.now (c.deref.ensures ∙ c.self.invariant.game) (sym c.has_vertices.ensures ∙ c.if-not-has_vertices.false) in
@@ -88,7 +90,17 @@ returns-in-Err g c =
     (λ tone told. log_full g.L.Terms.limit c.self.invariant.room_is c.args.session never_refused old _ (script.Look (lookup_shown c.args.lookup.now)) Page c.in-Err.fault c.args.out.now.items _ first c.in-Err.ensures.fault (unless_stray_any c.in-Err.fault _ refl) told.0 told.1)
     (both_on c.put_unanswered.result _ _ c.put_unanswered.ensures.full c.put_unanswered.ensures.told)
 
-pub look_over-requires-clause-features : goal.look_over-requires-clause-features
-look_over-requires-clause-features g c =
-    ap (λ (game : NamedGame). game.features) (c.deref-3.ensures ∙ c.self.invariant.game) ∙ c.self.invariant.features
-    ∙ ap (λ (diagram : NamedDiagram). feature_count diagram.lines) (sym (c.deref-4.ensures ∙ c.self.invariant.diagram))
+pub look-requires-clause-features : goal.look-requires-clause-features
+look-requires-clause-features g c =
+    ap (λ (game : NamedGame). game.features) c.self.invariant.game ∙ c.self.invariant.features
+    ∙ ap (λ (diagram : NamedDiagram). feature_count diagram.lines) (sym c.self.invariant.diagram)
+
+pub returns-in-Err-clause-strayed : goal.returns-in-Err-clause-strayed
+returns-in-Err-clause-strayed g c = λ is.
+    let e = c.self.inside in
+    let old = engine_in e.client e.undos.items e.redos.items e.harvests.items e.seen.items in
+    on_seen old _ c.args.session _ c.self.view_is
+    (never_stray g.L.Terms.limit e.client c.args.session Page _ c.in-Err.fault c.in-Err.ensures.fault (c.put_unanswered.ensures.strayed is))
+
+pub returns-then-not-has_vertices-clause-strayed : goal.returns-then-not-has_vertices-clause-strayed
+returns-then-not-has_vertices-clause-strayed g c = λ is. unstrayed c.put_missing.result _ c.put_missing.ensures.memory is

@@ -1,6 +1,6 @@
 use Rattle.vpg_desk.specs.Book.{Order, Ordered}
 use Rattle.vpg_measure.specs.Orders.{OrderView}
-use Rattle.vpg_office.specs.Faults.{never_refused}
+use Rattle.vpg_faults.specs.Refusals.{never_refused}
 use Rattle.vpg_report.proofs.Enduring.{answered_stays, endures}
 use Rattle.vpg_report.proofs.engine.Engine.order.Goals as goal
 

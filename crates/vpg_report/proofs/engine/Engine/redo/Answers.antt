@@ -9,11 +9,12 @@ use Rattle.vpg_report.proofs.Enduring.{endures, stays, unless_stray}
 use Rattle.vpg_report.proofs.Places.{Stands, stands}
 use Rattle.vpg_report.proofs.Serials.{serials_removed, serials_length, serial_at}
 use Rattle.vpg_desk.specs.Book.{Redo}
-use Rattle.vpg_desk.specs.Faults.{redo_refusal}
+use Rattle.vpg_faults.specs.Refusals.{redo_refusal}
 use Rattle.vpg_script.specs.Script as script
 use Rattle.vpg_report.specs.Answers.{NoToken, call_or}
 use Rattle.vpg_report.proofs.Exchanging.{redone, put_again}
 use Rattle.std.proofs.lemmas.Grind.{common_steps}
+use Rattle.vpg_report.proofs.Strays.{told_stray, on_seen, unstrayed}
 use Rattle.vpg_report.proofs.engine.Engine.redo.Goals as goal
 
 pub invariant_of-self-in-Ok : goal.invariant_of-self-in-Ok
@@ -36,8 +37,8 @@ remove-token-requires g c =
     let here : Stands at.0 c.in-Some.place (serials tokens) = stands at.0 c.in-Some.place (serials tokens) at.1.1 in
     omega (arith, serials_length tokens, here.within, e.redos.ok.0)
 
-pub returns-in-Ok : goal.returns-in-Ok
-returns-in-Ok g c =
+pub returns-in-Ok-clause-answer : goal.returns-in-Ok-clause-answer
+returns-in-Ok-clause-answer g c =
     let e = c.self.inside in
     let old = engine_in e.client e.undos.items e.redos.items e.harvests.items e.seen.items in
     let tokens = e.redos.items in
@@ -50,8 +51,8 @@ returns-in-Ok g c =
     (serial_at tokens c.in-Some.place token token c.remove-token.ensures.value token.serial refl) c.in-Ok.ensures.accepted
     (ap₂ holds (ap serials c.remove-token.ensures.items ∙ serials_removed tokens c.in-Some.place) (c.hold_undo.ensures.held ∙ ap (λ (ts : List Token). serials ts ++ c.in-Ok.undo.serial ∷ []) c.reserve.ensures.items)) told) c.hold_undo.ensures.told
 
-pub returns-in-Err : goal.returns-in-Err
-returns-in-Err g c =
+pub returns-in-Err-clause-answer : goal.returns-in-Err-clause-answer
+returns-in-Err-clause-answer g c =
     let e = c.self.inside in
     let old = engine_in e.client e.undos.items e.redos.items e.harvests.items e.seen.items in
     let tokens = e.redos.items in
@@ -64,9 +65,9 @@ returns-in-Err g c =
     (λ back.
     let again = c.hold_redone.ensures token back in
     ap₂ holds (put_again tokens c.in-Some.place token at.0 _ _ here c.remove-token.ensures.value c.remove-token.ensures.items again.0) (ap serials (again.1 ∙ c.reserve.ensures.items))) in
-    on_view c.redo_refused.result _ old _ _ _ _ _ c.self.view_is
+    on_view c.put_fault.result _ old _ _ _ _ _ c.self.view_is
     (λ tone told. unanswered g.L.Terms.limit c.self.invariant.room_is c.args.session redo_refusal old _ (script.Redo c.args.serial) (Redo token.serial) c.in-Err.field-0.fault c.names.result.now c.args.out.now.items _ meant c.in-Err.ensures.fault
-    stays_held c.names.ensures told) c.redo_refused.ensures
+    stays_held c.names.ensures told) c.put_fault.ensures.told
 
 pub hold_redone-requires-clause-place : goal.hold_redone-requires-clause-place
 hold_redone-requires-clause-place g c =
@@ -76,13 +77,26 @@ hold_redone-requires-clause-place g c =
     let here : Stands at.0 c.in-Some.place (serials tokens) = stands at.0 c.in-Some.place (serials tokens) at.1.1 in
     omega (arith, here.within, serials_length tokens, c.remove-token.ensures.len, e.redos.ok.0)
 
-pub returns-in_default : goal.returns-in_default
-returns-in_default g c =
+pub returns-in_default-clause-answer : goal.returns-in_default-clause-answer
+returns-in_default-clause-answer g c =
     let e = c.self.inside in
     let old = engine_in e.client e.undos.items e.redos.items e.harvests.items e.seen.items in
     let none = subst (λ (ts : List Token). IsPlaceOf (redo_meant (serials ts) c.args.serial) (serials ts) None) c.deref.ensures.value c.in_default.ensures in
     on_same_view c.refused.result _ old _ _ _ _ c.self.view_is
-    (λ tone told. unasked old c.args.session (script.Redo c.args.serial) NoToken c.args.out.now.items _ (ap (λ (x : Option ℕ). call_or NoToken Redo x) none) told) c.refused.ensures
+    (λ tone told. unasked old c.args.session (script.Redo c.args.serial) NoToken c.args.out.now.items _ (ap (λ (x : Option ℕ). call_or NoToken Redo x) none) told) c.refused.ensures.told
 
 pub hold_redone-requires-clause-room : goal.hold_redone-requires-clause-room
 hold_redone-requires-clause-room g c = grind (arith, common_steps)
+
+pub returns-in-Ok-clause-strayed : goal.returns-in-Ok-clause-strayed
+returns-in-Ok-clause-strayed g c = λ is. unstrayed c.hold_undo.result _ c.hold_undo.ensures.memory is
+
+pub returns-in_default-clause-strayed : goal.returns-in_default-clause-strayed
+returns-in_default-clause-strayed g c = λ is. unstrayed c.refused.result _ c.refused.ensures.memory is
+
+pub returns-in-Err-clause-strayed : goal.returns-in-Err-clause-strayed
+returns-in-Err-clause-strayed g c = λ is.
+    let e = c.self.inside in
+    let old = engine_in e.client e.undos.items e.redos.items e.harvests.items e.seen.items in
+    on_seen old _ c.args.session _ c.self.view_is
+    (told_stray g.L.Terms.limit redo_refusal e.client c.args.session (Redo c.remove-token.result.serial) _ c.in-Err.field-0.fault c.in-Err.ensures.fault (c.put_fault.ensures.strayed is))

@@ -1,14 +1,15 @@
 use Rattle.std.proofs.Common.{◌≡◌, ◌∙◌, ◌≤◌, ℕ, true, refl, sym, subst}
 use Rattle.vpg_verdict.specs.declared.which.Which.{Which}
 use Rattle.vpg_measure.specs.Orders.{order_table, harvest_table}
-use Rattle.vpg_desk.specs.Book.{Commit, Settled}
-use Rattle.vpg_desk.specs.Commit.{commit_refusal, handed_in}
-use Rattle.vpg_office.specs.Faults.{never_refused}
+use Rattle.vpg_desk.specs.Book.{Order, Ordered, Commit, Added, Settled}
+use Rattle.vpg_desk.specs.Commit.{handed_in}
+use Rattle.vpg_faults.specs.Refusals.{commit_refusal, never_refused}
 use Rattle.vpg_report.specs.EngineFields.{engine_in}
 use Rattle.vpg_settle.specs.Sweeping.{IsSweptOrder}
 use Rattle.vpg_report.proofs.Asked.{on_view_by, both_on, first_full}
 use Rattle.vpg_report.proofs.Enduring.{endures, stays}
 use Rattle.vpg_report.proofs.Settling.{sweep_answers, commit_answers, settle_answers, rounds_given}
+use Rattle.vpg_report.proofs.Strays.{after_call, never_stray, on_seen, own_stands, unrefused_stray, unstrayed}
 use Rattle.vpg_report.proofs.engine.Engine.settle.Goals as goal
 
 pub commit_own-requires : goal.commit_own-requires
@@ -40,16 +41,16 @@ invariant_of-self-2 g c =
     let then = c.in-Ok-settled.ensures.accepted.step in
     endures g.L.Terms.limit _ _ e.client.desk e.harvests.items c.self.invariant _ e.harvests.items (then.game ∙ commit.game ∙ step.game) (then.diagram ∙ commit.diagram ∙ step.diagram) c.self.invariant.harvests
 
-pub returns-in-Err : goal.returns-in-Err
-returns-in-Err g c =
+pub returns-in-Err-clause-answer : goal.returns-in-Err-clause-answer
+returns-in-Err-clause-answer g c =
     let e = c.self.inside in
     let old = engine_in e.client e.undos.items e.redos.items e.harvests.items e.seen.items in
     on_view_by c.put_unanswered.result _ old _ _ _ _ _ _ c.self.view_is
     (λ tone told. first_full g.L.Terms.limit c.self.invariant.room_is c.args.session never_refused old _ c.args.lifters c.args.sweeps c.in-Err.fault c.args.out.now.items _ c.in-Err.ensures.fault refl told.0 told.1)
     (both_on c.put_unanswered.result _ _ c.put_unanswered.ensures.full c.put_unanswered.ensures.told)
 
-pub returns-in-Err-commit_own : goal.returns-in-Err-commit_own
-returns-in-Err-commit_own g c =
+pub returns-in-Err-commit_own-clause-answer : goal.returns-in-Err-commit_own-clause-answer
+returns-in-Err-commit_own-clause-answer g c =
     let e = c.self.inside in
     let old = engine_in e.client e.undos.items e.redos.items e.harvests.items e.seen.items in
     let order = c.in-Ok.order in
@@ -64,8 +65,8 @@ returns-in-Err-commit_own g c =
     c.in-Err-commit_own.field-0.fault told.0 c.in-Err-commit_own.ensures.fault told.1)
     (both_on c.put_unanswered-in-Err-commit_own.result _ _ c.put_unanswered-in-Err-commit_own.ensures.full c.put_unanswered-in-Err-commit_own.ensures.told)
 
-pub returns-in-Err-settled : goal.returns-in-Err-settled
-returns-in-Err-settled g c =
+pub returns-in-Err-settled-clause-answer : goal.returns-in-Err-settled-clause-answer
+returns-in-Err-settled-clause-answer g c =
     let e = c.self.inside in
     let old = engine_in e.client e.undos.items e.redos.items e.harvests.items e.seen.items in
     let order = c.in-Ok.order in
@@ -80,8 +81,8 @@ returns-in-Err-settled g c =
     c.commit_own.new.self c.in-Ok-commit_own.added c.in-Ok-commit_own.ensures.accepted never_refused c.in-Err-settled.fault told.0 c.in-Err-settled.ensures.fault told.1)
     (both_on c.put_unanswered-in-Err-settled.result _ _ c.put_unanswered-in-Err-settled.ensures.full c.put_unanswered-in-Err-settled.ensures.told)
 
-pub returns : goal.returns
-returns g c =
+pub returns-clause-answer : goal.returns-clause-answer
+returns-clause-answer g c =
     let e = c.self.inside in
     let old = engine_in e.client e.undos.items e.redos.items e.harvests.items e.seen.items in
     let order = c.in-Ok.order in
@@ -93,4 +94,32 @@ returns g c =
     on_view_by c.settled-2.result _ old _ _ _ _ _ _ c.self.view_is
     (λ tone told. settle_answers g.L.Terms.limit c.self.invariant.room_is c.args.session old _ c.order.new.self c.args.lifters c.swept-harvest.result.sweeps order harvest c.args.out.now.items _ c.in-Ok.ensures.accepted refl
     c.args.sweeps c.in-Ok.ensures.ours c.in-Ok.ensures.order swept_order few c.swept-harvest.ensures.made none
-    c.commit_own.new.self c.in-Ok-commit_own.added c.in-Ok-commit_own.ensures.accepted c.in-Ok-settled.settled c.in-Ok-settled.ensures.accepted told) c.settled-2.ensures
+    c.commit_own.new.self c.in-Ok-commit_own.added c.in-Ok-commit_own.ensures.accepted c.in-Ok-settled.settled c.in-Ok-settled.ensures.accepted told) c.settled-2.ensures.told
+
+pub returns-clause-strayed : goal.returns-clause-strayed
+returns-clause-strayed g c = λ is. unstrayed c.settled-2.result _ c.settled-2.ensures.memory is
+
+pub returns-in-Err-clause-strayed : goal.returns-in-Err-clause-strayed
+returns-in-Err-clause-strayed g c = λ is.
+    let e = c.self.inside in
+    let old = engine_in e.client e.undos.items e.redos.items e.harvests.items e.seen.items in
+    on_seen old _ c.args.session _ c.self.view_is
+    (never_stray g.L.Terms.limit e.client c.args.session Order _ c.in-Err.fault c.in-Err.ensures.fault (c.put_unanswered.ensures.strayed is))
+
+pub returns-in-Err-commit_own-clause-strayed : goal.returns-in-Err-commit_own-clause-strayed
+returns-in-Err-commit_own-clause-strayed g c = λ is.
+    let e = c.self.inside in
+    let old = engine_in e.client e.undos.items e.redos.items e.harvests.items e.seen.items in
+    on_seen old _ c.args.session _ c.self.view_is
+    (after_call g.L.Terms.limit _ c.args.session Order (Ordered c.in-Ok.order.decisions c.in-Ok.order.hopeful c.in-Ok.order.dual) c.order.new.self _ c.in-Ok.ensures.accepted
+    (unrefused_stray g.L.Terms.limit commit_refusal c.order.new.self c.args.session (Commit (handed_in true c.swept-harvest.result.harvest)) _ c.in-Err-commit_own.field-0.fault
+    (own_stands g.L.Terms.limit _ c.args.session c.in-Ok.order c.order.new.self c.swept-harvest.result.harvest _ c.in-Ok.ensures.accepted c.swept-harvest.ensures.swept.page.decisions) c.in-Err-commit_own.ensures.fault (c.put_unanswered-in-Err-commit_own.ensures.strayed is)))
+
+pub returns-in-Err-settled-clause-strayed : goal.returns-in-Err-settled-clause-strayed
+returns-in-Err-settled-clause-strayed g c = λ is.
+    let e = c.self.inside in
+    let old = engine_in e.client e.undos.items e.redos.items e.harvests.items e.seen.items in
+    on_seen old _ c.args.session _ c.self.view_is
+    (after_call g.L.Terms.limit _ c.args.session Order (Ordered c.in-Ok.order.decisions c.in-Ok.order.hopeful c.in-Ok.order.dual) c.order.new.self _ c.in-Ok.ensures.accepted
+    (after_call g.L.Terms.limit _ c.args.session (Commit (handed_in true c.swept-harvest.result.harvest)) (Added c.in-Ok-commit_own.added) c.commit_own.new.self _ c.in-Ok-commit_own.ensures.accepted
+    (never_stray g.L.Terms.limit c.commit_own.new.self c.args.session Settled _ c.in-Err-settled.fault c.in-Err-settled.ensures.fault (c.put_unanswered-in-Err-settled.ensures.strayed is))))
