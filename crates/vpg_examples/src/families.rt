@@ -12,12 +12,13 @@ use std::thread::Threads;
 use vpg_family::{GamePaths, Known, ModelPaths, Paths, read_known};
 use vpg_report::run_script;
 use vpg_script::Device;
-use vpg_serving::Manner;
+use vpg_serving::{Form, Manner};
 
 /// Each line is answered, and a fault ends the script.
 const PLAIN: Manner = Manner {
     is_strict: false,
     goes_on: false,
+    form: Form::Plain,
 };
 
 /// A script of a family: the line that stands before its answers, the folder, and the file.

@@ -4,6 +4,7 @@ mod asked;
 mod explained;
 mod faults;
 mod files;
+mod meant;
 mod models;
 mod rows;
 

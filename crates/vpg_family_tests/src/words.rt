@@ -79,6 +79,23 @@ run g d s -- --strict = wrong
 run g d s --strict --strict = wrong
 run g d s --strict=1 = wrong
 run g d s --keep = wrong
+run g d s --json = run g d s, 1, json
+run g d s --config c = run g d s, 1, config c
+run --config c --system x --requirements y d s = run --system x --requirements y d s, 1, config c
+run g d s --config = wrong
+desk g d --config c = wrong
+export g d s = export g d s
+export --explain g d s = export g d s, explained
+export --system x --requirements y d s = export --system x --requirements y d s
+export g d = wrong
+export g d s x = wrong
+export g d s --lifters 2 = wrong
+export --help = shown
+run --json --strict g d s --keep-going = run g d s, 1, strict, keep-going, json
+run g d s --json --names = wrong
+desk g d --json = desk g d, 1, json, explained
+desk --names g d --json = wrong
+check g d --json = wrong
 check g d --strict = wrong
 project a b r f f x = project a b, r, f, f, x
 project a b -- r -- -f = project a b, r, --, -f
@@ -93,6 +110,12 @@ model --help = shown
 model s r d = model --system s --requirements r d
 model s r d --explain = model --system s --requirements r d, explained
 model s r = wrong
+diagram m = diagram m
+diagram m --explain = diagram m, explained
+diagram --help = shown
+diagram = wrong
+diagram m d = wrong
+diagram m --system s = wrong
 model s r d x = wrong
 model --system s --requirements r d = wrong
 run --system s --requirements r d x = run --system s --requirements r d x, 1
@@ -162,7 +185,9 @@ fn command_of(task: &Task<'_>) -> &'static str {
         Task::BuiltIn => "built-in",
         Task::Run { .. } => "run",
         Task::Desk { .. } => "desk",
+        Task::Export { .. } => "export",
         Task::Model { .. } => "model",
+        Task::Diagram { .. } => "diagram",
         Task::Project { .. } => "project",
         Task::Check { .. } => "check",
         Task::Lint { .. } => "lint",
@@ -198,6 +223,9 @@ fn put_paths(task: &Task<'_>, said: &mut Said) {
     if let Some(paths) = task.paths() {
         put_game(paths.game, said);
         put_path(paths.diagram, said);
+    }
+    if let Some(diagram) = task.diagram() {
+        put_path(diagram, said);
     }
     if let Some(script) = task.script() {
         put_path(script, said);
@@ -235,11 +263,12 @@ fn put_picture(picture: Picture, said: &mut Said) {
     put_where(picture == Picture::System, "states", said);
 }
 
-/// Writes the vertex of a trace, if there is one.
-fn put_trace(trace: Option<&str>, said: &mut Said) {
-    if let Some(vertex) = trace {
-        said.put(", trace ");
-        said.put(vertex);
+/// Writes an option with its value, if it is given.
+fn put_value(name: &str, value: Option<&str>, said: &mut Said) {
+    if let Some(value) = value {
+        put_where(true, name, said);
+        said.put(" ");
+        said.put(value);
     }
 }
 
@@ -247,25 +276,35 @@ fn put_trace(trace: Option<&str>, said: &mut Said) {
 fn put_options(task: &Task<'_>, said: &mut Said) {
     match task {
         Task::Run {
+            config,
             lifters,
             strict,
             keep_going,
             names,
+            json,
             ..
         } => {
             put_lifters(*lifters, said);
             put_where(*strict, "strict", said);
             put_where(*keep_going, "keep-going", said);
             put_where(*names, "names", said);
+            put_where(*json, "json", said);
+            put_value("config", *config, said);
         }
-        Task::Desk { lifters, names, .. } => {
+        Task::Desk {
+            lifters,
+            names,
+            json,
+            ..
+        } => {
             put_lifters(*lifters, said);
             put_where(*names, "names", said);
+            put_where(*json, "json", said);
         }
         Task::Project { features, .. } => put_features(features, said),
         Task::Draw { picture, trace, .. } => {
             put_picture(*picture, said);
-            put_trace(*trace, said);
+            put_value("trace", *trace, said);
         }
         _ => {}
     }

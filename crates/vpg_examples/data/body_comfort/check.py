@@ -48,6 +48,10 @@ class Desk(oracle.Desk):
         super().__init__(family.game, family.d)
         self.family = family
 
+    def met(self, identifier, t, decided=None):
+        decided = self.choices() if decided is None else decided
+        return iter(self.family.met(decided, (t, self.place(identifier))))
+
     def hold(self):
         """Holds the page's verdicts to the products that are left."""
         left = [self.family.even[p] for p in self.family.left(self.choices())]

@@ -24,7 +24,7 @@ const ANSWERS: &[u8] = b"\
     hopeful 0 0 1 +f +g\ndual 0 0 2 +f +g\ndual 1 0 2 +f +g\nentries 5\nin r f g\nout\nopen\nin f\n\
     plan 0 1\nplans 1\nhopeless 0\npossible 2\nsure 2\nunsure 0\nsettled yes\nfull yes\nholds\nholds\n\
     done 6\nrefused AlreadyDecided 4\npossible 0\nunsure 0\nin r\nrefused NoConflict\nproduct r f g\n\
-    none\noffer +g possible sure\noffer -g possible sure\noffers 2\nneeds 0\ndone 7\ndone 8\nsettled 2\n\
+    none\noffer +g possible sure won\noffer -g possible sure won\noffers 2\nneeds 0\ndone 7\ndone 8\nsettled 2\n\
     hopeless 0 -f\nunsure 0\nrepair -f\nrepairs 1\nlost 1 +g 1\nwon 1 -g 1\nwinners 1 1 1\nmixed 1\n\
     product r\nproduct r g\nnumber 2\n";
 

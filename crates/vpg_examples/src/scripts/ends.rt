@@ -50,6 +50,7 @@ static ROWS: [Row; 4] = [
 fn texts_of(alloc: Global, diagram: &str, game: &str) -> Result<Texts, AllocError> {
     Ok(Texts {
         diagram: Vec::from_slice(alloc, diagram.as_bytes())?,
+        model: Vec::new(alloc),
         game: Vec::from_slice(alloc, game.as_bytes())?,
         entries: Vec::new(alloc),
         vertices: Vec::new(alloc),

@@ -8,7 +8,7 @@ use std::sync::Wait;
 use std::thread::Threads;
 use vpg_report::RunFault;
 use vpg_script::LineFault;
-use vpg_serving::{Ending, Manner};
+use vpg_serving::{Ending, Form, Manner};
 
 /// A manner, a script, its answers, and its end. Lines are separated by ` / `, and the last line of the script has no
 /// end. The line `LONG` stands for 4,097 bytes, `LONGEST` for 4,096, and `HUGE` for 30,000.
@@ -23,25 +23,43 @@ struct Row {
 pub(super) const PLAIN: Manner = Manner {
     is_strict: false,
     goes_on: false,
+    form: Form::Plain,
 };
 
 /// The first refusal ends the script.
 pub(super) const STRICT: Manner = Manner {
     is_strict: true,
     goes_on: false,
+    form: Form::Plain,
 };
 
 const GOES_ON: Manner = Manner {
     is_strict: false,
     goes_on: true,
+    form: Form::Plain,
 };
 
 const BOTH: Manner = Manner {
     is_strict: true,
     goes_on: true,
+    form: Form::Plain,
 };
 
-static ROWS: [Row; 25] = [
+/// Answers in JSON, also to a line with a fault.
+const JSON: Manner = Manner {
+    is_strict: false,
+    goes_on: true,
+    form: Form::Json,
+};
+
+/// Answers in JSON, up to the first refusal.
+const STRICT_JSON: Manner = Manner {
+    is_strict: true,
+    goes_on: false,
+    form: Form::Json,
+};
+
+static ROWS: [Row; 27] = [
     Row {
         manner: PLAIN,
         script: "",
@@ -199,6 +217,27 @@ static ROWS: [Row; 25] = [
         manner: BOTH,
         script: "LONG",
         answers: "refused TooLong",
+        ended: Ok(Ending::Refused { line: 1 }),
+    },
+    Row {
+        manner: JSON,
+        script: "# none / exclude f / select f /  / exclude r / LONG / assert full / products",
+        answers: "{\"answer\":[\"done 1\"],\"line\":2,\"tone\":\"done\"} \
+            / {\"answer\":[\"refused AlreadyDecided 1\"],\"line\":3,\
+            \"refused\":{\"cause\":\"AlreadyDecided\",\"serial\":1},\"tone\":\"refused\"} \
+            / {\"answer\":[\"refused Conflict r\"],\"line\":5,\
+            \"refused\":{\"cause\":\"Conflict\",\"feature\":\"r\"},\"tone\":\"refused\"} \
+            / {\"answer\":[\"refused TooLong\"],\"line\":6,\
+            \"refused\":{\"cause\":\"TooLong\"},\"tone\":\"refused\"} \
+            / {\"answer\":[\"fails full\"],\"line\":7,\"tone\":\"failed\"} \
+            / {\"answer\":[\"in r\",\"out f\",\"open g\"],\"line\":8,\"tone\":\"done\"}",
+        ended: Ok(Ending::Failed),
+    },
+    Row {
+        manner: STRICT_JSON,
+        script: "undo / exclude f",
+        answers: "{\"answer\":[\"refused NoToken\"],\"line\":1,\
+            \"refused\":{\"cause\":\"NoToken\"},\"tone\":\"refused\"}",
         ended: Ok(Ending::Refused { line: 1 }),
     },
 ];

@@ -563,7 +563,7 @@ static KNOWN: [Row; 2] = [
     },
 ];
 
-static SIGHTS: [Row; 7] = [
+static SIGHTS: [Row; 9] = [
     Row {
         diagram: DIAGRAM,
         game: GAME,
@@ -605,6 +605,28 @@ static SIGHTS: [Row; 7] = [
         game: "5 1 0 5; 3 2 0 3; 4 0 1 5[f],3;",
         script: "lift hopeful 5 / lift hopeful 5 / assert 5 possible sure / settle / assert 4 possible unsure",
         answers: "added 1 / added 1 / fails possible sure unsettled / settled 2 / holds",
+    },
+    // An exact verdict may be asserted before the page is settled.
+    Row {
+        diagram: DIAGRAM,
+        game: GAME,
+        script: "assert 0 won / assert 0 mixed / exclude f / assert 0 lost / assert 0 won / 2: assert 0 hopeless / \
+            assert 7 won / undo / select f / exclude g / assert 0 won / assert 1 lost",
+        answers: "fails won / holds / done 1 / holds / fails won / fails hopeless unsettled / refused NoVertex / \
+            undone 1 / done 2 / done 3 / holds / fails lost",
+    },
+    // No product has b, and no decision conflicts.
+    Row {
+        diagram: "\
+            root r\noptional r b\nor b : c d\nalternative r : p q\nrequires c p\nrequires c q\nrequires d p\n\
+            requires d q\n",
+        game: "parity 1; 0 1 0 1[b],0; 1 2 1 0[p],1;",
+        script: "\
+            assert 0 lost / select b / settle / assert 0 sure / assert 0 won / assert 0 mixed / \
+            assert 0 hopeless possible / assert full / retract b / assert 0 hopeless / assert 0 lost",
+        answers: "\
+            holds / done 1 / settled 3 / fails empty / fails empty / fails empty / fails empty / fails full / \
+            done 2 / fails hopeless unsettled / holds",
     },
 ];
 
@@ -691,10 +713,11 @@ static OFFERS: [Row; 2] = [
         game: GAME,
         script: "offer 0 / offer 1 / select f / settle / 2: offer 0 / offer 1 / select g / offer 0 / offer 7",
         answers: "\
-            offer +f possible sure / offer -f hopeless unsure / offer +g possible unsure / offer -g possible unsure / \
-            offers 4 / offer +f possible sure / offer -f possible unsure / offer +g possible unsure / offer -g \
-            possible sure / offers 4 / done 1 / settled 3 / offer +g possible sure / offer -g possible sure / offers 2 \
-            / offer +g possible sure / offer -g possible sure / offers 2 / done 2 / offers 0 / refused NoVertex",
+            offer +f possible sure won / offer -f hopeless unsure lost / offer +g possible unsure mixed / offer -g \
+            possible unsure mixed / offers 4 / offer +f possible sure won / offer -f possible unsure mixed / offer +g \
+            possible unsure mixed / offer -g possible sure won / offers 4 / done 1 / settled 3 / offer +g possible \
+            sure won / offer -g possible sure won / offers 2 / offer +g possible sure won / offer -g possible sure won \
+            / offers 2 / done 2 / offers 0 / refused NoVertex",
     },
     // Each product has c, though it isn't known; to exclude it contradicts.
     Row {
@@ -702,14 +725,14 @@ static OFFERS: [Row; 2] = [
         game: "0 0 0 1[c],2[a]; 1 1 1 1[b],0[!b]; 2 0 1;",
         script: "offer 0 / offer 2 / exclude a / settle / offer 1",
         answers: "\
-            offer +c possible unsure / offer -c conflict / offer +a possible sure / offer -a hopeless unsure / offer \
-            +b hopeless unsure / offer -b possible sure / offers 6 / offer +c possible sure / offer -c conflict / \
-            offer +a possible sure / offer -a possible sure / offer +b possible sure / offer -b possible sure / offers \
-            6 / done 1 / settled 4 / offers 0",
+            offer +c possible unsure mixed / offer -c conflict / offer +a possible sure won / offer -a hopeless unsure \
+            lost / offer +b hopeless unsure lost / offer -b possible sure won / offers 6 / offer +c possible sure won \
+            / offer -c conflict / offer +a possible sure won / offer -a possible sure won / offer +b possible sure won \
+            / offer -b possible sure won / offers 6 / done 1 / settled 4 / offers 0",
     },
 ];
 
-static NEEDS_AND_REPAIRS: [Row; 3] = [
+static NEEDS_AND_REPAIRS: [Row; 4] = [
     Row {
         diagram: DIAGRAM,
         game: GAME,
@@ -728,8 +751,8 @@ static NEEDS_AND_REPAIRS: [Row; 3] = [
             needs 0 / needs 2 / needs 3 / repair 3 / select b / select a / repair 0 / settle / repair 0 / \
             repair 3 / needs 0 / needs 2",
         answers: "\
-            needs 0 / needs 0 / none / possible 3 / done 1 / done 2 / possible 0 / settled 4 / repair +b / \
-            repair +a / repairs 2 / none / none / needs 0",
+            needs 0 / needs 0 / none / none / done 1 / done 2 / repair +b / repair +a / repairs 2 / settled 4 / repair \
+            +b / repair +a / repairs 2 / none / none / needs 0",
     },
     // Each of two decisions is enough, so both are retracted together; the oldest stays.
     Row {
@@ -741,6 +764,19 @@ static NEEDS_AND_REPAIRS: [Row; 3] = [
         answers: "\
             needs -a / needs -b / needs 2 / done 1 / done 2 / done 3 / settled 2 / repair +b +a / repairs 1 / \
             none / done 4 / settled 2 / repair +b / repairs 1",
+    },
+    // No product has f and g. Without the decision on f the vertex is possible, and still lost: that is marked.
+    Row {
+        diagram: "root r\noptional r f\noptional r g\noptional r h\noptional r k\nexcludes f g\n",
+        game: "0 0 0 1[f & g],1[h & k]; 1 0 0 1;",
+        script: "\
+            exclude f / exclude h / repair 0 / settle / repair 0 / offer 0 / exclude k / repair 0 / settle / repair 0 \
+            / why 0",
+        answers: "\
+            done 1 / done 2 / repair -h / repairs 1 / settled 2 / repair -h / repair -f lost / repairs 2 / \
+            offer +g hopeless unsure lost / offer -g hopeless unsure lost / offer +k hopeless unsure lost / \
+            offer -k hopeless unsure lost / offers 4 / done 3 / repair -h -k / repair -f lost / repairs 2 / settled 0 \
+            / repair -h -k / repair -f lost / repairs 2 / hopeless 0 -f -h / unsure 0",
     },
 ];
 

@@ -92,7 +92,7 @@ pub(super) fn answers_lines<T: Threads + Wait + Sync>(rt: &T, alloc: Global) -> 
 }
 
 /// Lines with words that their command doesn't take.
-static ARGS: [&str; 40] = [
+static ARGS: [&str; 42] = [
     "settle 1000000001",
     "lift hopeful 4294967296",
     "keep 18446744073709551616",
@@ -106,6 +106,8 @@ static ARGS: [&str; 40] = [
     "assert 1 full",
     "assert 1 sure possible never",
     "assert full settled",
+    "assert 1 won lost",
+    "assert 1 sure mixed",
     "assert sure 1",
     "count 1",
     "draw +f",

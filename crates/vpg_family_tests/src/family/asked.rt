@@ -38,6 +38,7 @@ fn texts(alloc: Global, row: &Row<'_>) -> Result<Texts, AllocError> {
     let system = Vec::from_slice(alloc, SYSTEM.as_bytes())?;
     Ok(Texts {
         diagram,
+        model: Vec::new(alloc),
         game,
         entries: Vec::new(alloc),
         vertices: Vec::new(alloc),

@@ -4,7 +4,7 @@ use crate::said::Said;
 use std::alloc::Global;
 use std::fs;
 use std::test::*;
-use vpg_family::{Fault, Input, Texts, Unread, explained, read_family};
+use vpg_family::{Fault, Input, Texts, Unread, explained, explained_set, read_family};
 use vpg_script::LineFault;
 
 const GAME_FILE: &str = "explained_game";
@@ -155,6 +155,45 @@ fn put_beside(rt: &HostRuntime, said: &mut Said) {
     put_explained(rt, &none, &large, said);
     said.put("\n");
     put_explained(rt, &none, &Fault::NotAProduct, said);
+}
+
+/// Sets of features of a diagram, and the messages about those that are no product.
+static SETS: [(&[&str], &str); 5] = [
+    (&["r", "f", "i"], ""),
+    (&["f"], "lines:2:1: these features do not meet `root r`\n"),
+    (
+        &["r", "g"],
+        "lines:4:1: these features do not meet `optional f g`\n",
+    ),
+    (
+        &["r", "h"],
+        "lines:5:1: these features do not meet `or f: h i`\n",
+    ),
+    (
+        &["r", "f", "h", "g"],
+        "lines:6:1: these features do not meet `excludes g h`\n",
+    ),
+];
+
+const LINES: &[u8] =
+    b"\nroot r\noptional r f\noptional f g\nor f: h i\nexcludes g h\noptional r k\n";
+
+/// Returns the message about the first set that is not explained so.
+fn first_unmet(alloc: Global) -> Option<&'static str> {
+    for (features, told) in &SETS {
+        let mut said = Said::new(alloc);
+        said.put_made(explained_set(alloc, "lines", LINES, features));
+        if said.text() != *told {
+            return Some(told);
+        }
+    }
+    None
+}
+
+#[test]
+fn sets_are_explained(rt: HostRuntime) -> Result<(), Fail> {
+    assert_eq!(rt; first_unmet(rt.alloc()), None);
+    Ok(())
 }
 
 #[test]

@@ -7,8 +7,9 @@ use std::test::*;
 use vpg_family::{Family, Fault, GamePaths, Paths, Unread, open_script, read_family};
 
 /// The files of a game and a diagram, and the message about them. `none` is missing, `.` is a folder, `empty` has no
-/// bytes, and `/dev/zero` no end. `full` has as many signs as a game may have, and `fuller` one more.
-const ROWS: [[&str; 3]; 12] = [
+/// bytes, and `/dev/zero` no end. `model.uvl` is a feature model that means the diagram; `empty.uvl` has no bytes.
+/// `full` has as many signs as a game may have, and `fuller` one more.
+const ROWS: [[&str; 3]; 15] = [
     ["none", "none", "vpgdesk: diagram unreadable\n"],
     ["game", ".", "vpgdesk: diagram unreadable\n"],
     ["none", "empty", "vpgdesk: diagram NoRoot\n"],
@@ -20,6 +21,13 @@ const ROWS: [[&str; 3]; 12] = [
     ["/dev/zero", "diagram", "vpgdesk: game TooLarge\n"],
     ["full", "diagram", "vpgdesk: game Syntax 0\n"],
     ["fuller", "diagram", "vpgdesk: game TooManySigns 8388608\n"],
+    [
+        "game",
+        "model.uvl",
+        "vertices 2 edges 4 features 3 top 2 2\n",
+    ],
+    ["none", "empty.uvl", "vpgdesk: uvl Ended\n"],
+    ["none", "model.uvl", "vpgdesk: game unreadable\n"],
     ["game", "diagram", "vertices 2 edges 4 features 3 top 2 2\n"],
 ];
 
@@ -60,6 +68,12 @@ fn the_diagram_is_read_before_the_game(rt: HostRuntime) -> Result<(), Fail> {
     fs::write(&rt, "diagram", DIAGRAM)?;
     fs::write(&rt, "game", GAME)?;
     fs::write(&rt, "empty", "")?;
+    fs::write(&rt, "empty.uvl", "")?;
+    fs::write(
+        &rt,
+        "model.uvl",
+        "features\n\tr\n\t\toptional\n\t\t\tf\n\t\t\tg\n",
+    )?;
     let full = vec![in rt.alloc(); b'!'; 8_388_608]?;
     let fuller = vec![in rt.alloc(); b'!'; 8_388_609]?;
     fs::write(&rt, "full", full)?;
@@ -68,6 +82,8 @@ fn the_diagram_is_read_before_the_game(rt: HostRuntime) -> Result<(), Fail> {
     fs::remove_file(&rt, "diagram")?;
     fs::remove_file(&rt, "game")?;
     fs::remove_file(&rt, "empty")?;
+    fs::remove_file(&rt, "empty.uvl")?;
+    fs::remove_file(&rt, "model.uvl")?;
     fs::remove_file(&rt, "full")?;
     fs::remove_file(&rt, "fuller")?;
     assert_eq!(rt; wrong, None);
