@@ -2,12 +2,19 @@
 """Drives the program line by line through a pipe, and tells how long an answer takes.
 
     driving.py PROGRAM GAME DIAGRAM [LINES]      1,000 lines where not given
+    driving.py --json PROGRAM GAME DIAGRAM SCRIPT
 
 It selects, settles, asks and undoes in turn, and checks that each line gets just its answer before the next line is sent.
+With --json the client of docs/DRIVING.md asks each line of SCRIPT that is no comment. Its answers have the lines of a
+plain run, in order; tones, causes and numbers of lines are as those lines say.
 """
+import os
 import subprocess
 import sys
+import textwrap
 import time
+
+DRIVING = os.path.join(os.path.dirname(os.path.dirname(os.path.abspath(__file__))), "docs", "DRIVING.md")
 
 # a line of a script, and the first word of the last line of its answer
 ROUND = [("select %s", "done"), ("settle", "settled"), ("products", "open"), ("trail", "entries"), ("undo", "undone")]
@@ -46,7 +53,50 @@ class Desk:
         return self.process.wait()
 
 
+def client(program):
+    """The class of the client that docs/DRIVING.md shows, for this program."""
+    with open(DRIVING) as file:
+        text = file.read()
+    begins = text.index("    import json")
+    code = textwrap.dedent(text[begins:text.index("    desk = Desk(", begins)])
+    made = {}
+    exec(code.replace('"vpgdesk"', repr(program)), made)
+    return made["Desk"]
+
+
+def refusal_of(line):
+    """The members of the cause that a refusal's line tells."""
+    cause, *argument = line.split(" ")[1:]
+    if not argument:
+        return {"cause": cause}
+    if argument[0].isdigit():
+        return {"cause": cause, "serial": int(argument[0])}
+    return {"cause": cause, "feature": argument[0]}
+
+
+def ask_in_json(program, game, diagram, script):
+    with open(script) as file:
+        asked = [line for line in file.read().splitlines() if line.strip() and not line.strip().startswith("#")]
+    words = [program, "run", "--keep-going", game, diagram, "/dev/stdin"]
+    plain = subprocess.run(words, input="\n".join(asked).encode(), capture_output=True)
+    desk = client(program)(game, diagram)
+    answers = [desk.ask(line) for line in asked]
+    assert "".join(f"{line}\n" for said in answers for line in said["answer"]) == plain.stdout.decode()
+    for number, said in enumerate(answers, 1):
+        first = said["answer"][0]
+        tone = first.split(" ")[0]
+        assert said["line"] == number, said
+        assert said["tone"] == {"refused": "refused", "fails": "failed"}.get(tone, "done"), said
+        assert said.get("refused") == (refusal_of(first) if tone == "refused" else None), said
+    desk.program.stdin.close()
+    status = desk.program.wait()
+    assert status == plain.returncode, (status, plain.returncode)
+    print(f"{len(answers)} answers, status {status}: the client of DRIVING reads what a plain run writes")
+
+
 def main():
+    if len(sys.argv) == 6 and sys.argv[1] == "--json":
+        return ask_in_json(*sys.argv[2:])
     if len(sys.argv) not in (4, 5):
         sys.exit(__doc__)
     program, game, diagram = sys.argv[1:4]

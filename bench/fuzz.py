@@ -84,10 +84,13 @@ ANSWERS = re.compile(
     + rb"|" + N + rb"(?: (?:hopeless|possible) (?:sure|unsure)){2}|" + DRAWN
     + rb"|(?:select|exclude) " + NAME + rb" " + N + rb"|(?:hopeful|dual) " + N + rb" " + N + rb" " + N + SIGNED
     + rb"|(?:possible|unsure) " + N + rb"|(?:(?:hopeless|sure|lost|won) " + N + rb"|empty)" + SIGNED + rb"(?: or fewer)?|(?:in|out) " + NAME + SIGNED
-    + rb"|holds|fails(?: full| settled|(?: (?:hopeless|possible|sure|unsure))+(?: unsettled)?)"
+    + rb"|holds|fails(?: full| settled| empty| unsettled| won| lost| mixed"
+    + rb"|(?: (?:hopeless|possible|sure|unsure))+(?: unsettled)?)"
     + rb"|conflict [+-]" + NAME + SIGNED + rb"|(?:some )?product(?: " + NAME + rb")*|none|unsettled"
-    + rb"|offer [+-]" + NAME + rb" (?:conflict|(?:hopeless|possible|unsettled) (?:sure|unsure|unsettled))"
-    + rb"|(?:needs|forced) [+-]" + NAME + rb"|repair [+-]" + NAME + SIGNED + rb"(?: or fewer)?"
+    + rb"|offer [+-]" + NAME + rb" (?:conflict|(?:hopeless|possible|unsettled) (?:sure|unsure|unsettled)"
+    + rb" (?:won|lost|mixed|empty|unsettled))"
+    + rb"|(?:needs|forced) [+-]" + NAME
+    + rb"|repair [+-]" + NAME + rb"(?:" + SIGNED + rb"(?: or fewer)?| lost| unsettled)"
     + rb"|(?:needs|forced|repairs|number) " + N + rb"(?: or more)?"
     + rb"|(?:won|lost|unsettled) " + N + SIGNED + rb" " + N + rb"(?: or more)?"
     + rb"|winners " + N + rb" " + N + rb" " + N + rb"(?: or more)?|mixed " + N
@@ -183,7 +186,7 @@ BUILT_IN = (b"parity 1; 0 1 0 1[f],0; 1 2 1 0[g],1;", b"root r\noptional r f\nop
 RICH = (
     b'parity 9; start 1;\n1 1 0 2[a & !(b | c)],3 "one";\n2 4 1 1[!a],3[d],3[!d & true];\n3 3 0 3[(a | b) & (c | d)],1;\n9 0 1;\n',
     b"root r\nmandatory r a\noptional r b\nalternative b: c d\nor a: e f g\ngroup r 1 2: h i j\nrequires c e\nexcludes d h\n",
-    b"2: select b\nsettle 3\nharvest\n64: exclude c\ncommit 1\nlift dual 9\nkeep 1\nplan\ncount\ndraw\nchanged\nforced\nempty\nnumber\nknown b\nshow 3 1\nassert 1 possible sure\nassert full\nwhy 1\nwhy b\nwhy +a\nexample 1\ncounterexample 0\nlost 1\nwon 0\noffer 3\nneeds 1\nrepair 1\nspoil 3\nplan 1\ndraw 3\ntrace 3\nwinners 3\ndecide 1\nproducts\nretract b\nsettle\nshow\n",
+    b"2: select b\nsettle 3\nharvest\n64: exclude c\ncommit 1\nlift dual 9\nkeep 1\nplan\ncount\ndraw\nchanged\nforced\nempty\nnumber\nknown b\nshow 3 1\nassert 1 possible sure\nassert 1 won\nassert full\nwhy 1\nwhy b\nwhy +a\nexample 1\ncounterexample 0\nlost 1\nwon 0\noffer 3\nneeds 1\nrepair 1\nspoil 3\nplan 1\ndraw 3\ntrace 3\nwinners 3\ndecide 1\nproducts\nretract b\nsettle\nshow\n",
 )
 
 
@@ -215,7 +218,7 @@ TOKENS = re.compile(rb"[A-Za-z0-9_]+|[^A-Za-z0-9_]")
 DICTIONARY = (
     b"0 1 2 7 00 01 64 65 4096 65535 65536 65537 4294967295 4294967296 1000000000 1000000001 18446744073709551615 18446744073709551616 4611686018427387904 -1 +1 1.5 0x10 "
     b"parity start root mandatory optional alternative or group requires excludes true false select exclude retract undo redo keep forget lift harvest commit settle show trail "
-    b"products plan count draw changed forced empty known assert hopeless possible sure unsure full settled why "
+    b"products plan count draw changed forced empty known assert hopeless possible sure unsure mixed full settled why "
     b"number example counterexample lost won offer needs repair spoil trace winners decide help quit hopeful dual "
     b"r f g a b 1: 65: 0: : ; , [ ] ( ) "
     b"! & | # \" \\ { } \xc3\xa9 \xff \x00 \x0b \x1a"
