@@ -226,14 +226,27 @@ pub(crate) const BUDGET: u64 = 1_000_000;
 /// Vertex 0 keeps going round priority 1, vertex 3 does until it leaves for priority 3.
 const EXIT: &[u8] = b"0 1 0 0; 1 3 0 2; 2 4 0 2; 3 1 0 3,1;";
 
+/// A budget of 1 is used up once vertex 0 is raised to the top. One round of lifts follows, and vertex 3 climbs still.
 const AT_EXIT: &[Row] = &[
     (Hopeful, 0, Guess(BUDGET, true), Some(&[6, 3, 0, 4])),
+    (Hopeful, 0, Guess(1, false), Some(&[6, 3, 0, 1])),
     (Dual, 0, Guess(BUDGET, true), Some(&[0, 2, 2, 2])),
 ];
 
+/// Vertex 0 goes round priority 1 until it leaves for vertex 1 of priority 13. One round of lifts settles all others.
+const LATE: &[u8] =
+    b"0 1 0 0,1; 1 13 0 2; 2 14 0 2; 3 3 0 2; 4 5 0 2; 5 7 0 2; 6 9 0 2; 7 11 0 2;";
+
+/// A guess at vertex 0 alone settles the table, by the value of vertex 1. All other ways would take more of the budget.
+const AT_LATE: &[Row] = &[(
+    Hopeful,
+    1,
+    Guess(1, true),
+    Some(&[65, 64, 0, 2, 4, 8, 16, 32]),
+)];
+
 /// A loop of priority 1, and after it 60 vertices of odd priorities of their own. The top is 2^61, and no rounds of
-/// lifts would come there. A budget that is used up leaves the values raised until then; the table of the dual is
-/// settled from the start.
+/// lifts would come there. The table of the dual is settled from the start.
 const CLIMB: &[Row] = &[
     (
         Hopeful,
@@ -242,7 +255,6 @@ const CLIMB: &[Row] = &[
         Some(&[2_305_843_009_213_693_952; 61]),
     ),
     (Dual, 0, Guess(BUDGET, true), None),
-    (Hopeful, 0, Guess(1, false), None),
     (Dual, 0, Guess(1, true), None),
 ];
 
@@ -252,5 +264,6 @@ fn orders_answer(rt: HostRuntime) {
     ask_all(&rt, small(&rt, &[]), UNDECIDED);
     ask_all(&rt, small(&rt, &[(1, true), (2, true)]), WITH_BOTH);
     ask_all(&rt, order_from(&rt, ROOT, EXIT, &[]), AT_EXIT);
+    ask_all(&rt, order_from(&rt, ROOT, LATE, &[]), AT_LATE);
     ask_all(&rt, row_of(&rt, ROOT, 61, true), CLIMB);
 }

@@ -23,14 +23,15 @@ pub(crate) const TOP: u64 = 1 << 61;
 /// The number of further vertices of the large game, with two edges each.
 const MANY: u32 = 35_000;
 
-/// Returns the order without decisions of a game that no rounds of lifts settle. The first vertex of Even is a loop of
-/// priority 1. Sixty of greater odd priorities lead to it, and this many more of priority 0, each also to the vertex
-/// before it.
+/// Returns the order without decisions of a game that no rounds of lifts settle. The first two vertices of Even are a
+/// cycle of the priorities 1 and 3, whose winner is not seen at once. All of greater odd priorities lead to it, and this
+/// many more of priority 0, each also to the vertex before it.
 pub(crate) fn climb_of<R: Abort + AllocGlobal>(rt: &R, more: u32) -> Order {
     let mut text = String::new(rt.alloc());
     let mut priority = 1u32;
     for v in 0..CLIMBING {
-        given(rt, write!(text, "{v} {priority} 0 0;"));
+        let to = if v == 0 { 1 } else { 0 };
+        given(rt, write!(text, "{v} {priority} 0 {to};"));
         priority = priority.saturating_add(2);
     }
     put_queue(rt, &mut text, more);
