@@ -157,34 +157,49 @@ fn put_beside(rt: &HostRuntime, said: &mut Said) {
     put_explained(rt, &none, &Fault::NotAProduct, said);
 }
 
-/// Sets of features of a diagram, and the messages about those that are no product.
-static SETS: [(&[&str], &str); 5] = [
-    (&["r", "f", "i"], ""),
-    (&["f"], "lines:2:1: these features do not meet `root r`\n"),
-    (
-        &["r", "g"],
-        "lines:4:1: these features do not meet `optional f g`\n",
-    ),
-    (
-        &["r", "h"],
-        "lines:5:1: these features do not meet `or f: h i`\n",
-    ),
-    (
-        &["r", "f", "h", "g"],
-        "lines:6:1: these features do not meet `excludes g h`\n",
-    ),
+/// Features of the diagram `LINES`, and the message about them, which is empty if they are a product.
+struct Set {
+    features: &'static [&'static str],
+    said: &'static str,
+}
+
+static SETS: [Set; 5] = [
+    Set {
+        features: &["r", "f", "i"],
+        said: "",
+    },
+    Set {
+        features: &["f"],
+        said: "lines:2:1: these features do not meet `root r`\n",
+    },
+    Set {
+        features: &["r", "g"],
+        said: "lines:4:1: these features do not meet `optional f g`\n",
+    },
+    Set {
+        features: &["r", "h"],
+        said: "lines:5:1: these features do not meet `or f: h i`\n",
+    },
+    Set {
+        features: &["r", "f", "h", "g"],
+        said: "lines:6:1: these features do not meet `excludes g h`\n",
+    },
 ];
 
 const LINES: &[u8] =
     b"\nroot r\noptional r f\noptional f g\nor f: h i\nexcludes g h\noptional r k\n";
 
-/// Returns the message about the first set that is not explained so.
-fn first_unmet(alloc: Global) -> Option<&'static str> {
-    for (features, told) in &SETS {
-        let mut said = Said::new(alloc);
-        said.put_made(explained_set(alloc, "lines", LINES, features));
-        if said.text() != *told {
-            return Some(told);
+fn is_explained(alloc: Global, set: &Set) -> bool {
+    let mut said = Said::new(alloc);
+    said.put_made(explained_set(alloc, "lines", LINES, set.features));
+    said.text() == set.said
+}
+
+/// Returns the wanted message about the first set that isn't explained so.
+fn first_unexplained(alloc: Global) -> Option<&'static str> {
+    for set in &SETS {
+        if !is_explained(alloc, set) {
+            return Some(set.said);
         }
     }
     None
@@ -192,7 +207,7 @@ fn first_unmet(alloc: Global) -> Option<&'static str> {
 
 #[test]
 fn sets_are_explained(rt: HostRuntime) -> Result<(), Fail> {
-    assert_eq!(rt; first_unmet(rt.alloc()), None);
+    assert_eq!(rt; first_unexplained(rt.alloc()), None);
     Ok(())
 }
 
