@@ -1,0 +1,167 @@
+//! Scripts in files, and from standard input.
+ghost use Rattle.std.specs.Arc.{arc_value};
+ghost use Rattle.std.specs.Prelude.{◌≡◌, ◌≤◌};
+ghost use Rattle.vpg_diagram.specs.FeatureDiagram.{feature_count};
+
+use crate::family::known_of;
+use std::alloc::Global;
+use std::io::{IsTerminal, Read};
+use std::sync::Wait;
+use std::thread::Threads;
+use vpg_configuration::selecting;
+use vpg_family::{
+    Context, Family, Fault, Known, Paths, Pictured, Texts, open_script, read_script,
+};
+use vpg_report::{DIAGRAM, End, GAME, end_of, run_script};
+use vpg_script::{Device, Sink, Source};
+use vpg_serving::{Form, Manner};
+use vpg_terminal::Named;
+
+/// A run of a script's file.
+#[derive(Clone, Copy)]
+pub(crate) struct ScriptRun<'a> {
+    pub(crate) paths: Paths<'a>,
+    pub(crate) script: &'a str,
+    /// The file of a configuration whose features are selected before the script.
+    pub(crate) config: Option<&'a str>,
+    pub(crate) lifters: u32,
+    pub(crate) manner: Manner,
+    /// Whether the names of vertices stand beside the answers.
+    pub(crate) is_named: bool,
+}
+
+/// Returns the form that answers are asked for in.
+pub(crate) fn form_of(json: bool) -> Form {
+    if json { Form::Json } else { Form::Plain }
+}
+
+/// Carries a script out on a family, with these names for its vertices.
+pub(crate) fn run<T: Threads + Wait + Sync, R: Source + Drop, W: Sink + Drop>(
+    threads: &T,
+    alloc: Global,
+    family: Family,
+    context: &Context,
+    mut reader: R,
+    mut writer: W,
+    lifters: u32,
+    manner: Manner,
+) -> Result<End, Fault>
+    requires unread { R.calls reader ≡ 0 }
+    requires lifters { (1 ≤ lifters) × (lifters ≤ 64) }
+    requires features { (arc_value family.game).features ≡ feature_count (arc_value family.diagram).lines }
+{
+    end_of(run_script(
+        threads,
+        alloc,
+        family,
+        context,
+        &mut reader,
+        &mut writer,
+        lifters,
+        manner,
+    ))
+}
+
+/// The message while the program waits for a script from a terminal.
+const WAITS: &[u8] =
+    b"vpgdesk reads a script, one command a line; `vpgdesk --help` lists commands\n";
+
+/// Says what the program waits for, if a person may type it.
+fn tell_waiting(rt: &HostRuntime) {
+    if rt.stdin().is_terminal() {
+        // If this fails the answers are still to come.
+        let _ = Device::writer(rt.stderr().lock()).put(WAITS);
+    }
+}
+
+/// Carries a script from standard input out on the built-in family. Each line is answered, and a fault ends it.
+pub(crate) fn run_built_in<T: Threads + Wait + Sync>(
+    rt: &HostRuntime,
+    threads: &T,
+    alloc: Global,
+) -> Result<End, Fault> {
+    let family = Family::read(alloc, DIAGRAM.as_bytes(), GAME.as_bytes())?;
+    tell_waiting(rt);
+    let reader = Device::reader(rt.stdin().lock());
+    let writer = Device::writer(rt.stdout().lock());
+    let context = Context::none(alloc);
+    let manner = Manner {
+        is_strict: false,
+        goes_on: false,
+        form: Form::Plain,
+    };
+    run(threads, alloc, family, &context, reader, writer, 1, manner)
+}
+
+/// Returns a sink that passes answers on to a writer with the names of vertices beside their lines, and in pictures.
+pub(crate) fn named<'n, W: Sink>(
+    alloc: Global,
+    known: &'n Known,
+    writer: W,
+) -> Named<'n, Pictured<'n, W>>
+    requires { (arc_value known.now.family.game).features ≡ feature_count (arc_value known.now.family.diagram).lines }
+{
+    let game = &known.family.game;
+    let writer = Pictured::new(alloc, &known.family.diagram, game, &known.names, writer);
+    Named::new(alloc, game, &known.names, writer)
+}
+
+/// Returns the lines of a script's file, none if there is no script.
+pub(crate) fn script_of(
+    rt: &HostRuntime,
+    alloc: Global,
+    script: Option<&str>,
+) -> Result<Vec<u8>, Fault> {
+    match script {
+        Some(path) => read_script(rt, path),
+        None => Ok(Vec::new(alloc)),
+    }
+}
+
+/// Carries a script's file out on a family, and writes the answers to this writer.
+fn run_to<T: Threads + Wait + Sync, W: Sink + Drop>(
+    rt: &HostRuntime,
+    threads: &T,
+    alloc: Global,
+    known: &Known,
+    asked: ScriptRun<'_>,
+    writer: W,
+) -> Result<End, Fault>
+    requires lifters { (1 ≤ asked.lifters) × (asked.lifters ≤ 64) }
+    requires features { (arc_value known.now.family.game).features ≡ feature_count (arc_value known.now.family.diagram).lines }
+{
+    let family = known.family.again()?;
+    let config = script_of(rt, alloc, asked.config)?;
+    let selections = selecting(alloc, &config)?;
+    let file = open_script(rt, asked.script)?;
+    run(
+        threads,
+        alloc,
+        family,
+        &known.context,
+        Device::reader(selections.as_slice().chain(file)),
+        writer,
+        asked.lifters,
+        asked.manner,
+    )
+}
+
+/// Carries a script's file out on the family of some files.
+pub(crate) fn run_files<T: Threads + Wait + Sync>(
+    rt: &HostRuntime,
+    threads: &T,
+    alloc: Global,
+    asked: ScriptRun<'_>,
+    texts: &mut Texts,
+) -> Result<End, Fault>
+    requires { (1 ≤ asked.lifters) × (asked.lifters ≤ 64) }
+{
+    let known = known_of(rt, alloc, asked.paths, texts)?;
+    let writer = Device::writer(rt.stdout().lock());
+    if asked.is_named {
+        let writer = named(alloc, &known, writer);
+        run_to(rt, threads, alloc, &known, asked, writer)
+    } else {
+        run_to(rt, threads, alloc, &known, asked, writer)
+    }
+}

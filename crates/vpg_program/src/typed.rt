@@ -1,0 +1,131 @@
+//! Commands as a person types them.
+ghost use Rattle.std.specs.Arc.{arc_value};
+ghost use Rattle.std.specs.Prelude.{◌≡◌, ◌≤◌, IfOk};
+ghost use Rattle.vpg_diagram.specs.FeatureDiagram.{feature_count};
+
+use crate::family::known_of;
+use crate::running::{named, run};
+use std::alloc::{AllocError, Global};
+use std::cell::Cell;
+use std::io::IsTerminal;
+use std::sync::Wait;
+use std::thread::Threads;
+use vpg_family::{Family, Fault, Known, Paths, Texts};
+use vpg_report::End;
+use vpg_script::{Device, Sink, Source};
+use vpg_serving::{Form, Manner};
+use vpg_terminal::{Ear, Heard, Setting, Typed, command_list};
+
+/// A session at a terminal.
+#[derive(Clone, Copy)]
+pub(crate) struct Talk<'a> {
+    pub(crate) paths: Paths<'a>,
+    pub(crate) lifters: u32,
+    pub(crate) form: Form,
+    /// Whether the names of vertices stand beside the answers.
+    pub(crate) is_named: bool,
+}
+
+/// Returns the identifier where a game starts, if it is that of a vertex.
+fn start_of(known: &Known) -> Option<u32> {
+    let id = u32::try_from(known.names.start()?).ok()?;
+    known.family.game.find(id).map(|_| id)
+}
+
+/// The message before the first line is read, after the family's counts.
+const GREETING: &[u8] = b"one command a line; `help` lists commands, `quit` ends\n";
+
+/// Writes the first lines of a session. Returns the family once more, for the session.
+fn greet<S: Sink>(alloc: Global, family: &Family, talk: &mut S) -> Result<Family, AllocError>
+    ensures game { IfOk result (λ again. arc_value again.game ≡ arc_value family.now.game) }
+    ensures diagram { IfOk result (λ again. arc_value again.diagram ≡ arc_value family.now.diagram) }
+{
+    let counts = family.counted(alloc)?;
+    // If these fail the answers are still to come.
+    let _ = talk.put(&counts);
+    let _ = talk.put(GREETING);
+    family.again()
+}
+
+/// Answers commands as they are typed, on a family. The text beside the answers goes to `beside`. Of answers in JSON
+/// the session hears nothing.
+fn converse<T: Threads + Wait + Sync, R: Source + Drop, S: Sink + Drop, W: Sink + Drop>(
+    threads: &T,
+    alloc: Global,
+    known: &Known,
+    talk: Talk<'_>,
+    is_prompted: bool,
+    reader: R,
+    mut beside: S,
+    writer: W,
+) -> Result<End, Fault>
+    requires unread { R.calls reader ≡ 0 }
+    requires lifters { (1 ≤ talk.lifters) × (talk.lifters ≤ 64) }
+    requires features { (arc_value known.now.family.game).features
+        ≡ feature_count (arc_value known.now.family.diagram).lines }
+{
+    let family = greet(alloc, &known.family, &mut beside)?;
+    let heard = Cell::new(Heard::Nothing);
+    let setting = Setting {
+        commands: command_list(),
+        features: known.family.diagram.names(),
+        is_prompted,
+        start: start_of(known),
+        heard: &heard,
+    };
+    // Each line is answered, also one with a fault.
+    let manner = Manner {
+        is_strict: false,
+        goes_on: true,
+        form: talk.form,
+    };
+    run(
+        threads,
+        alloc,
+        family,
+        &known.context,
+        Typed::new(alloc, setting, reader, beside),
+        Ear::new(writer, &heard),
+        talk.lifters,
+        manner,
+    )
+}
+
+/// Answers commands from standard input as they are typed, on a family.
+fn converse_here<T: Threads + Wait + Sync, W: Sink + Drop>(
+    rt: &HostRuntime,
+    threads: &T,
+    alloc: Global,
+    known: &Known,
+    talk: Talk<'_>,
+    writer: W,
+) -> Result<End, Fault>
+    requires lifters { (1 ≤ talk.lifters) × (talk.lifters ≤ 64) }
+    requires features { (arc_value known.now.family.game).features
+        ≡ feature_count (arc_value known.now.family.diagram).lines }
+{
+    let is_prompted = rt.stdin().is_terminal();
+    let reader = Device::reader(rt.stdin().lock());
+    let beside = Device::writer(rt.stderr().lock());
+    converse(threads, alloc, known, talk, is_prompted, reader, beside, writer)
+}
+
+/// Answers commands from standard input on the family of some files.
+pub(crate) fn sit<T: Threads + Wait + Sync>(
+    rt: &HostRuntime,
+    threads: &T,
+    alloc: Global,
+    talk: Talk<'_>,
+    texts: &mut Texts,
+) -> Result<End, Fault>
+    requires { (1 ≤ talk.lifters) × (talk.lifters ≤ 64) }
+{
+    let known = known_of(rt, alloc, talk.paths, texts)?;
+    let writer = Device::writer(rt.stdout().lock());
+    if talk.is_named {
+        let writer = named(alloc, &known, writer);
+        converse_here(rt, threads, alloc, &known, talk, writer)
+    } else {
+        converse_here(rt, threads, alloc, &known, talk, writer)
+    }
+}
