@@ -59,8 +59,9 @@ fn print(rt: &HostRuntime, told: &clap::Error) -> Result<End, Fault> {
     }
 }
 
-/// Carries out the task of these words.
-fn obey_words<T: Threads + Wait + Sync>(
+/// Carries out the task of these words, the first of which is the program's name. If they ask for it, `lines` explain
+/// why an input is refused.
+pub fn obey_words<T: Threads + Wait + Sync>(
     rt: &HostRuntime,
     threads: &T,
     alloc: Global,
