@@ -32,7 +32,6 @@ mod typed;
 mod words;
 
 pub use crate::words::obey_words;
-
 use crate::words::{obey, tell};
 use std::process::ExitCode;
 use std::sync::Wait;

@@ -9,9 +9,7 @@ use std::io::{IsTerminal, Read};
 use std::sync::Wait;
 use std::thread::Threads;
 use vpg_configuration::selecting;
-use vpg_family::{
-    Context, Family, Fault, Known, Paths, Pictured, Texts, open_script, read_script,
-};
+use vpg_family::{Context, Family, Fault, Known, Paths, Pictured, Texts, open_script, read_script};
 use vpg_report::{DIAGRAM, End, GAME, end_of, run_script};
 use vpg_script::{Device, Sink, Source};
 use vpg_serving::{Form, Manner};

@@ -107,7 +107,16 @@ fn converse_here<T: Threads + Wait + Sync, W: Sink + Drop>(
     let is_prompted = rt.stdin().is_terminal();
     let reader = Device::reader(rt.stdin().lock());
     let beside = Device::writer(rt.stderr().lock());
-    converse(threads, alloc, known, talk, is_prompted, reader, beside, writer)
+    converse(
+        threads,
+        alloc,
+        known,
+        talk,
+        is_prompted,
+        reader,
+        beside,
+        writer,
+    )
 }
 
 /// Answers commands from standard input on the family of some files.
