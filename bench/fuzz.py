@@ -219,7 +219,7 @@ DICTIONARY = (
     b"0 1 2 7 00 01 64 65 4096 65535 65536 65537 4294967295 4294967296 1000000000 1000000001 18446744073709551615 18446744073709551616 4611686018427387904 -1 +1 1.5 0x10 "
     b"parity start root mandatory optional alternative or group requires excludes true false select exclude retract undo redo keep forget lift harvest commit settle show trail "
     b"products plan count draw changed forced empty known assert hopeless possible sure unsure mixed full settled why "
-    b"number example counterexample lost won offer needs repair spoil trace winners decide help quit hopeful dual "
+    b"number example counterexample lost won offer needs repair spoil trace winners decide help goals quit hopeful dual "
     b"r f g a b 1: 65: 0: : ; , [ ] ( ) "
     b"! & | # \" \\ { } \xc3\xa9 \xff \x00 \x0b \x1a"
 ).split(b" ") + [b"9" * 40, b"9" * 5000, b"x" * 64, b"x" * 65, b" ", b"\t", b"\n", b"\r", b"\r\n", b""]

@@ -17,7 +17,7 @@ struct Typing {
     said: &'static str,
 }
 
-static TYPINGS: [Typing; 10] = [
+static TYPINGS: [Typing; 12] = [
     Typing {
         typed: "",
         answers: &[],
@@ -41,7 +41,8 @@ static TYPINGS: [Typing; 10] = [
         answers: &["", "", "", "refused Word\n"],
         handed: "\n\n\nhelp select f\n",
         said: ">   undo     takes back\n           a change\n> no such command; `help` lists them\n\
-            > select F, exclude F      decides\n  undo     takes back\n           a change\n\
+            > select F, exclude F      decides\n  undo     takes back\n           a change\n  \
+            goals V ..             after each `settle`, tell of these vertices\n\
             > line:4:1: found `help`; expected a command\n  hint: is `keep` meant?\n> ",
     },
     // A feature that was perhaps meant.
@@ -65,19 +66,46 @@ static TYPINGS: [Typing; 10] = [
         handed: "exclude f\nwhy -f\n2: select g\nwhy +g\nselect f\n",
         said: "> > > > ",
     },
-    // The start is shown after each settling, and if it is hopeless the session says why.
+    // The start is shown after each settling, and decided. If it is hopeless the session says why.
     Typing {
         typed: "settle\nsettle 3\nshow 7\n",
         answers: &[
             "settled 3\n",
             "7 0 1 possible sure\n",
+            "won 7\n",
             "unsettled 0\n",
             "7 5 1 hopeless unsure\n",
             "hopeless 7\nunsure 7\n",
+            "lost 7\n",
             "7 5 1 hopeless unsure\n",
         ],
-        handed: "settle\nshow 7\nsettle 3\nshow 7\nwhy 7\nshow 7\n",
+        handed: "settle\nshow 7\ndecide 7\nsettle 3\nshow 7\nwhy 7\ndecide 7\nshow 7\n",
         said: "> > > > ",
+    },
+    // The goals take its place. Of one that is refused nothing more is asked.
+    Typing {
+        typed: "goals 3 \"a b\"  x\nsettle\ngoals\nsettle\n",
+        answers: &[
+            "",
+            "settled 0\n",
+            "3 0 1 possible unsure\n",
+            "mixed 3\nproduct r f\nproduct r\n",
+            "refused NoVertex\n",
+            "4 5 1 hopeless unsure\n",
+            "hopeless 4\nunsure 4\n",
+            "empty\n",
+            "",
+            "settled 0\n",
+        ],
+        handed: "\nsettle\nshow 3\ndecide 3\nshow \"a b\"\nshow x\nwhy x\ndecide x\n\nsettle\n",
+        said: "> > > > > ",
+    },
+    Typing {
+        typed: "help goals\n2: goals 3\n",
+        answers: &["", "refused Word\n"],
+        handed: "\n2: goals 3\n",
+        said: ">   goals V ..             after each `settle`, tell of these vertices\n\
+            > line:2:4: found `goals`; expected a command\n> ",
     },
     Typing {
         typed: "settle x\n",

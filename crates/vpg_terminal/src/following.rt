@@ -1,17 +1,46 @@
-//! The line that a session hands on after an answer.
+//! The lines that a session hands on after answers.
 ghost use Rattle.std.specs.Prelude.{◌≡◌, IfOk};
-ghost use Rattle.vpg_terminal.specs.Following.{why_line, vertex_line};
+ghost use Rattle.vpg_terminal.specs.Following.{goal_line, next_asked, why_line, vertex_line};
 
 use crate::hearing::Heard;
 use itoa::Buffer;
 use std::alloc::{AllocError, Global};
-use vpg_places::Word;
+use vpg_places::{Word, words_of};
 
-/// A line that follows an answer of this kind.
+/// A question of the session's own about a goal.
+#[derive(Clone, Copy, Debug, PartialEq, Eq)]
+pub(crate) enum Asked {
+    /// Its cautious verdicts.
+    Show,
+    /// Why it is hopeless.
+    Why,
+    /// Its exact verdict.
+    Decide,
+}
+
+/// A question about one of the goals.
+#[derive(Clone, Copy)]
+pub(crate) struct OfGoal {
+    pub(crate) goal: usize,
+    pub(crate) asked: Asked,
+}
+
+/// The first question about the first goal.
+pub(crate) const FIRST: OfGoal = OfGoal {
+    goal: 0,
+    asked: Asked::Show,
+};
+
+/// What follows the answer to a line.
 #[derive(Drop)]
-pub(crate) struct Following {
-    pub(crate) behind: Heard,
-    pub(crate) line: Vec<u8>,
+pub(crate) enum Following {
+    Nothing,
+    /// This line, if a decision contradicts the page.
+    Why(Vec<u8>),
+    /// The questions about the goals, if the page was swept.
+    Goals,
+    /// The next question about the goals.
+    Behind(OfGoal),
 }
 
 /// Returns the line that asks why a decision is refused.
@@ -25,15 +54,23 @@ fn why_line(alloc: Global, sign: u8, feature: &[u8]) -> Result<Vec<u8>, AllocErr
     Ok(line)
 }
 
+/// Returns the line of a command about a goal.
+fn goal_line(alloc: Global, command: &[u8], goal: &[u8]) -> Result<Vec<u8>, AllocError>
+    ensures { IfOk result (λ line. line.items ≡ goal_line command.now goal.now) }
+{
+    let mut line = Vec::from_slice(alloc, command)?;
+    line.push(b' ')?;
+    line.extend_from_slice(goal)?;
+    line.push(b'\n')?;
+    Ok(line)
+}
+
 /// Returns the line of a command about a vertex.
 fn vertex_line(alloc: Global, command: &[u8], id: u32) -> Result<Vec<u8>, AllocError>
     ensures { IfOk result (λ line. line.items ≡ vertex_line command.now id) }
 {
     let mut buffer = Buffer::new();
-    let mut line = Vec::from_slice(alloc, command)?;
-    line.push(b' ')?;
-    line.extend_from_slice(buffer.format(id).as_bytes())?;
-    line.push(b'\n')?;
+    let line = goal_line(alloc, command, buffer.format(id).as_bytes())?;
     Ok(line)
 }
 
@@ -45,44 +82,84 @@ fn without_label<'w, 'l>(words: &'w [Word<'l>]) -> &'w [Word<'l>] {
     }
 }
 
-/// Returns the line that follows the answer to these words, if any. The game starts at the vertex of this identifier.
-pub(crate) fn behind_line(
-    alloc: Global,
-    words: &[Word<'_>],
-    start: Option<u32>,
-) -> Result<Option<Following>, AllocError> {
-    let (behind, line) = match (without_label(words), start) {
-        ([word, feature], _) if word.bytes == b"select".as_slice() => (
-            Heard::Conflict,
-            why_line(alloc, b'+', feature.bytes),
-        ),
-        ([word, feature], _) if word.bytes == b"exclude".as_slice() => (
-            Heard::Conflict,
-            why_line(alloc, b'-', feature.bytes),
-        ),
-        ([word, ..], Some(id)) if word.bytes == b"settle".as_slice() => (
-            Heard::Swept,
-            vertex_line(alloc, b"show", id),
-        ),
-        _ => return Ok(None),
-    };
-    match line {
-        Ok(line) => Ok(Some(Following { behind, line })),
-        Err(fault) => Err(fault),
+/// Returns what follows the answer to these words.
+pub(crate) fn behind_words(alloc: Global, words: &[Word<'_>]) -> Result<Following, AllocError> {
+    match without_label(words) {
+        [word, feature] if word.bytes == b"select".as_slice() => {
+            Ok(Following::Why(why_line(alloc, b'+', feature.bytes)?))
+        }
+        [word, feature] if word.bytes == b"exclude".as_slice() => {
+            Ok(Following::Why(why_line(alloc, b'-', feature.bytes)?))
+        }
+        [word, ..] if word.bytes == b"settle".as_slice() => Ok(Following::Goals),
+        _ => Ok(Following::Nothing),
     }
 }
 
-/// Returns the line that follows the answer to one of the session's own. It asks why the start is hopeless.
-pub(crate) fn behind_own(
+/// Returns what is asked next about a goal, after an answer of this kind; `None` if nothing is.
+fn next_asked(asked: Asked, heard: Heard) -> Option<Asked>
+    ensures { result ≡ next_asked asked heard }
+{
+    match asked {
+        Asked::Show => match heard {
+            Heard::Hopeless => Some(Asked::Why),
+            Heard::Nothing => Some(Asked::Decide),
+            Heard::Fault | Heard::Unknown | Heard::Conflict | Heard::Refused | Heard::Swept => None,
+        },
+        Asked::Why => Some(Asked::Decide),
+        Asked::Decide => None,
+    }
+}
+
+/// Returns the next question about the goals, after an answer of this kind.
+pub(crate) fn next_of(place: OfGoal, heard: Heard) -> OfGoal {
+    match next_asked(place.asked, heard) {
+        Some(asked) => OfGoal {
+            goal: place.goal,
+            asked,
+        },
+        None => OfGoal {
+            goal: place.goal.saturating_add(1),
+            asked: Asked::Show,
+        },
+    }
+}
+
+/// Returns the command of a question about a goal.
+fn command_of(asked: Asked) -> &'static [u8] {
+    match asked {
+        Asked::Show => b"show",
+        Asked::Why => b"why",
+        Asked::Decide => b"decide",
+    }
+}
+
+/// Returns the line of a question about a goal that a line `goals V ..` names, if it names so many.
+fn line_about_named(
     alloc: Global,
-    behind: Heard,
+    command: &[u8],
+    goals: &[u8],
+    goal: usize,
+) -> Result<Option<Vec<u8>>, AllocError> {
+    let words = words_of(alloc, goals, false)?;
+    match words.get(goal.saturating_add(1)) {
+        Some(word) => Ok(Some(goal_line(alloc, command, word.bytes)?)),
+        None => Ok(None),
+    }
+}
+
+/// Returns the line of a question about one of the goals, if there are so many. A line `goals V ..` names them. Before
+/// there is one, the vertex of this identifier is the only one.
+pub(crate) fn line_about(
+    alloc: Global,
+    goals: &Option<Vec<u8>>,
     start: Option<u32>,
-) -> Result<Option<Following>, AllocError> {
-    match (behind, start) {
-        (Heard::Swept, Some(id)) => Ok(Some(Following {
-            behind: Heard::Hopeless,
-            line: vertex_line(alloc, b"why", id)?,
-        })),
+    place: OfGoal,
+) -> Result<Option<Vec<u8>>, AllocError> {
+    let command = command_of(place.asked);
+    match (goals, start) {
+        (Some(goals), _) => line_about_named(alloc, command, goals, place.goal),
+        (None, Some(id)) if place.goal == 0 => Ok(Some(vertex_line(alloc, command, id)?)),
         _ => Ok(None),
     }
 }

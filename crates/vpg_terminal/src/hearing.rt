@@ -15,6 +15,8 @@ pub enum Heard {
     Unknown,
     /// A decision contradicts the page.
     Conflict,
+    /// The line is refused for another reason.
+    Refused,
     /// The page was swept.
     Swept,
     /// The vertex of its line, as `show V` answers it, is hopeless.
@@ -33,6 +35,8 @@ pub fn heard_of(answer: &[u8]) -> Heard
         Heard::Unknown
     } else if answer.starts_with(b"refused Conflict ") {
         Heard::Conflict
+    } else if answer.starts_with(b"refused ") {
+        Heard::Refused
     } else if answer.starts_with(b"settled ") || answer.starts_with(b"unsettled ") {
         Heard::Swept
     } else if behind_word(behind_word(behind_word(answer))).starts_with(b"hopeless ") {

@@ -4,11 +4,11 @@
 //! there is no task it returns what `clap` prints: help, the version, or the words' fault. `docs/FORMATS.md` lists
 //! words and options. No contract says which words ask for which task: tests do.
 //!
-//! `Typed` is a script that is typed in: it hands each line on as it comes, and carries out `help` and `quit` itself.
-//! After some answers it hands on lines of its own: why a decision is refused, and the state of a settled page at the
-//! vertex where the game starts. It hears of answers by an `Ear`, a sink that passes them on. `named_text` puts the
-//! names of vertices beside the lines of an answer, and `Named` is a sink that does so with each answer that is put to
-//! it.
+//! `Typed` is a script that is typed in: it hands each line on as it comes, and carries out `help`, `goals` and `quit`
+//! itself. After some answers it hands on lines of its own. They ask why a decision is refused, and what a settled page
+//! says, cautiously and exactly, of the goals: the vertices named so, or the one where the game starts. It hears of
+//! answers by an `Ear`, a sink that passes them on. `named_text` puts the names of vertices beside the lines of an
+//! answer, and `Named` is a sink that does so with each answer that is put to it.
 //!
 //! The text beside the answers (a prompt, help, why a line is no command) goes to a sink of its own. So the answers are
 //! just those to the lines that are handed on.

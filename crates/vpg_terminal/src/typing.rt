@@ -1,7 +1,7 @@
 //! A script that is typed in.
 ghost use Rattle.std.specs.Prelude.{◌≡◌, ◌≤◌, ◌++◌, ◌∷◌, [], None, IfOk, false, length, vec_len};
 
-use crate::following::{Following, behind_line, behind_own};
+use crate::following::{FIRST, Following, OfGoal, behind_words, line_about, next_of};
 use crate::hearing::Heard;
 use crate::help::put_command;
 use std::alloc::{AllocError, Global};
@@ -18,6 +18,9 @@ const PROMPT: &[u8] = b"> ";
 /// The message about a word that names no command.
 const UNKNOWN: &[u8] = b"no such command; `help` lists them\n";
 
+/// The help on the session's own command.
+const OWN: &str = "  goals V ..             after each `settle`, tell of these vertices";
+
 /// A line's word to the session itself.
 #[derive(Clone, Copy)]
 enum SessionWord<'l> {
@@ -25,11 +28,14 @@ enum SessionWord<'l> {
     Help,
     /// Help on the commands of this word.
     HelpOf(&'l [u8]),
+    /// The words behind it name the goals.
+    Goals,
     Quit,
 }
 
 fn asked_of<'l>(words: &[Word<'l>]) -> SessionWord<'l> {
     match words {
+        [word, ..] if word.bytes == b"goals".as_slice() => SessionWord::Goals,
         [word] if word.bytes == b"quit".as_slice() => SessionWord::Quit,
         [word] if word.bytes == b"help".as_slice() => SessionWord::Help,
         [word, command] if word.bytes == b"help".as_slice() => SessionWord::HelpOf(command.bytes),
@@ -48,33 +54,28 @@ pub struct Setting<'c> {
     pub heard: &'c Cell<Heard>,
 }
 
-/// A line that is handed on, and the line that follows its answer.
+/// A line that is handed on, and what follows its answer.
 #[derive(Drop)]
 struct Handed {
     line: Vec<u8>,
-    following: Option<Following>,
+    following: Following,
 }
 
 /// Returns an empty line, which asks a script for nothing.
 fn nothing(alloc: Global) -> Result<Handed, AllocError> {
     Ok(Handed {
         line: Vec::from_slice(alloc, b"\n")?,
-        following: None,
+        following: Following::Nothing,
     })
 }
 
 /// Returns the line itself, if it asks nothing of the session.
-fn as_typed(
-    alloc: Global,
-    line: &[u8],
-    words: &[Word<'_>],
-    start: Option<u32>,
-) -> Result<Handed, AllocError>
+fn as_typed(alloc: Global, line: &[u8], words: &[Word<'_>]) -> Result<Handed, AllocError>
     ensures { IfOk result (λ handed. handed.line.items ≡ line.now ++ 10 ∷ []) }
 {
     let mut copy = Vec::from_slice(alloc, line)?;
     copy.push(b'\n')?;
-    match behind_line(alloc, words, start) {
+    match behind_words(alloc, words) {
         Ok(following) => Ok(Handed {
             line: copy,
             following,
@@ -90,10 +91,12 @@ fn put_help(
     command: &[u8],
     text: &mut Vec<u8>,
 ) -> Result<(), AllocError> {
-    match put_command(alloc, commands, command, text) {
-        Ok(true) => Ok(()),
-        Ok(false) => text.extend_from_slice(UNKNOWN),
-        Err(fault) => Err(fault),
+    let is_listed = put_command(alloc, commands, command, text)?;
+    let is_own = put_command(alloc, OWN, command, text)?;
+    if is_listed || is_own {
+        Ok(())
+    } else {
+        text.extend_from_slice(UNKNOWN)
     }
 }
 
@@ -119,19 +122,26 @@ fn met<W: Sink>(
     setting: Setting<'_>,
     line: &[u8],
     words: &[Word<'_>],
+    goals: &mut Option<Vec<u8>>,
     talk: &mut W,
 ) -> Result<Handed, AllocError> {
     match asked_of(words) {
         SessionWord::Help => {
             let _ = talk.put(setting.commands.as_bytes());
             let _ = talk.put(b"\n");
+            let _ = talk.put(OWN.as_bytes());
+            let _ = talk.put(b"\n");
+            nothing(alloc)
+        }
+        SessionWord::Goals => {
+            *goals = Some(Vec::from_slice(alloc, line)?);
             nothing(alloc)
         }
         SessionWord::HelpOf(command) => match tell_help(alloc, setting.commands, command, talk) {
             Ok(()) => nothing(alloc),
             Err(fault) => Err(fault),
         },
-        _ => as_typed(alloc, line, words, setting.start),
+        _ => as_typed(alloc, line, words),
     }
 }
 
@@ -141,12 +151,13 @@ fn meet_words<W: Sink>(
     setting: Setting<'_>,
     line: &[u8],
     words: &[Word<'_>],
+    goals: &mut Option<Vec<u8>>,
     talk: &mut W,
 ) -> Result<Option<Handed>, AllocError> {
     if let SessionWord::Quit = asked_of(words) {
         return Ok(None);
     }
-    match met(alloc, setting, line, words, talk) {
+    match met(alloc, setting, line, words, goals, talk) {
         Ok(handed) => Ok(Some(handed)),
         Err(fault) => Err(fault),
     }
@@ -157,10 +168,11 @@ fn meet<W: Sink>(
     alloc: Global,
     setting: Setting<'_>,
     line: &[u8],
+    goals: &mut Option<Vec<u8>>,
     talk: &mut W,
 ) -> Result<Option<Handed>, AllocError> {
     match words_of(alloc, line, false) {
-        Ok(words) => meet_words(alloc, setting, line, &words, talk),
+        Ok(words) => meet_words(alloc, setting, line, &words, goals, talk),
         Err(fault) => Err(fault),
     }
 }
@@ -237,10 +249,12 @@ struct Session<'c, R: Source, W> {
     reads: u32,
     /// The number of lines that were typed.
     typed: usize,
-    /// The line that is handed on, how much of it was, and the line that follows its answer.
+    /// The line that is handed on, how much of it was, and what follows its answer.
     line: Vec<u8>,
     given: usize,
-    following: Option<Following>,
+    following: Following,
+    /// The line that named the goals, if one did.
+    goals: Option<Vec<u8>>,
     /// The next line is the rest of one that is too long.
     is_within: bool,
     has_ended: bool,
@@ -263,7 +277,8 @@ impl<'c, R: Source, W: Sink> Session<'c, R, W> {
             typed: 0,
             line: Vec::new(alloc),
             given: 0,
-            following: None,
+            following: Following::Nothing,
+            goals: None,
             is_within: false,
             has_ended: false,
         }
@@ -279,7 +294,7 @@ impl<'c, R: Source, W: Sink> Session<'c, R, W> {
             }
             None => {
                 self.line.clear();
-                self.following = None;
+                self.following = Following::Nothing;
                 self.has_ended = true;
             }
         }
@@ -287,22 +302,41 @@ impl<'c, R: Source, W: Sink> Session<'c, R, W> {
 
     /// Takes the session's own line after an answer, if there is one. Returns whether there is.
     fn own(&mut self, heard: Heard) -> Result<bool, AllocError> {
-        match mem::replace(&mut self.following, None) {
-            Some(Following { behind, line }) if behind == heard => {
-                let following = behind_own(self.alloc, behind, self.setting.start)?;
-                self.take(Some(Handed { line, following }));
+        match mem::replace(&mut self.following, Following::Nothing) {
+            Following::Why(line) if heard == Heard::Conflict => {
+                self.take(Some(Handed {
+                    line,
+                    following: Following::Nothing,
+                }));
                 Ok(true)
             }
+            Following::Goals if heard == Heard::Swept => self.ask(FIRST),
+            Following::Behind(place) => self.ask(next_of(place, heard)),
             _ => Ok(false),
+        }
+    }
+
+    /// Takes the line of a question about one of the goals, if there are so many. Returns whether there are.
+    fn ask(&mut self, place: OfGoal) -> Result<bool, AllocError> {
+        match line_about(self.alloc, &self.goals, self.setting.start, place)? {
+            Some(line) => {
+                self.take(Some(Handed {
+                    line,
+                    following: Following::Behind(place),
+                }));
+                Ok(true)
+            }
+            None => Ok(false),
         }
     }
 
     /// Takes a line that was typed, or the rest of one that is too long.
     fn meet(&mut self, line: Vec<u8>) -> Result<(), AllocError> {
         let handed = if self.is_within {
-            Some(as_typed(self.alloc, &line, &[], None)?)
+            Some(as_typed(self.alloc, &line, &[])?)
         } else {
-            meet(self.alloc, self.setting, &line, &mut self.talk)?
+            let (goals, talk) = (&mut self.goals, &mut self.talk);
+            meet(self.alloc, self.setting, &line, goals, talk)?
         };
         self.is_within = false;
         self.take(handed);
@@ -330,7 +364,7 @@ impl<'c, R: Source, W: Sink> Session<'c, R, W> {
                 self.is_within = true;
                 self.take(Some(Handed {
                     line,
-                    following: None,
+                    following: Following::Nothing,
                 }));
                 Ok(())
             }
@@ -411,7 +445,8 @@ impl<'c, R: Source, W: Sink> Typed<'c, R, W> {
 impl<R: Source + Drop, W: Sink> Typed<'_, R, W> {
     /// Returns the sink of the text beside the answers.
     pub fn into_talk(self) -> W {
-        self.session.talk
+        let session = self.session;
+        session.talk
     }
 }
 
