@@ -72,11 +72,11 @@ fn put_diagram(
         return put_message(file.path, &message, out);
     }
     put_text(file.path.as_bytes(), out)?;
-    out.extend_from_slice(b": it means a diagram that is refused; line ")?;
+    out.extend_from_slice(b": line ")?;
     put_number(message.place.line, out)?;
-    out.extend_from_slice(b" of it is `")?;
+    out.extend_from_slice(b" of the diagram that it means, `")?;
     put_shown(line_at(file.text, message.place.line).bytes, out)?;
-    out.extend_from_slice(b"`\n  hint: ")?;
+    out.extend_from_slice(b"`: ")?;
     out.extend_from_slice(&message.words)
 }
 

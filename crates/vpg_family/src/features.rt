@@ -8,7 +8,7 @@ use std::alloc::{AllocError, Global};
 use vpg_diagram::Diagram;
 use vpg_game::GuardedGame;
 use vpg_guards::{Guard, Tri};
-use vpg_models::{Form, features_in};
+use vpg_models::{Form, attributes_in, features_in};
 use vpg_places::{Declared, LINES, Part, declared_of, form_of, lines_of, words_of};
 use vpg_system::System;
 
@@ -152,6 +152,21 @@ fn declared_in<'t>(
     }
 }
 
+/// Warns of attributes in a model, which are read over.
+fn warn_of_attributes(
+    alloc: Global,
+    source: DiagramSource<'_>,
+    warnings: &mut Warnings,
+) -> Result<(), AllocError>
+    ensures { warnings.new.length ≡ warnings.old.length }
+{
+    let places = attributes_in(alloc, source.form, source.file.text)?;
+    for at in &places {
+        warnings.warn(Sort::Attributes, *at, 0)?;
+    }
+    Ok(())
+}
+
 /// Warns of a diagram, and of its use by guards.
 fn warn_of_diagram(
     alloc: Global,
@@ -165,7 +180,8 @@ fn warn_of_diagram(
     let declared = declared_in(alloc, source, diagram)?;
     warn_of_products(alloc, diagram, &declared, warnings)?;
     let parents = parents_of(alloc, source.meant)?;
-    warn_of_unnamed(named, &parents, &declared, warnings)
+    warn_of_unnamed(named, &parents, &declared, warnings)?;
+    warn_of_attributes(alloc, source, warnings)
 }
 
 /// Returns for each feature whether a guard of a game names it.

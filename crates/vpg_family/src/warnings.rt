@@ -15,6 +15,8 @@ pub enum Sort {
     Dead,
     /// A feature that no guard names.
     Unnamed,
+    /// Attributes of a feature, which are read over.
+    Attributes,
     /// A vertex without moves.
     Stuck,
     /// A start that is no vertex.

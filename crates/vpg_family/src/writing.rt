@@ -20,11 +20,12 @@ use vpg_system::System;
 const MOST_TOLD: usize = 10;
 
 /// The sorts, in the order in which they are written.
-const SORTS: [Sort; 11] = [
+const SORTS: [Sort; 12] = [
     Sort::NoProduct,
     Sort::NoneFound,
     Sort::Dead,
     Sort::Unnamed,
+    Sort::Attributes,
     Sort::Stuck,
     Sort::NoStart,
     Sort::Unreached,
@@ -41,6 +42,7 @@ fn called(sort: Sort) -> &'static [u8] {
         Sort::NoneFound => b"diagrams that may have no product",
         Sort::Dead => b"features that are in no product",
         Sort::Unnamed => b"features that no guard names",
+        Sort::Attributes => b"attributes that are read over",
         Sort::Stuck => b"vertices without moves",
         Sort::NoStart => b"starts that are no vertices",
         Sort::Unreached => b"vertices that cannot be reached from the start",
@@ -214,6 +216,7 @@ fn put_of_feature(features: &Names, warning: Warning, out: &mut Vec<u8>) -> Resu
         ),
         Sort::Dead => put_feature(features, index, b"is in no product", out),
         Sort::Unnamed => put_feature(features, index, b"is named by no guard", out),
+        Sort::Attributes => out.extend_from_slice(b"these attributes are read over"),
         _ => Ok(()),
     }
 }
@@ -258,7 +261,7 @@ fn put_said(
 ) -> Result<(), AllocError> {
     if matches!(
         warning.sort,
-        Sort::NoProduct | Sort::NoneFound | Sort::Dead | Sort::Unnamed
+        Sort::NoProduct | Sort::NoneFound | Sort::Dead | Sort::Unnamed | Sort::Attributes
     ) {
         return put_of_feature(about.features, warning, out);
     }

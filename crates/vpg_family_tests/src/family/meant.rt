@@ -122,8 +122,8 @@ meant.uvl:4:1: the text ends before `features`, the root, or the first member of
         text: "features\n    r\n        [3..4]\n            f\n            g\n",
         told: "\
 vpgdesk: diagram BadRange 2
-meant.uvl: it means a diagram that is refused; line 2 of it is `group r 3 2: f g`
-  hint: found `3`; expected a number that is not above the next
+meant.uvl: line 2 of the diagram that it means, `group r 3 2: f g`: found `3`; expected a number that is not above \
+the next
 ",
     },
     Row {
@@ -238,7 +238,8 @@ fn a_model_is_warned_of_at_its_own_places(rt: HostRuntime) -> Result<(), Fail> {
 warned.uvl:6:13: warning: `h` is in no product
 warned.uvl:6:13: warning: `h` is named by no guard
 warned.uvl:7:13: warning: `i` is named by no guard
-warnings 3
+warned.uvl:4:15: warning: these attributes are read over
+warnings 4
 warned.xml:6:7: warning: `h` is in no product
 warned.xml:6:7: warning: `h` is named by no guard
 warnings 2
