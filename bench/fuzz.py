@@ -50,6 +50,7 @@ FAULTS = {
     "game refused": rb"game (?:(?:Syntax|BadOwner|PriorityTooLarge|TooMany|DoubleVertex|MissingVertex) " + N + rb"|Guard " + N
     + rb" (?:Syntax|UnknownFeature|TooDeep) " + N + rb"|TooWide)",
     "opening refused": rb"Conflict " + NAME,
+    "configuration": rb"configuration [A-Z][A-Za-z]+ [1-9][0-9]*:[1-9][0-9]*",
     "script line": rb"script Line [1-9][0-9]* (?:Word|Args|TooLong)",
     "script read": rb"script Read",
     "write": rb"Write",

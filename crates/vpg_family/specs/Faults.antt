@@ -1,6 +1,10 @@
 -- The line that reports a fault.
-use Rattle.std.specs.Prelude.{ℕ, ◌||◌, ◌==◌, nat_lt, if◌then◌else◌, List, [], ◌∷◌, ◌++◌, map, codes}
+use Rattle.std.specs.Prelude.{ℕ, ◌||◌, ◌==◌, nat_lt, if◌then◌else◌, List, [], ◌∷◌, ◌++◌, map, codes, decimal}
 use Rattle.std.specs.String.{string_bytes}
+use Rattle.vpg_configuration.specs.declared.fault.Reason.{Reason}
+use Rattle.vpg_configuration.specs.declared.fault.Reason.TheVariants as reasons
+use Rattle.vpg_configuration.specs.declared.fault.ConfigurationFault.{ConfigurationFault}
+use Rattle.vpg_configuration.specs.declared.fault.ConfigurationFault.TheVariants as configuration
 use Rattle.vpg_guards.specs.declared.fault.GuardFault.{GuardFault}
 use Rattle.vpg_guards.specs.declared.fault.GuardFault.TheVariants as guard
 use Rattle.vpg_game.specs.declared.fault.GameFault.{GameFault}
@@ -79,6 +83,27 @@ model_text model.TooManyEdges = codes "TooManyEdges"
 model_text model.TooWide = codes "TooWide"
 model_text model.Memory = codes "Memory"
 
+abbrev pub reason_text : Reason → List ℕ
+reason_text reasons.Declaration = codes "Declaration"
+reason_text reasons.Character = codes "Character"
+reason_text reasons.Reference = codes "Reference"
+reason_text reasons.Markup = codes "Markup"
+reason_text reasons.Closing = codes "Closing"
+reason_text reasons.SecondRoot = codes "SecondRoot"
+reason_text reasons.TooDeep = codes "TooDeep"
+reason_text reasons.Outside = codes "Outside"
+reason_text reasons.Unfinished = codes "Unfinished"
+reason_text reasons.UnknownElement = codes "UnknownElement"
+reason_text reasons.UnknownValue = codes "UnknownValue"
+reason_text reasons.NoName = codes "NoName"
+reason_text reasons.BadName = codes "BadName"
+
+-- a reason, and `LINE:COLUMN`
+abbrev pub configuration_text : ConfigurationFault → List ℕ
+configuration_text (configuration.Refused reason line column) =
+    reason_text reason ++ codes " " ++ decimal line ++ codes ":" ++ decimal column
+configuration_text configuration.Memory = codes "Memory"
+
 abbrev pub line_text : LineFault → List ℕ
 line_text stops.Word = codes "Word"
 line_text stops.Args = codes "Args"
@@ -92,7 +117,7 @@ large_text inputs.Requirements = codes "requirements TooLarge"
 large_text inputs.Script = codes "script TooLarge"
 
 -- the text of a fault, which has those of the faults of guards, games, diagrams, feature models, systems, requirements,
--- models and lines as parts
+-- models, configurations and lines as parts
 abbrev pub fault_text : Fault → List ℕ
 fault_text told.DiagramUnreadable = codes "diagram unreadable"
 fault_text (told.Diagram fault) = codes "diagram " ++ diagram_text fault
@@ -105,6 +130,7 @@ fault_text told.RequirementsUnreadable = codes "requirements unreadable"
 fault_text (told.Requirements fault) = codes "requirements " ++ requirements_text fault
 fault_text (told.TooManyParts name) = codes "requirements TooManyParts " ++ name.items
 fault_text (told.Model fault) = codes "model " ++ model_text fault
+fault_text (told.Configuration fault) = codes "configuration " ++ configuration_text fault
 fault_text told.ScriptUnreadable = codes "script unreadable"
 fault_text (told.TooLarge input) = large_text input
 fault_text (told.TooManySigns at) = labelled (codes "game TooManySigns") at

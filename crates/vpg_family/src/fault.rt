@@ -5,6 +5,7 @@ ghost use Rattle.vpg_family.specs.declared.fault.Fault.TheVariants.{Memory};
 use std::alloc::AllocError;
 use std::fmt;
 use thiserror::Error;
+use vpg_configuration::ConfigurationFault;
 use vpg_diagram::DiagramFault;
 use vpg_formula::RequirementFault;
 use vpg_game::GameFault;
@@ -90,6 +91,9 @@ pub enum Fault {
     /// The game of a system and its requirements is beyond the limits of games.
     #[error("model {fault}")]
     Model { fault: ModelFault },
+    /// The file of a configuration is no configuration in the language that its name tells.
+    #[error("configuration {fault}")]
+    Configuration { fault: ConfigurationFault },
     #[error("script unreadable")]
     ScriptUnreadable,
     /// The file has more than 268,435,456 bytes.

@@ -1,15 +1,17 @@
 //! The line that reports a fault.
 ghost use Rattle.std.specs.Prelude.{◌≡◌, [], ◌∷◌, ◌++◌, map, codes, IfOk, OnOk};
 ghost use Rattle.vpg_family.specs.Counts.{labelled};
-ghost use Rattle.vpg_family.specs.Faults.{shown_byte, guard_text, game_text, diagram_text, system_text, requirements_text, model_text, line_text, large_text, fault_text, fault_line};
+ghost use Rattle.vpg_family.specs.Faults.{shown_byte, guard_text, game_text, diagram_text, system_text, requirements_text, model_text, reason_text, configuration_text, line_text, large_text, fault_text, fault_line};
 
 use crate::counts::put_labelled;
 use crate::fault::{Fault, Input};
 use std::alloc::{AllocError, Global};
+use vpg_configuration::{ConfigurationFault, Reason};
 use vpg_diagram::DiagramFault;
 use vpg_formula::RequirementFault;
 use vpg_game::GameFault;
 use vpg_guards::GuardFault;
+use vpg_lint::put_number;
 use vpg_model::ModelFault;
 use vpg_models::put_form_fault;
 use vpg_script::LineFault;
@@ -179,6 +181,65 @@ fn put_model(fault: ModelFault, out: &mut Vec<u8>) -> Result<(), AllocError>
     put_model_fault(fault, out)
 }
 
+/// Returns the word for a reason.
+fn reason_word(reason: Reason) -> &'static [u8]
+    ensures { result.now ≡ reason_text reason }
+{
+    match reason {
+        Reason::Declaration => b"Declaration",
+        Reason::Character => b"Character",
+        Reason::Reference => b"Reference",
+        Reason::Markup => b"Markup",
+        Reason::Closing => b"Closing",
+        Reason::SecondRoot => b"SecondRoot",
+        Reason::TooDeep => b"TooDeep",
+        Reason::Outside => b"Outside",
+        Reason::Unfinished => b"Unfinished",
+        Reason::UnknownElement => b"UnknownElement",
+        Reason::UnknownValue => b"UnknownValue",
+        Reason::NoName => b"NoName",
+        Reason::BadName => b"BadName",
+    }
+}
+
+/// Appends a reason, and `LINE:COLUMN`.
+fn put_reason(
+    reason: Reason,
+    line: usize,
+    column: usize,
+    out: &mut Vec<u8>,
+) -> Result<(), AllocError>
+    ensures { OnOk result (out.new.items
+        ≡ out.old.items ++ configuration_text (ConfigurationFault.Refused reason line column)) }
+{
+    out.extend_from_slice(reason_word(reason))?;
+    out.extend_from_slice(b" ")?;
+    put_number(line, out)?;
+    out.extend_from_slice(b":")?;
+    put_number(column, out)
+}
+
+fn put_configuration_fault(fault: ConfigurationFault, out: &mut Vec<u8>) -> Result<(), AllocError>
+    ensures { OnOk result (out.new.items ≡ out.old.items ++ configuration_text fault) }
+{
+    match fault {
+        ConfigurationFault::Refused {
+            reason,
+            line,
+            column,
+        } => put_reason(reason, line, column, out),
+        ConfigurationFault::Memory => out.extend_from_slice(b"Memory"),
+    }
+}
+
+/// Appends a word and why a text is no configuration.
+fn put_configuration(fault: ConfigurationFault, out: &mut Vec<u8>) -> Result<(), AllocError>
+    ensures { OnOk result (out.new.items ≡ out.old.items ++ codes "configuration " ++ configuration_text fault) }
+{
+    out.extend_from_slice(b"configuration ")?;
+    put_configuration_fault(fault, out)
+}
+
 fn put_line_fault(fault: LineFault, out: &mut Vec<u8>) -> Result<(), AllocError>
     ensures { OnOk result (out.new.items ≡ out.old.items ++ line_text fault) }
 {
@@ -248,6 +309,7 @@ fn put_fault(fault: &Fault, out: &mut Vec<u8>) -> Result<(), AllocError>
         Fault::Requirements { fault } => put_requirements(*fault, out),
         Fault::TooManyParts { name } => put_too_many_parts(name, out),
         Fault::Model { fault } => put_model(*fault, out),
+        Fault::Configuration { fault } => put_configuration(*fault, out),
         Fault::ScriptUnreadable => out.extend_from_slice(b"script unreadable"),
         Fault::TooLarge { input } => put_large(*input, out),
         Fault::TooManySigns { at } => put_labelled(b"game TooManySigns", *at as u64, out),

@@ -87,6 +87,8 @@ desk g d --config c = wrong
 export g d s = export g d s
 export --explain g d s = export g d s, explained
 export --system x --requirements y d s = export --system x --requirements y d s
+export --xml g d s = export g d s, xml
+run g d s --xml = wrong
 export g d = wrong
 export g d s x = wrong
 export g d s --lifters 2 = wrong
@@ -301,6 +303,7 @@ fn put_options(task: &Task<'_>, said: &mut Said) {
             put_where(*names, "names", said);
             put_where(*json, "json", said);
         }
+        Task::Export { xml, .. } => put_where(*xml, "xml", said),
         Task::Project { features, .. } => put_features(features, said),
         Task::Draw { picture, trace, .. } => {
             put_picture(*picture, said);

@@ -9,6 +9,7 @@ use crate::running::script_of;
 use std::alloc::Global;
 use std::sync::Wait;
 use std::thread::Threads;
+use vpg_configuration::ConfigurationForm;
 use vpg_family::{Fault, Known, Paths, Texts, read_script};
 use vpg_report::{End, drawn_after, ended, exported_after, system_drawn_after, traced_after};
 use vpg_serving::Ending;
@@ -68,12 +69,20 @@ pub(crate) fn exported<T: Threads + Wait + Sync>(
     threads: &T,
     alloc: Global,
     paths: Paths<'_>,
+    form: ConfigurationForm,
     script: &str,
     texts: &mut Texts,
 ) -> Result<(Ending, Vec<u8>), Fault> {
     let known = known_of(rt, alloc, paths, texts)?;
     let lines = read_script(rt, script)?;
-    exported_after(threads, alloc, &known.family, &known.context, &lines)
+    exported_after(
+        threads,
+        alloc,
+        &known.family,
+        &known.context,
+        form,
+        &lines,
+    )
 }
 
 /// Writes a picture or a configuration, if it was made, and returns the end of its script.

@@ -3,12 +3,12 @@ ghost use Rattle.std.specs.Arc.{arc_value};
 ghost use Rattle.std.specs.Prelude.{◌≡◌, ◌≤◌};
 ghost use Rattle.vpg_diagram.specs.FeatureDiagram.{feature_count};
 
+use crate::configuring::decisions_of;
 use crate::family::known_of;
 use std::alloc::Global;
 use std::io::{IsTerminal, Read};
 use std::sync::Wait;
 use std::thread::Threads;
-use vpg_configuration::selecting;
 use vpg_family::{Context, Family, Fault, Known, Paths, Pictured, Texts, open_script, read_script};
 use vpg_report::{DIAGRAM, End, GAME, end_of, run_script};
 use vpg_script::{Device, Sink, Source};
@@ -20,7 +20,7 @@ use vpg_terminal::Named;
 pub(crate) struct ScriptRun<'a> {
     pub(crate) paths: Paths<'a>,
     pub(crate) script: &'a str,
-    /// The file of a configuration whose features are selected before the script.
+    /// The file of a configuration that is decided before the script.
     pub(crate) config: Option<&'a str>,
     pub(crate) lifters: u32,
     pub(crate) manner: Manner,
@@ -29,7 +29,7 @@ pub(crate) struct ScriptRun<'a> {
 }
 
 /// Returns the form that answers are asked for in.
-pub(crate) fn form_of(json: bool) -> Form {
+pub(crate) fn answers_in(json: bool) -> Form {
     if json { Form::Json } else { Form::Plain }
 }
 
@@ -129,15 +129,14 @@ fn run_to<T: Threads + Wait + Sync, W: Sink + Drop>(
     requires features { (arc_value known.now.family.game).features ≡ feature_count (arc_value known.now.family.diagram).lines }
 {
     let family = known.family.again()?;
-    let config = script_of(rt, alloc, asked.config)?;
-    let selections = selecting(alloc, &config)?;
+    let decisions = decisions_of(rt, alloc, asked.config)?;
     let file = open_script(rt, asked.script)?;
     run(
         threads,
         alloc,
         family,
         &known.context,
-        Device::reader(selections.as_slice().chain(file)),
+        Device::reader(decisions.as_slice().chain(file)),
         writer,
         asked.lifters,
         asked.manner,

@@ -1,7 +1,8 @@
 //! The tasks of the program's words.
+use crate::configuring::configuration_form;
 use crate::leaving::{drawn_after_files, exported, put_left, traced_files};
 use crate::output::put_made;
-use crate::running::{ScriptRun, form_of, run_built_in, run_files};
+use crate::running::{ScriptRun, answers_in, run_built_in, run_files};
 use crate::texts::{counted, diagram_text, game_text, pictured, projected, warned};
 use crate::typed::{Talk, sit};
 use std::alloc::Global;
@@ -41,7 +42,7 @@ pub(crate) fn carry_out<T: Threads + Wait + Sync>(
                 manner: Manner {
                     is_strict: *strict,
                     goes_on: *keep_going,
-                    form: form_of(*json),
+                    form: answers_in(*json),
                 },
                 is_named: *names,
             };
@@ -56,13 +57,17 @@ pub(crate) fn carry_out<T: Threads + Wait + Sync>(
             let talk = Talk {
                 paths: *paths,
                 lifters: (*lifters).clamp(1, 64),
-                form: form_of(*json),
+                form: answers_in(*json),
                 is_named: *names,
             };
             sit(rt, threads, alloc, talk, texts)
         }
-        Task::Export { paths, script } => {
-            put_left(rt, exported(rt, threads, alloc, *paths, script, texts))
+        Task::Export { paths, script, xml } => {
+            let form = configuration_form(*xml);
+            put_left(
+                rt,
+                exported(rt, threads, alloc, *paths, form, script, texts),
+            )
         }
         Task::Model { paths } => put_made(rt, game_text(rt, alloc, *paths, texts)),
         Task::Diagram { path } => put_made(rt, diagram_text(rt, alloc, path, texts)),

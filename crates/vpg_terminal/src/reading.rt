@@ -342,7 +342,11 @@ fn task_of<'a>(
             names: matches.get_flag("names"),
             json: matches.get_flag("json"),
         })),
-        "export" => Ok(script.map(|script| Task::Export { paths, script })),
+        "export" => Ok(script.map(|script| Task::Export {
+            paths,
+            script,
+            xml: matches.get_flag("xml"),
+        })),
         "model" => Ok(Some(Task::Model { paths })),
         "project" => Ok(Some(Task::Project {
             paths,

@@ -57,6 +57,8 @@ pub enum Task<'a> {
     Export {
         paths: Paths<'a>,
         script: &'a str,
+        /// It is written in FeatureIDE's XML.
+        xml: bool,
     },
     /// The diagram of a file, which may have a feature model that means it.
     Diagram {
@@ -109,6 +111,7 @@ impl Drop for Task<'_> {
             Task::Export {
                 paths: _,
                 script: _,
+                xml: _,
             } => {}
             Task::Model { paths: _ } => {}
             Task::Diagram { path: _ } => {}

@@ -169,7 +169,9 @@ pub(crate) const KEEP_GOING_HELP: &str = "Answer a line with a fault `refused ..
 
 pub(crate) const NAMES_HELP: &str = "Show the names of vertices beside answers";
 
-pub(crate) const CONFIG_HELP: &str = "Select the features that this file names first";
+pub(crate) const CONFIG_HELP: &str = "Decide first as this file does: names, or NAME.xml";
+
+pub(crate) const XML_HELP: &str = "Write FeatureIDE's XML, with decisions, not names";
 
 pub(crate) const JSON_HELP: &str = "Write each answer as an object of JSON in one line";
 

@@ -4,7 +4,7 @@ use crate::usage::{
     DRAWN_SYSTEM_HELP, EXPLAIN_HELP, EXPORT_USAGE, FEATURE_HELP, FEATURES_HELP, GAME_HELP,
     JSON_HELP, KEEP_GOING_HELP, LIFTERS_HELP, LINT_USAGE, MODEL_HELP, NAMES_HELP,
     REQUIREMENTS_HELP, RUN_USAGE, SCRIPT_HELP, STATES_HELP, STRICT_HELP, SYSTEM_HELP,
-    TAKEN_REQUIREMENTS_HELP, TAKEN_SYSTEM_HELP, TRACE_HELP,
+    TAKEN_REQUIREMENTS_HELP, TAKEN_SYSTEM_HELP, TRACE_HELP, XML_HELP,
 };
 
 /// The kind of a command's argument.
@@ -150,6 +150,12 @@ const JSON: Argument = Argument {
     help: JSON_HELP,
 };
 
+const XML: Argument = Argument {
+    kind: Kind::Flag,
+    name: "xml",
+    help: XML_HELP,
+};
+
 const SCRIPT: Argument = Argument {
     kind: Kind::Last,
     name: "SCRIPT",
@@ -250,6 +256,7 @@ pub(crate) static VERBS: [Verb; 9] = [
             SCRIPT,
             TAKEN_SYSTEM,
             TAKEN_REQUIREMENTS,
+            XML,
         ],
     },
     Verb {

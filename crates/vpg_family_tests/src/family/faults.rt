@@ -2,11 +2,12 @@
 use crate::said::Said;
 use std::alloc::Global;
 use std::test::*;
+use vpg_configuration::{ConfigurationFault, Reason};
 use vpg_family::{Fault, Input};
 use vpg_script::LineFault;
 
 /// The number of these faults.
-const FAULTS: u32 = 18;
+const FAULTS: u32 = 19;
 
 /// Returns the fault at a place.
 fn fault_at(place: u32) -> Fault {
@@ -39,6 +40,13 @@ fn fault_at(place: u32) -> Fault {
             input: Input::Script,
         },
         16 => Fault::TooManySigns { at: 8_388_608 },
+        17 => Fault::Configuration {
+            fault: ConfigurationFault::Refused {
+                reason: Reason::UnknownValue,
+                line: 3,
+                column: 14,
+            },
+        },
         _ => Fault::Memory,
     }
 }
@@ -69,6 +77,7 @@ vpgdesk: system TooLarge
 vpgdesk: requirements TooLarge
 vpgdesk: script TooLarge
 vpgdesk: game TooManySigns 8388608
+vpgdesk: configuration UnknownValue 3:14
 vpgdesk: Memory
 vpgdesk: NoTrace possible 0 unsure
 ";

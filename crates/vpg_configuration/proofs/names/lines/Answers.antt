@@ -2,7 +2,7 @@ use Rattle.std.proofs.Common.{rules, tests}
 use Rattle.std.proofs.lemmas.Iterator.Consumers.{map_from_collect}
 use Rattle.std.proofs.lemmas.Iterator.Splits.{YieldsList-from_slice_split}
 use Rattle.vpg_configuration.specs.Configurations.{is_line_end}
-use Rattle.vpg_configuration.proofs.lines.Goals as goal
+use Rattle.vpg_configuration.proofs.names.lines.Goals as goal
 
 pub returns : goal.returns
 returns c =

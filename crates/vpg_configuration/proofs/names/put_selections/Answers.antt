@@ -1,7 +1,7 @@
 use Rattle.std.proofs.Common.{ℕ, List}
 use Rattle.vpg_configuration.specs.Configurations.{selection}
 use Rattle.vpg_configuration.proofs.Growing.{grown_mapped, grown_all_mapped}
-use Rattle.vpg_configuration.proofs.put_selections.Goals as goal
+use Rattle.vpg_configuration.proofs.names.put_selections.Goals as goal
 
 pub loop-line-preserved : goal.loop-line-preserved
 loop-line-preserved c =

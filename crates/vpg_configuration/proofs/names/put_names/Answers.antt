@@ -1,7 +1,7 @@
 use Rattle.std.proofs.Common.{ℕ, List}
 use Rattle.vpg_configuration.specs.Configurations.{name_line}
 use Rattle.vpg_configuration.proofs.Growing.{grown_mapped, grown_all_mapped}
-use Rattle.vpg_configuration.proofs.put_names.Goals as goal
+use Rattle.vpg_configuration.proofs.names.put_names.Goals as goal
 
 pub loop-name-preserved : goal.loop-name-preserved
 loop-name-preserved c =

@@ -1,0 +1,15 @@
+-- Statements of the laws.
+use Rattle.std.specs.Prelude.{◌≡◌, List, true}
+use Rattle.std.specs.List.{list_all}
+use Rattle.vpg_featureide.specs.Model.{is_name}
+use Rattle.vpg_configuration.specs.Deciding.{Decides}
+use Rattle.vpg_configuration.specs.Documents.{Setting, document_text, decision_lines}
+
+-- each name is a feature name
+abbrev pub AreNamed : List Setting → Type 0
+AreNamed settings = list_all (λ s. is_name s.name) settings ≡ true
+
+-- a document that is written of settings decides what a person decided in them
+abbrev pub WrittenDecisionsReadBack : Type 0
+WrittenDecisionsReadBack =
+    (settings : List Setting) → AreNamed settings → Decides (document_text settings) (decision_lines settings)
