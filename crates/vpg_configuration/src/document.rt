@@ -29,6 +29,7 @@ fn has_decision(words: &[&[u8]], sign: u8, name: &[u8]) -> bool
 }
 
 /// Returns what a person selected, if these words are the decisions.
+#[tactic(auto, using(crate::proofs::Documented::any_of))]
 fn decided_by(decisions: &[&[u8]], name: &[u8]) -> Selection
     ensures { result ≡ decided_by (map (λ w. w.now) decisions.now) name.now }
 {
@@ -89,6 +90,7 @@ fn put_settings(
 }
 
 /// Appends the document of the features that are known to be in, known to be out, and neither.
+#[tactic(auto, using(crate::proofs::Documented::document_parts))]
 fn put_document(
     decisions: &[&[u8]],
     known: &[&[u8]],
@@ -151,7 +153,7 @@ fn last_decisions<'l>(lines: &[&'l [u8]]) -> &'l [u8]
     let mut found: &[u8] = &[];
     for line in lines {
         if has_decisions(line) {
-            found = line;
+            found = *line;
         }
     }
     found

@@ -8,8 +8,8 @@
 //! each feature what is known of it, and whether a person or propagation decided it.
 //!
 //! Definitions stand in `specs/`: `Configurations` (lists of names), `Deciding` (which document decides what, and its
-//! faults), `Documents` (how a document is written), `Forms`. `laws` says that a document that is written makes the
-//! decisions that it was written of.
+//! faults), `Documents` (how a document is written), `Forms`. `laws` says that what is
+//! written in each form is read back as the same decisions.
 #![tactic(auto)]
 
 mod deciding;

@@ -1,0 +1,5 @@
+use Rattle.vpg_configuration.proofs.NamesBack.{names_back}
+use Rattle.vpg_configuration.proofs.laws.written_names_read_back.Goals as goal
+
+pub returns : goal.returns
+returns c = names_back
