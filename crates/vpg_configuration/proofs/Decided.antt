@@ -1,5 +1,5 @@
 -- Faults of configurations, and lines of the one document that a text spells.
-use Rattle.std.proofs.Common.{◌≡◌, ℕ, List, Result, Ok, Err, inl, inr, refl, sym, ap, ◌∙◌}
+use Rattle.std.proofs.Common.{◌≡◌, ℕ, List, Ok, Err, inl, inr, refl, sym, ap, ◌∙◌}
 use Rattle.vpg_xml.specs.Elements.{Document}
 use Rattle.vpg_xml.specs.Faults.{IsAt}
 use Rattle.vpg_xml.specs.Nesting.{Spells}

@@ -1,38 +1,41 @@
--- Decisions among words, and documents in pieces.
-use Rattle.std.proofs.Common.{◌≡◌, ℕ, Bool, ◌||◌, List, [], ◌∷◌, ◌++◌, map, flat_map, refl, sym, ap, ◌∙◌, append_assoc}
+-- Decisions among words, and the lines of a document in its parts.
+use Rattle.std.proofs.Common.{◌≡◌, ℕ, Bool, true, false, cond, ◌||◌, List, [], ◌∷◌, ◌++◌, map, flat_map, refl, sym, ap, ◌∙◌}
 use Rattle.std.specs.Borrow.{Bor}
-use Rattle.std.specs.Prelude.{codes}
 use Rattle.std.specs.List.{list_any}
 use Rattle.std.proofs.lemmas.Grind.{flat_map-append}
-use Rattle.vpg_configuration.specs.Documents.{Setting, setting_line, document_text}
+use Rattle.vpg_configuration.specs.Deciding.{Selection, Selected, Unselected, Undefined}
+use Rattle.vpg_configuration.specs.Documents.{Setting, setting_line, is_decision, decided_by}
 
-pub any_of : (test : List ℕ → Bool) (ws : List (Bor (List ℕ))) → list_any (λ w. test w.now) ws ≡ list_any test (map (λ w. w.now) ws)
+any_of : (test : List ℕ → Bool) (ws : List (Bor (List ℕ))) → list_any (λ w. test w.now) ws ≡ list_any test (map (λ w. w.now) ws)
 any_of test [] = refl
 any_of test (w ∷ ws) = ap (λ (t : Bool). test w.now || t) (any_of test ws)
 
--- a document in its parts
-pub document_parts : (a b c : List Setting) → document_text (a ++ (b ++ c))
-    ≡ codes "<?xml version=\"1.0\" encoding=\"UTF-8\" standalone=\"no\"?>\n<configuration>\n" ++ (flat_map setting_line a ++ (flat_map setting_line b ++ (flat_map setting_line c ++ codes "</configuration>\n")))
-document_parts a b c =
-    let x : List ℕ = flat_map setting_line a in
-    let y : List ℕ = flat_map setting_line b in
-    let z : List ℕ = flat_map setting_line c in
-    let end : List ℕ = codes "</configuration>\n" in
-    let all : flat_map setting_line (a ++ (b ++ c)) ≡ x ++ (y ++ z) = flat_map-append setting_line a (b ++ c) ∙ ap (λ (t : List ℕ). x ++ t) (flat_map-append setting_line b c) in
-    ap (λ (t : List ℕ). codes "<?xml version=\"1.0\" encoding=\"UTF-8\" standalone=\"no\"?>\n<configuration>\n" ++ t)
-    (ap (λ (t : List ℕ). t ++ end) all ∙ (append_assoc x (y ++ z) end ∙ ap (λ (t : List ℕ). x ++ t) (append_assoc y z end)))
+abbrev Words : Type 0
+Words = List (Bor (List ℕ))
 
--- the same behind what was written before
-pub put_parts : (old : List ℕ) (a b c : List Setting) →
-    ((((old ++ codes "<?xml version=\"1.0\" encoding=\"UTF-8\" standalone=\"no\"?>\n<configuration>\n") ++ flat_map setting_line a) ++ flat_map setting_line b) ++ flat_map setting_line c) ++ codes "</configuration>\n"
-    ≡ old ++ document_text (a ++ (b ++ c))
-put_parts old a b c =
-    let head : List ℕ = codes "<?xml version=\"1.0\" encoding=\"UTF-8\" standalone=\"no\"?>\n<configuration>\n" in
-    let x : List ℕ = flat_map setting_line a in
-    let y : List ℕ = flat_map setting_line b in
-    let z : List ℕ = flat_map setting_line c in
-    let end : List ℕ = codes "</configuration>\n" in
-    append_assoc (((old ++ head) ++ x) ++ y) z end
-    ∙ (append_assoc ((old ++ head) ++ x) y (z ++ end)
-    ∙ (append_assoc (old ++ head) x (y ++ (z ++ end))
-    ∙ (append_assoc old head (x ++ (y ++ (z ++ end))) ∙ ap (λ (t : List ℕ). old ++ t) (sym (document_parts a b c)))))
+-- whether one of these words is the decision with this sign of a feature
+abbrev has : ℕ → List ℕ → Words → Bool
+has sign name ws = list_any (λ w. is_decision sign name w.now) ws
+
+abbrev by_words : (name : List ℕ) → Words → Selection
+by_words name ws = decided_by (map (λ w. w.now) ws) name
+
+pub decided_in : (ws : Words) (name : List ℕ) → has 43 name ws ≡ true → Selected ≡ by_words name ws
+decided_in ws name e =
+    let rest : Selection = cond (list_any (is_decision 45 name) (map (λ w. w.now) ws)) Unselected Undefined in
+    sym (ap (λ (t : Bool). cond t Selected rest) (sym (any_of (is_decision 43 name) ws) ∙ e))
+
+not_in : (ws : Words) (name : List ℕ) → has 43 name ws ≡ false → by_words name ws ≡ cond (list_any (is_decision 45 name) (map (λ w. w.now) ws)) Unselected Undefined
+not_in ws name e =
+    let rest : Selection = cond (list_any (is_decision 45 name) (map (λ w. w.now) ws)) Unselected Undefined in
+    ap (λ (t : Bool). cond t Selected rest) (sym (any_of (is_decision 43 name) ws) ∙ e)
+
+pub decided_out : (ws : Words) (name : List ℕ) → has 43 name ws ≡ false → has 45 name ws ≡ true → Unselected ≡ by_words name ws
+decided_out ws name e f = sym (not_in ws name e ∙ ap (λ (t : Bool). cond t Unselected Undefined) (sym (any_of (is_decision 45 name) ws) ∙ f))
+
+pub undecided : (ws : Words) (name : List ℕ) → has 43 name ws ≡ false → has 45 name ws ≡ false → Undefined ≡ by_words name ws
+undecided ws name e f = sym (not_in ws name e ∙ ap (λ (t : Bool). cond t Unselected Undefined) (sym (any_of (is_decision 45 name) ws) ∙ f))
+
+-- the lines of features in three parts
+pub three_parts : (a b c : List Setting) → flat_map setting_line (a ++ b ++ c) ≡ flat_map setting_line a ++ flat_map setting_line b ++ flat_map setting_line c
+three_parts a b c = flat_map-append setting_line (a ++ b) c ∙ ap (λ (t : List ℕ). t ++ flat_map setting_line c) (flat_map-append setting_line a b)

@@ -1,5 +1,5 @@
 -- A document that is written of settings is read back as their decisions.
-use Rattle.std.proofs.Common.{◌≡◌, ℕ, zero, suc, ◌+◌, ◌-◌, ◌<◌, ◌≤◌, Bool, true, false, cond, not, ◌&&◌, ◌||◌, ◌==◌, List, [], ◌∷◌, ◌++◌, length, map, flat_map, Option, Some, None, Result, Ok, Err, refl, sym, ap, ap₂, subst, ◌∙◌, arith, append_assoc}
+use Rattle.std.proofs.Common.{◌≡◌, ℕ, zero, suc, ◌-◌, ◌<◌, Bool, true, false, cond, not, ◌&&◌, ◌==◌, List, [], ◌∷◌, ◌++◌, length, flat_map, Option, Some, None, Result, Ok, Err, refl, sym, ap, ap₂, subst, ◌∙◌, arith, append_assoc}
 use Rattle.std.specs.Prelude.{codes, nat_le, is_some}
 use Rattle.std.specs.List.{list_all}
 use Rattle.std.proofs.lemmas.List.{append-nil, length-append}
@@ -8,15 +8,15 @@ use Rattle.std.proofs.lemmas.Bool.Decides.{nat_tests}
 use Rattle.vpg_features.specs.Names.{is_name_byte, starts_as_name, constant_of}
 use Rattle.vpg_features.proofs.Held.{both_true}
 use Rattle.vpg_featureide.specs.Model.{is_name}
-use Rattle.vpg_xml.specs.Elements.{Attribute, Tag, Element, Document, Piece, Placed, opening, closing, character}
-use Rattle.vpg_xml.specs.Tokens.{◌>>=◌, is_plain, reference_at, character_at, value_with, quoted_at, after_gap, after_name, after_sign, name_in, place_of, has_attribute, is_new, attribute_at, attributes_with, attributes_at, ending_at, Token, a_character, a_start, an_end, token_at, pieces_of, HasPieces, no_token, one_token, body_of}
-use Rattle.vpg_xml.specs.Nesting.{element, Spells}
-use Rattle.vpg_xml.specs.Reading.{Frame, State, start, more_text, run}
+use Rattle.vpg_xml.specs.Elements.{Attribute, Tag, Element, Document, Placed, opening, closing, character}
+use Rattle.vpg_xml.specs.Tokens.{◌>>=◌, is_plain, reference_at, character_at, value_with, quoted_at, after_gap, after_name, after_sign, name_in, place_of, has_attribute, is_new, attribute_at, attributes_at, ending_at, Token, a_character, a_start, an_end, token_at, pieces_of, HasPieces, no_token, one_token, body_of}
+use Rattle.vpg_xml.specs.Nesting.{element}
+use Rattle.vpg_xml.specs.Reading.{State, start, more_text, run}
 use Rattle.vpg_xml.specs.View.{is_whole}
 use Rattle.vpg_xml.proofs.Turns.{attributes_end, attributes_more}
 use Rattle.vpg_xml.proofs.StepCode.{run_one, run_empty}
 use Rattle.vpg_xml.proofs.Contents.{run_end, run_after, document_found}
-use Rattle.vpg_configuration.specs.Deciding.{TextFault, Refused, Selection, Selected, Unselected, Undefined, selection_word, decision_line, feature_line, with_line, and_then, step, lines_with, Decides}
+use Rattle.vpg_configuration.specs.Deciding.{TextFault, Selection, Selected, Unselected, Undefined, selection_word, decision_line, feature_line, with_line, and_then, step, lines_with, Decides}
 use Rattle.vpg_configuration.specs.Documents.{Setting, setting_line, document_text, decision_lines}
 use Rattle.vpg_configuration.specs.Laws.{AreNamed}
 
@@ -148,14 +148,26 @@ from_automatic s x = codes " automatic=\"" ++ (selection_word s.automatic ++ 34 
 
 line_is : (s : Setting) (x : List ℕ) → setting_line s ++ x ≡ codes "\t<feature" ++ from_automatic s x
 line_is s x =
-    let q : List ℕ = codes "\" name=\"" ++ (s.name ++ codes "\"/>\n") in
-    let p : List ℕ = codes "\" manual=\"" ++ (selection_word s.manual ++ q) in
-    ap (λ (t : List ℕ). codes "\t<feature automatic=\"" ++ t) (append_assoc (selection_word s.automatic) p x
-    ∙ ap (λ (t : List ℕ). selection_word s.automatic ++ (codes "\" manual=\"" ++ t)) (append_assoc (selection_word s.manual) q x
-    ∙ ap (λ (t : List ℕ). selection_word s.manual ++ (codes "\" name=\"" ++ t)) (append_assoc s.name (codes "\"/>\n") x)))
+    let a : List ℕ = selection_word s.automatic in
+    let b : List ℕ = codes "\" manual=\"" in
+    let c : List ℕ = selection_word s.manual in
+    let d : List ℕ = codes "\" name=\"" in
+    let e : List ℕ = codes "\"/>\n" in
+    ap (λ (t : List ℕ). codes "\t<feature automatic=\"" ++ t)
+    (append_assoc ((((a ++ b) ++ c) ++ d) ++ s.name) e x
+    ∙ (append_assoc (((a ++ b) ++ c) ++ d) s.name (e ++ x)
+    ∙ (append_assoc ((a ++ b) ++ c) d (s.name ++ (e ++ x))
+    ∙ (append_assoc (a ++ b) c (d ++ (s.name ++ (e ++ x))) ∙ append_assoc a b (c ++ (d ++ (s.name ++ (e ++ x))))))))
 
 abbrev tagged : List ℕ → List Attribute → Tag
 tagged name attributes = record { name = name; attributes = attributes }
+
+-- what stands behind attributes, and behind a tag
+abbrev tag_behind : List ℕ → List Attribute × List ℕ → Option (Tag × List ℕ)
+tag_behind name a = Some (tagged name a.0, a.1)
+
+abbrev token_behind : Tag × List ℕ → Option (Token × List ℕ)
+token_behind t = ending_at (after_gap t.1) >>= λ e. Some (a_start t.0 e.0, e.1)
 
 abbrev setting_tag : ℕ → Setting → List ℕ → Tag
 setting_tag size s x = tagged (codes "feature")
@@ -171,23 +183,27 @@ feature_token size s x named =
     record { has = refl; behind = refl; named = refl; plain = plain_word s.manual; longer = longer_by (codes " manual=\"") (selection_word s.manual) (from_name s x) } in
     let b2 : Begins (from_name s x) (codes "name") s.name (codes "/>\n" ++ x) =
     record { has = refl; behind = refl; named = refl; plain = plain_name s.name named; longer = longer_by (codes " name=\"") s.name (codes "/>\n" ++ x) } in
-    ap (λ (o : Option (List Attribute × List ℕ)). (o >>= λ a. Some (tagged (codes "feature") a.0, a.1)) >>= λ t. ending_at (after_gap t.1) >>= λ e. Some (a_start t.0 e.0, e.1))
+    ap (λ (o : Option (List Attribute × List ℕ)). (o >>= tag_behind (codes "feature")) >>= token_behind)
     (three_read size b0 b1 b2 refl refl refl refl)
 
 -- ---- lines of a script
 
+abbrev Read : Type 0
+Read = Result (List ℕ) TextFault
+
+said_alone : (r : Read) → and_then r (λ (lines : List ℕ). Ok lines) ≡ r
+said_alone (Ok lines) = refl
+said_alone (Err fault) = refl
+
+said_more : (es : Document) (e : Element) → ((lines : List ℕ) → lines_with lines (es ++ e ∷ []) ≡ and_then (lines_with lines es) (λ lines. step lines e)) → (r : Read) →
+    and_then r (λ lines. lines_with lines (es ++ e ∷ [])) ≡ and_then (and_then r (λ lines. lines_with lines es)) (λ lines. step lines e)
+said_more es e later (Ok lines) = later lines
+said_more es e later (Err fault) = refl
+
 -- one more element
 lines_more : (before : List ℕ) (es : Document) (e : Element) → lines_with before (es ++ e ∷ []) ≡ and_then (lines_with before es) (λ lines. step lines e)
-lines_more before [] e = go (step before e)
-  where
-    go : (r : Result (List ℕ) TextFault) → and_then r (λ (lines : List ℕ). Ok lines) ≡ r
-    go (Ok lines) = refl
-    go (Err fault) = refl
-lines_more before (d ∷ es) e = go (step before d)
-  where
-    go : (r : Result (List ℕ) TextFault) → and_then r (λ lines. lines_with lines (es ++ e ∷ [])) ≡ and_then (and_then r (λ lines. lines_with lines es)) (λ lines. step lines e)
-    go (Ok lines) = lines_more lines es e
-    go (Err fault) = refl
+lines_more before [] e = said_alone (step before e)
+lines_more before (d ∷ es) e = said_more es e (λ lines. lines_more lines es e) (step before d)
 
 if_true : {A : Type 0} (t : Bool) (x y : A) → t ≡ true → cond t x y ≡ x
 if_true t x y e = ap (λ (t : Bool). cond t x y) e
@@ -285,7 +301,7 @@ tail_settings size (s ∷ settings) root es before named says =
 start_token : (size : ℕ) (x : List ℕ) → token_at size (codes "<configuration>\n" ++ x) ≡ Some (a_start (tagged (codes "configuration") []) false, codes "\n" ++ x)
 start_token size x =
     let r : List ℕ = codes ">\n" ++ x in
-    ap (λ (o : Option (List Attribute × List ℕ)). (o >>= λ a. Some (tagged (codes "configuration") a.0, a.1)) >>= λ t. ending_at (after_gap t.1) >>= λ e. Some (a_start t.0 e.0, e.1))
+    ap (λ (o : Option (List Attribute × List ℕ)). (o >>= tag_behind (codes "configuration")) >>= token_behind)
     (sym (attributes_end (length r) size [] r refl))
 
 pub read_back : (settings : List Setting) → AreNamed settings → Decides (document_text settings) (decision_lines settings)

@@ -8,9 +8,6 @@ use crate::names::{behind_first, is_first, lines, words};
 use crate::selection::{Selection, is_same, word_of};
 use std::alloc::{AllocError, Global};
 
-const HEAD: &[u8] =
-    b"<?xml version=\"1.0\" encoding=\"UTF-8\" standalone=\"no\"?>\n<configuration>\n";
-
 /// Whether a word is the decision with this sign, `+` or `-`, of a feature.
 fn is_decision(sign: u8, name: &[u8], word: &[u8]) -> bool
     ensures { result ≡ is_decision sign name.now word.now }
@@ -29,7 +26,6 @@ fn has_decision(words: &[&[u8]], sign: u8, name: &[u8]) -> bool
 }
 
 /// Returns what a person selected, if these words are the decisions.
-#[tactic(auto, using(crate::proofs::Documented::any_of))]
 fn decided_by(decisions: &[&[u8]], name: &[u8]) -> Selection
     ensures { result ≡ decided_by (map (λ w. w.now) decisions.now) name.now }
 {
@@ -52,6 +48,25 @@ fn followed(manual: Selection, known: Selection) -> Selection
     }
 }
 
+/// Appends the line of a feature with these selections.
+fn put_selections(
+    automatic: Selection,
+    manual: Selection,
+    name: &[u8],
+    out: &mut Vec<u8>,
+) -> Result<(), AllocError>
+    ensures { OnOk result (out.new.items ≡ out.old.items
+        ++ setting_line (record { name = name.now; automatic = automatic; manual = manual })) }
+{
+    out.extend_from_slice(b"\t<feature automatic=\"")?;
+    out.extend_from_slice(word_of(automatic))?;
+    out.extend_from_slice(b"\" manual=\"")?;
+    out.extend_from_slice(word_of(manual))?;
+    out.extend_from_slice(b"\" name=\"")?;
+    out.extend_from_slice(name)?;
+    out.extend_from_slice(b"\"/>\n")
+}
+
 /// Appends the line of a feature of which this is known.
 fn put_setting(
     decisions: &[&[u8]],
@@ -63,13 +78,7 @@ fn put_setting(
         ++ setting_line (setting_of (map (λ w. w.now) decisions.now) known name.now)) }
 {
     let manual = decided_by(decisions, name);
-    out.extend_from_slice(b"\t<feature automatic=\"")?;
-    out.extend_from_slice(word_of(followed(manual, known)))?;
-    out.extend_from_slice(b"\" manual=\"")?;
-    out.extend_from_slice(word_of(manual))?;
-    out.extend_from_slice(b"\" name=\"")?;
-    out.extend_from_slice(name)?;
-    out.extend_from_slice(b"\"/>\n")
+    put_selections(followed(manual, known), manual, name, out)
 }
 
 /// Appends the lines of features of which this is known.
@@ -89,8 +98,26 @@ fn put_settings(
     Ok(())
 }
 
+/// Appends the lines of the features that are known to be in, known to be out, and neither.
+#[tactic(auto, using(crate::proofs::Documented::three_parts))]
+fn put_all(
+    decisions: &[&[u8]],
+    known: &[&[u8]],
+    excluded: &[&[u8]],
+    left: &[&[u8]],
+    out: &mut Vec<u8>,
+) -> Result<(), AllocError>
+    ensures { OnOk result (out.new.items ≡ out.old.items ++ flat_map setting_line
+        (map (setting_of (map (λ w. w.now) decisions.now) Selection.Selected) (map (λ w. w.now) known.now)
+        ++ map (setting_of (map (λ w. w.now) decisions.now) Selection.Unselected) (map (λ w. w.now) excluded.now)
+        ++ map (setting_of (map (λ w. w.now) decisions.now) Selection.Undefined) (map (λ w. w.now) left.now))) }
+{
+    put_settings(decisions, Selection::Selected, known, out)?;
+    put_settings(decisions, Selection::Unselected, excluded, out)?;
+    put_settings(decisions, Selection::Undefined, left, out)
+}
+
 /// Appends the document of the features that are known to be in, known to be out, and neither.
-#[tactic(auto, using(crate::proofs::Documented::document_parts))]
 fn put_document(
     decisions: &[&[u8]],
     known: &[&[u8]],
@@ -103,10 +130,10 @@ fn put_document(
         ++ map (setting_of (map (λ w. w.now) decisions.now) Selection.Unselected) (map (λ w. w.now) excluded.now)
         ++ map (setting_of (map (λ w. w.now) decisions.now) Selection.Undefined) (map (λ w. w.now) left.now))) }
 {
-    out.extend_from_slice(HEAD)?;
-    put_settings(decisions, Selection::Selected, known, out)?;
-    put_settings(decisions, Selection::Unselected, excluded, out)?;
-    put_settings(decisions, Selection::Undefined, left, out)?;
+    out.extend_from_slice(
+        b"<?xml version=\"1.0\" encoding=\"UTF-8\" standalone=\"no\"?>\n<configuration>\n",
+    )?;
+    put_all(decisions, known, excluded, left, out)?;
     out.extend_from_slice(b"</configuration>\n")
 }
 

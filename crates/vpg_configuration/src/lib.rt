@@ -12,17 +12,17 @@
 //! written in each form is read back as the same decisions.
 #![tactic(auto)]
 
-mod deciding;
 mod document;
 mod fault;
 mod form;
 pub mod laws;
 mod names;
+mod reading;
 mod selection;
 
-pub use deciding::deciding;
 pub use document::document_in;
 pub use fault::{ConfigurationFault, Reason};
 pub use form::{ConfigurationForm, asking, exported_in, form_of};
 pub use names::{configuration_in, selecting};
+pub use reading::deciding;
 pub use selection::Selection;

@@ -1,4 +1,4 @@
-use Rattle.std.proofs.Common.{ℕ, List, map}
+use Rattle.std.proofs.Common.{map}
 use Rattle.vpg_configuration.specs.Documents.{setting_line, setting_of}
 use Rattle.vpg_configuration.proofs.Growing.{grown_twice, grown_all_twice}
 use Rattle.vpg_configuration.proofs.document.put_settings.Goals as goal

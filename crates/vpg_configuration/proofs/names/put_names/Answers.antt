@@ -1,4 +1,3 @@
-use Rattle.std.proofs.Common.{ℕ, List}
 use Rattle.vpg_configuration.specs.Configurations.{name_line}
 use Rattle.vpg_configuration.proofs.Growing.{grown_mapped, grown_all_mapped}
 use Rattle.vpg_configuration.proofs.names.put_names.Goals as goal

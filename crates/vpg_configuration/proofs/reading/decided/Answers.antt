@@ -4,7 +4,7 @@ use Rattle.vpg_xml.specs.View.{elements_of}
 use Rattle.vpg_xml.proofs.StepCode.{if_ok_of, if_err_by}
 use Rattle.vpg_configuration.specs.Deciding.{lines_of, of_xml, IsTextFault}
 use Rattle.vpg_configuration.proofs.Decided.{refused_as, faulty, xml_fault}
-use Rattle.vpg_configuration.proofs.deciding.decided.Goals as goal
+use Rattle.vpg_configuration.proofs.reading.decided.Goals as goal
 
 pub returns-in-Ok-clause-only : goal.returns-in-Ok-clause-only
 returns-in-Ok-clause-only c d k =

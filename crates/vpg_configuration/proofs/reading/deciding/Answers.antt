@@ -1,7 +1,7 @@
-use Rattle.std.proofs.Common.{sym, ap, ◌∙◌}
+use Rattle.std.proofs.Common.{ap, ◌∙◌}
 use Rattle.vpg_configuration.specs.Deciding.{told}
 use Rattle.vpg_configuration.proofs.Decided.{same_lines, only_memory}
-use Rattle.vpg_configuration.proofs.deciding.deciding.Goals as goal
+use Rattle.vpg_configuration.proofs.reading.deciding.Goals as goal
 
 pub returns-in-Ok-clause-only : goal.returns-in-Ok-clause-only
 returns-in-Ok-clause-only c lines k = same_lines k.document c.in-Ok.lines.items lines (c.in-Ok.ensures.only k.document k.spells) k.is
