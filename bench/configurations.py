@@ -1,9 +1,10 @@
 #!/usr/bin/env python3
 """Configurations in FeatureIDE's XML, read by Python's own parser.
 
-    configurations.py VPGDESK CASES [SEED]   random diagrams and scripts: `export --xml` says of each feature what `show`
-                                             and `products` say of it, and `run --config` makes the same decisions again;
-                                             mutated documents are read or refused as here
+    configurations.py VPGDESK CASES [SEED]
+
+Over random diagrams and scripts: `export --xml` says of each feature what `show` and `products` say of it, and `run
+--config` makes the same decisions again. Mutated documents are read or refused as here.
 """
 import os
 import random
@@ -29,7 +30,8 @@ def random_diagram(rng):
 def random_script(rng):
     lines = []
     for _ in range(rng.randint(0, 6)):
-        lines.append(rng.choice(("select", "select", "exclude", "exclude", "retract", "known")) + " " + rng.choice(NAMES))
+        word = rng.choice(("select", "select", "exclude", "exclude", "retract", "known"))
+        lines.append(f"{word} {rng.choice(NAMES)}")
     return "\n".join(lines + rng.choice(([], ["settle"], ["undo", "redo"]))) + rng.choice(("", "\n"))
 
 
@@ -54,8 +56,8 @@ def decided(text):
 
 
 def mutated(rng, text):
-    pieces = ("<feature/>", 'manual="', "undefined", "selected", "<!-- x -->", "<", ">", '"', "/", "\n", "x", "&lt;", "<a/>",
-              '<feature name="f1" manual="selected"/>', "<configuration>", "</configuration>", "feature", " ")
+    pieces = ("<feature/>", 'manual="', "undefined", "selected", "<!-- x -->", "<", ">", '"', "/", "\n", "x", "&lt;",
+              '<feature name="f1" manual="selected"/>', "<configuration>", "</configuration>", "feature", " ", "<a/>")
     for _ in range(rng.randint(1, 2)):
         at = rng.randint(0, len(text))
         text = text[:at] + (rng.choice(pieces) if rng.random() < 0.6 else "") + text[at + rng.choice((0, 0, 1, 5)):]

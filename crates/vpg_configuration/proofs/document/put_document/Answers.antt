@@ -14,8 +14,8 @@ returns c =
     let x3 : List ℕ = c.extend_from_slice-2.new.self.items in
     let decisions : List (List ℕ) = map (λ w. w.now) c.args.decisions.now in
     let settings : List Setting =
-        map (setting_of decisions Selected) (map (λ w. w.now) c.args.known.now) ++ map (setting_of decisions Unselected) (map (λ w. w.now) c.args.excluded.now)
-        ++ map (setting_of decisions Undefined) (map (λ w. w.now) c.args.left.now) in
+    map (setting_of decisions Selected) (map (λ w. w.now) c.args.known.now) ++ map (setting_of decisions Unselected) (map (λ w. w.now) c.args.excluded.now)
+    ++ map (setting_of decisions Undefined) (map (λ w. w.now) c.args.left.now) in
     let head : List ℕ = codes "<?xml version=\"1.0\" encoding=\"UTF-8\" standalone=\"no\"?>\n<configuration>\n" in
     let p1 : x1 ≡ o ++ head = c.in_ok-extend_from_slice.ensures.items in
     let p2 : x2 ≡ o ++ (head ++ flat_map setting_line settings) = more o head x1 x2 (flat_map setting_line settings) p1 c.in_ok-put_all.ensures in
