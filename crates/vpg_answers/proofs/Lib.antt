@@ -1,3 +1,4 @@
+pub mod Adding
 pub mod Asserted
 pub mod Looked
 pub mod Moving

@@ -16,13 +16,13 @@
 //! is left.
 //!
 //! An answer is a function of the page if no limit was met (`laws::answers_are_one`), and none is met if the limits
-//! leave room. If one was, the text says so. ` or fewer` marks decisions that suffice, some perhaps needlessly; ` or
-//! more` lines to which others may belong, or a number that may be greater; `some product` one that need not be the
-//! first; `unsettled` a fact that was not shown.
+//! leave room. Numbers of parts then add up (`laws::numbers_add_up`). If one was met, the text says so. ` or fewer`
+//! marks decisions that suffice, some perhaps needlessly; ` or more` lines to which others may belong, or a number that
+//! may be greater; `some product` one that need not be the first; `unsettled` a fact that was not shown.
 //!
 //! The texts are defined in `specs/Texts`, their meaning for a page in `specs/Answers`, `specs/Offers`,
 //! `specs/Repairs`, `specs/Parts`, `specs/Numbers`, `specs/Winners`, `specs/Asserted` and `specs/Looked`, and the room
-//! of limits in `specs/Room`. All are this project's own.
+//! of limits in `specs/Room`. `specs/Laws` and `specs/Adding` have the laws. All are this project's own.
 #![tactic(auto)]
 
 mod answering;
