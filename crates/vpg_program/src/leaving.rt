@@ -75,14 +75,7 @@ pub(crate) fn exported<T: Threads + Wait + Sync>(
 ) -> Result<(Ending, Vec<u8>), Fault> {
     let known = known_of(rt, alloc, paths, texts)?;
     let lines = read_script(rt, script)?;
-    exported_after(
-        threads,
-        alloc,
-        &known.family,
-        &known.context,
-        form,
-        &lines,
-    )
+    exported_after(threads, alloc, &known.family, &known.context, form, &lines)
 }
 
 /// Writes a picture or a configuration, if it was made, and returns the end of its script.

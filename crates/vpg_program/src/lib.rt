@@ -18,8 +18,8 @@
 //! ends with another status.
 //!
 //! `words` reads the words and reports what fails. `tasks` has a function of another module carry each task out:
-//! `running` runs scripts, after a configuration of `configuring`, `typed` answers a person at a terminal, `texts` writes what files alone decide, and
-//! `leaving` what a script leaves.
+//! `running` runs scripts, after a configuration of `configuring`; `typed` answers a person at a terminal; `texts`
+//! writes what files alone decide, and `leaving` what a script leaves.
 #![tactic(auto)]
 
 mod configuring;

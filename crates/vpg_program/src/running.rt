@@ -126,7 +126,8 @@ fn run_to<T: Threads + Wait + Sync, W: Sink + Drop>(
     writer: W,
 ) -> Result<End, Fault>
     requires lifters { (1 ≤ asked.lifters) × (asked.lifters ≤ 64) }
-    requires features { (arc_value known.now.family.game).features ≡ feature_count (arc_value known.now.family.diagram).lines }
+    requires features { (arc_value known.now.family.game).features
+        ≡ feature_count (arc_value known.now.family.diagram).lines }
 {
     let family = known.family.again()?;
     let decisions = decisions_of(rt, alloc, asked.config)?;

@@ -234,8 +234,7 @@ const AT_EXIT: &[Row] = &[
 ];
 
 /// Vertex 0 goes round priority 1 until it leaves for vertex 1 of priority 13. One round of lifts settles all others.
-const LATE: &[u8] =
-    b"0 1 0 0,1; 1 13 0 2; 2 14 0 2; 3 3 0 2; 4 5 0 2; 5 7 0 2; 6 9 0 2; 7 11 0 2;";
+const LATE: &[u8] = b"0 1 0 0,1; 1 13 0 2; 2 14 0 2; 3 3 0 2; 4 5 0 2; 5 7 0 2; 6 9 0 2; 7 11 0 2;";
 
 /// A guess at vertex 0 alone settles the table, by the value of vertex 1. All other ways would take more of the budget.
 const AT_LATE: &[Row] = &[(

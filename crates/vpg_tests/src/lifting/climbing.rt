@@ -24,8 +24,8 @@ pub(crate) const TOP: u64 = 1 << 61;
 const MANY: u32 = 35_000;
 
 /// Returns the order without decisions of a game that no rounds of lifts settle. The first two vertices of Even are a
-/// cycle of the priorities 1 and 3, whose winner is not seen at once. All of greater odd priorities lead to it, and this
-/// many more of priority 0, each also to the vertex before it.
+/// cycle of the priorities 1 and 3, whose winner is not seen at once. All of greater odd priorities lead to it, and so
+/// do this many more of priority 0, each also to the vertex before it.
 pub(crate) fn climb_of<R: Abort + AllocGlobal>(rt: &R, more: u32) -> Order {
     let mut text = String::new(rt.alloc());
     let mut priority = 1u32;
