@@ -105,7 +105,8 @@ static TYPINGS: [Typing; 12] = [
         answers: &["", "refused Word\n"],
         handed: "\n2: goals 3\n",
         said: ">   goals V ..             after each `settle`, tell of these vertices\n\
-            > line:2:4: found `goals`; expected a command\n> ",
+            > line:2:4: found `goals`; expected a command\n  \
+            hint: `vpgdesk --help` lists the commands\n> ",
     },
     Typing {
         typed: "settle x\n",
