@@ -9,6 +9,7 @@ With --json the client of docs/DRIVING.md asks each line of SCRIPT that is no co
 plain run, in order; tones, causes and numbers of lines are as those lines say.
 """
 import os
+import select
 import subprocess
 import sys
 import textwrap
@@ -51,6 +52,48 @@ class Desk:
     def close(self):
         self.process.stdin.close()
         return self.process.wait()
+
+
+class Timed:
+    """The program, asked line by line, and the processor seconds of each answer. After each line comes `known` of the
+    root, whose answer ends it."""
+
+    def __init__(self, program, game, diagram, limit):
+        with open(diagram) as it:
+            root = it.read().split("root", 1)[1].split()[0]
+        self.after, self.end, self.limit = f"known {root}\n", f"in {root}\n".encode(), limit
+        words = [program, "run", game, diagram, "/dev/stdin"]
+        self.child = subprocess.Popen(words, stdin=subprocess.PIPE, stdout=subprocess.PIPE)
+        self.reading, _ = self.ask("")
+
+    def spent(self):
+        """Processor seconds of the process, with those of threads that have ended."""
+        return time.clock_gettime(~self.child.pid << 3 | 2)
+
+    def ask(self, line):
+        """Seconds, and the lines of the answer. After `limit` seconds the program is killed, and both are None."""
+        began, text = self.spent(), bytearray()
+        self.child.stdin.write(f"{line}\n{self.after}".encode())
+        self.child.stdin.flush()
+        while not (text == self.end or text.endswith(b"\n" + self.end)):
+            if not select.select([self.child.stdout], [], [], 0.2)[0]:
+                if self.spent() - began > self.limit:
+                    self.child.kill()
+                    self.close()
+                    return None, None
+                continue
+            piece = os.read(self.child.stdout.fileno(), 1 << 16)
+            if not piece:
+                raise EOFError(f"no answer to {line!r}")
+            text += piece
+        # (by now it waits for the next line, or soon does)
+        time.sleep(0.001)
+        return self.spent() - began, text.decode().splitlines()[:-1]
+
+    def close(self):
+        if self.child.stdin:
+            self.child.stdin.close()
+        return self.child.wait()
 
 
 def client(program):
