@@ -12,10 +12,10 @@ the answer begins and ends.
 
 With --lines many families at the limits, or the FAMILYs named: a row for each line, asked of an open vertex, a hopeless
 and a sure one. It has the processor seconds of the answer alone, and its ratio to those of YARDSTICK (`winners.rs`,
-compiled), which solves a game from nothing for each trial. With --before the program of that commit, built without a
-proof, or a program given in its place, is asked the same in the same run. `more` stands where LIMIT seconds were not
-enough. Answers that met no limit are held to the yardstick's, byte for byte: ` differs` ends a row where they are not
-the same. The last rows have the slowest of each line, and the lines that took longer than their bar.
+compiled; or `-`), which solves a game from nothing for each trial. With --before the program of that commit, built
+without a proof, or a program given in its place, is asked the same in the same run. `more` stands where LIMIT seconds
+were not enough, or OF_YARDSTICK. Answers that met no limit are held to the yardstick's, byte for byte: ` differs` ends
+a row where they are not the same. The last rows have the slowest of each line, and the lines over their bar.
 
   wide      65,536 vertices of sixteen edges each and 200 optional features (`decisions.py`)
   half      65,536 vertices of six edges, half of them with a guard; 24 optional features
@@ -112,7 +112,7 @@ def measure(program, folder, vertices):
 
 HERE = os.path.dirname(os.path.abspath(__file__))
 ROOT = os.path.dirname(HERE)
-LIMIT = 10
+LIMIT, OF_YARDSTICK = 6, 3
 VERTICES, MANY, DECIDED = 65536, 200, 20
 # of which vertices a line is asked, and its bar in seconds
 ASKED = {
@@ -120,7 +120,7 @@ ASKED = {
     "counterexample": (("open", "hopeless"), 1),
     "lost": (("open", "hopeless"), 1),
     "won": (("open", "sure"), 1),
-    "decide": (("open", "hopeless", "sure"), 5),
+    "decide": (("open",), 5),
     "needs": (("open", "sure"), 5),
     "offer": (("open", "sure"), 5),
 }
@@ -175,7 +175,7 @@ def of_joined(folder, _program):
 
 def renamed(text, copy):
     """An entry of a mine pump's game with places of their own for its vertices, and a `start` of its own."""
-    identifier, priority, owner, moves = text.split('"')[0].split(None, 3)
+    identifier, priority, owner, moves = text.split('"')[0].strip().split(None, 3)
     place = lambda move: move.replace("[", f"{copy:03}[", 1) if "[" in move else f"{move}{copy:03}"
     moves = ",".join(map(place, moves.split(","))).replace("start", f"start{copy}")
     return f"{identifier}{copy:03} {priority} {owner} {moves};\n"
@@ -301,7 +301,9 @@ class Program:
 
 
 def by_yardstick(plain, folder, line, vertex, page):
-    words = [plain, f"{folder}/game", f"{folder}/diagram", line, vertex, str(LIMIT), *page]
+    if plain is None:
+        return None, None
+    words = [plain, f"{folder}/game", f"{folder}/diagram", line, vertex, str(OF_YARDSTICK), *page]
     lines = subprocess.run(words, capture_output=True, text=True, check=True).stdout.splitlines()
     words = lines[0].split()
     return (float(words[1]), lines[1:]) if words[5] == "false" else (None, None)
@@ -341,7 +343,7 @@ class Lines:
         cells = [self.name, f"`{line}`, {kind}", *(shown(it) for it, _ in told)]
         if len(told) > 1:
             cells.append("-" if told[0][0] is None else shown(seconds, told[0][0]))
-        cells += [shown(plain), "-" if plain is None else shown(seconds, plain)]
+        cells += ["-" if self.plain is None else shown(plain), "-" if plain is None else shown(seconds, plain)]
         end = "no end" if answer is None else answer[-1][:40] + (", limited" if is_limited(answer) else "")
         if answer is not None and wanted is not None and not is_limited(answer) and answer != wanted:
             end += " differs"
@@ -386,7 +388,7 @@ def built(commit, folder):
 
 
 def at_limits(words):
-    program, plain = (os.path.abspath(it) for it in words[:2])
+    program, plain = os.path.abspath(words[0]), None if words[1] == "-" else os.path.abspath(words[1])
     words, before = words[2:], []
     with tempfile.TemporaryDirectory() as folder:
         if words[:1] == ["--before"]:

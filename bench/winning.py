@@ -8,8 +8,9 @@ of products, as bits and as decision diagrams (`bits`, `bdd`). One line for each
 family of 2^BITS products: processor seconds of each yardstick on the whole game, less its reading, and of `settle` and
 the line by the program, on a page without decisions; how many times the better of `bits` and `bdd` that is; and the
 parts of `winners`. Each figure is the median of three rounds, all in one run; a line that takes less than 0.02 seconds
-is asked 20 times in a round. `more` stands where LIMIT seconds were not enough, `~` where `each` was carried out in
-part, and the rest is estimated. The numbers of products in the parts that are won are held to those of the yardsticks.
+is asked 20 times in a round. `more` stands where LIMIT seconds were not enough, `~` where `each` was stopped after
+OF_EACH, and the rest is estimated. Products in parts that are won are counted by the yardsticks, too: a row ` differs`
+where their numbers are not the same.
 
 Below the table: where the program is slower than product by product, where it takes over three times the better
 family-based yardstick, and where an answer met a limit. A difference in numbers ends the run with status 1.
@@ -39,7 +40,7 @@ from driving import Timed
 from settling import place
 
 ROOT = os.path.dirname(os.path.dirname(os.path.abspath(__file__)))
-LIMIT = 20
+LIMIT, OF_EACH = 10, 4
 ROUNDS = 3
 SHORT, AGAIN = 0.02, 20
 MEMORY = 6 << 30
@@ -244,7 +245,7 @@ def said(words):
 
 def yardstick(program, game, diagram, how, vertex):
     """Seconds (None if that is over LIMIT), whether estimated, and how many products win, or None if not all were."""
-    words = said([program, game, diagram, how, vertex, LIMIT])
+    words = said([program, game, diagram, how, vertex, OF_EACH if how == "each" else LIMIT])
     if words is None:
         return None, False, None
     seconds, late = float(words[1]), words[7] == "true"
@@ -356,7 +357,7 @@ class Row:
             times = self.times(line)
             mark = " open" if line == "decide" and self.is_open(line) else ""
             cells += [self.shown(line) + mark, "-" if times is None else f"{times:.1f}"]
-        return "| " + " | ".join(cells + [self.parts()]) + " |"
+        return "| " + " | ".join([*cells, self.parts() + " differs" * self.is_different()]) + " |"
 
 
 def is_slower(row, line):
