@@ -5,12 +5,18 @@ the crates: comparisons of what they read use it.
     python3 bench/featureide.py FILE..              writes the feature diagram of each model, or why it is none
     python3 bench/featureide.py --random SEED COUNT FOLDER      writes random models, and beside each its diagram
     python3 bench/featureide.py --documents SEED COUNT FOLDER   writes random documents, and beside each its elements
+    python3 bench/featureide.py --compare PROGRAM COUNT [SEED]  compares `PROGRAM diagram` with this reading on random
+                                                                models, half of them mutated; of faults the word alone
 """
 import os
 import random
 import re
+import subprocess
 import sys
+import tempfile
 from xml.parsers import expat
+
+import uvl
 
 KINDS = ("and", "or", "alt", "feature")
 OPERATORS = ("var", "not", "conj", "disj", "imp", "eq")
@@ -46,11 +52,15 @@ def document(text):
     def said(data):
         around[-1].text += data.encode()
 
+    def beyond(*_):
+        raise Refused("XML beyond the subset")
+
     reader = expat.ParserCreate("UTF-8")
     reader.ordered_attributes = True
     reader.buffer_text = True
     reader.StartElementHandler, reader.EndElementHandler = start, lambda tag: around.pop()
     reader.CharacterDataHandler = said
+    reader.ProcessingInstructionHandler = reader.StartDoctypeDeclHandler = reader.StartCdataSectionHandler = beyond
     try:
         reader.Parse(text, True)
     except (expat.ExpatError, LookupError, ValueError) as fault:
@@ -135,7 +145,7 @@ def read(text):
     root = document(text)[0]
     if root.tag not in (b"featureModel", b"extendedFeatureModel"):
         raise Refused("UnknownElement 0")
-    model = Model()
+    model, rules = Model(), []
     for child in root.children:
         tag = child.tag.decode()
         if tag == "struct":
@@ -149,11 +159,13 @@ def read(text):
             for it in child.children:
                 if it.tag != b"rule":
                     raise Refused(f"UnknownElement {it.number}")
-                model.rule(it)
+                rules.append(it)
         elif tag not in OVER:
             raise Refused(f"UnknownElement {child.number}")
     if not model.names:
         raise Refused("NoRoot")
+    for it in rules:
+        model.rule(it)
     return model
 
 
@@ -296,7 +308,51 @@ def answer(text, of):
         return f"refused {why}\n"
 
 
+def told_by(program, path):
+    """The diagram that the program tells of a model, or the word of its fault."""
+    ran = subprocess.run([program, "diagram", path], capture_output=True, check=False)
+    if not ran.returncode:
+        return ran.stdout.decode()
+    words = ran.stderr.decode().removeprefix("vpgdesk: ").split()
+    return f"refused {words[1]}" if words[0] == "featureide" else " ".join(words) + "\n"
+
+
+DECLARATION = re.compile(rb"""\A<\?xml(\s+[A-Za-z_:][A-Za-z0-9_:.-]*\s*=\s*("[^"<&]*"|'[^'<&]*'))*\s*\?>""")
+
+
+def own_answer(text):
+    """The diagram, the program's fault for it, or the word of the model's fault. Which attributes a declaration has is
+    not asked."""
+    text = DECLARATION.sub(b'<?xml version="1.0"?>', text, count=1)
+    own = answer(text, lambda it: diagram(read(it)))
+    if own.startswith("refused "):
+        return f"refused {own.split()[1].capitalize() if own.split()[1] == 'XML' else own.split()[1]}"
+    return uvl.refused(own) or own
+
+
+def compare(program, count, seed):
+    """The number of models of which the program says something else."""
+    differences = refusals = 0
+    with tempfile.TemporaryDirectory() as folder:
+        path = os.path.join(folder, "model.xml")
+        for i in range(seed, seed + count):
+            writer = Writer(i)
+            text = writer.model()
+            text = (writer.mutated(text) if i % 2 else text).encode()
+            with open(path, "wb") as it:
+                it.write(text)
+            own, told = own_answer(text), told_by(program, path)
+            refusals += own.startswith("refused ")
+            if own != told:
+                differences += 1
+                print(f"model {i}:\n{text.decode()}\n-- here\n{own}\n-- there\n{told}")
+    print(f"{count} models, {refusals} refused, {differences} differences")
+    return differences
+
+
 def main(words):
+    if words[:1] == ["--compare"]:
+        return compare(words[1], int(words[2]), int(words[3]) if words[3:] else 0) > 0
     if words[:1] in (["--random"], ["--documents"]):
         seed, count, folder = int(words[1]), int(words[2]), words[3]
         of = (lambda it: diagram(read(it))) if words[0] == "--random" else (lambda it: elements(document(it)))
