@@ -67,21 +67,28 @@ fn repetition_of(writing: &str) -> Option<(u64, &str, &str)> {
     Some((count.parse::<u64>().ok()?, part, behind))
 }
 
-/// Writes a piece, which begins after a `<` if it is a repetition.
+/// Writes what comes after a `<`: a repetition, or the sign itself and the rest.
 fn put_piece(text: &mut Line, piece: &str) {
     match repetition_of(piece) {
         Some((count, part, behind)) => {
             put_parts(text, part, count);
             put_signs(text, behind, None);
         }
-        None => put_signs(text, piece, None),
+        None => {
+            text.put("<");
+            put_signs(text, piece, None);
+        }
     }
 }
 
 /// Returns the text that a row writes so.
 pub(crate) fn spelled(alloc: Global, writing: &str) -> Line {
     let mut text = Line::new(alloc);
-    for piece in writing.split('<') {
+    let mut pieces = writing.split('<');
+    if let Some(first) = pieces.next() {
+        put_signs(&mut text, first, None);
+    }
+    for piece in pieces {
         put_piece(&mut text, piece);
     }
     text
