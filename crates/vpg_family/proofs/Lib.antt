@@ -2,6 +2,7 @@ pub mod Called
 pub mod Choices
 pub mod Contradictions
 pub mod Counting
+pub mod Inhabited
 pub mod Making
 pub mod Models
 pub mod Naming

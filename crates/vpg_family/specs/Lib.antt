@@ -1,6 +1,7 @@
 pub mod Called
 pub mod Checked
 pub mod Counts
+pub mod Emptiness
 pub mod Families
 pub mod Faults
 pub mod Limits

@@ -1,7 +1,8 @@
 //! Warnings of a diagram.
 ghost use Rattle.std.specs.Prelude.{◌≡◌, length, IfOk};
 
-use crate::products::{Closed, closure_of, finds_product, is_dead};
+use crate::emptiness::warning_about;
+use crate::products::{Closed, closure_of, is_dead};
 use crate::warnings::{Sort, Warnings};
 use crate::writing::DiagramSource;
 use std::alloc::{AllocError, Global};
@@ -18,21 +19,6 @@ fn declared_at(declared: &[Declared<'_>], f: usize) -> usize {
         Some(it) => it.at,
         None => 0,
     }
-}
-
-/// Warns of a diagram if propagation finds no product of it.
-fn warn_of_none_found(
-    alloc: Global,
-    diagram: &Diagram,
-    root: usize,
-    warnings: &mut Warnings,
-) -> Result<(), AllocError>
-    ensures { warnings.new.length ≡ warnings.old.length }
-{
-    if finds_product(alloc, diagram)? {
-        return Ok(());
-    }
-    warnings.warn(Sort::NoneFound, root, 0)
 }
 
 /// Warns of features that are in no product, if the known values are these.
@@ -54,7 +40,7 @@ fn warn_of_dead(
     Ok(())
 }
 
-/// Warns of a diagram that has no product, and else of facts that propagation shows of its products.
+/// Warns of a diagram that has no product, or perhaps none; and of features in no product, if it may have one.
 fn warn_of_products(
     alloc: Global,
     diagram: &Diagram,
@@ -63,13 +49,16 @@ fn warn_of_products(
 ) -> Result<(), AllocError>
     ensures { warnings.new.length ≡ warnings.old.length }
 {
-    let root = declared_at(declared, 0);
+    let warning = warning_about(alloc, diagram)?;
+    if let Some(sort) = warning {
+        warnings.warn(sort, declared_at(declared, 0), 0)?;
+    }
+    if matches!(warning, Some(Sort::NoProduct)) {
+        return Ok(());
+    }
     match closure_of(alloc, diagram, &[])? {
-        Closed::Conflict => warnings.warn(Sort::NoProduct, root, 0),
-        Closed::Known(known) => {
-            warn_of_none_found(alloc, diagram, root, warnings)?;
-            warn_of_dead(alloc, diagram, known.values(), declared, warnings)
-        }
+        Closed::Known(known) => warn_of_dead(alloc, diagram, known.values(), declared, warnings),
+        Closed::Conflict => Ok(()),
     }
 }
 
@@ -215,8 +204,8 @@ pub(crate) fn named_in_system(alloc: Global, system: &System) -> Result<Vec<bool
 }
 
 /// Returns the warnings of a diagram that was read from a file, and of its use by guards, which name these features.
-/// Their places are those in the file. Reasons are: the diagram has no product, or propagation alone finds none;
-/// features in no product, as far as propagation shows it; features without children that no guard names.
+/// Their places are those in the file. Reasons are: the diagram has no product, or may have none; features in no
+/// product, as far as propagation shows it; features without children that no guard names.
 pub fn warnings_of_diagram(
     alloc: Global,
     source: DiagramSource<'_>,

@@ -18,12 +18,14 @@
 //! `specs/Families` defines the texts that spell a family, when its game is made, and the words that name a product;
 //! `specs/Sources` the diagram that a file means, and `specs/Called` the names of vertices. `specs/Counts`,
 //! `specs/Checked`, `specs/Pictures`, `specs/Systems`, `specs/Pages` and `specs/Faults` define the texts that are
-//! written, and `specs/Warned` the places of warnings. All are this project's own.
+//! written, `specs/Warned` the places of warnings, and `specs/Emptiness` what is found of a diagram's products. All are
+//! this project's own.
 #![tactic(auto)]
 
 mod checking;
 mod counts;
 mod drawing;
+mod emptiness;
 mod explaining;
 mod family;
 mod fault;

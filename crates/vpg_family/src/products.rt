@@ -1,4 +1,4 @@
-//! The products of a diagram that propagation finds.
+//! The features that decisions make known.
 ghost use Rattle.std.specs.Prelude.{◌≡◌, ◌↔◌, ◌<◌, IsTrue, All};
 
 use std::alloc::{AllocError, Global};
@@ -49,7 +49,7 @@ pub(crate) fn decision(feature: u16, value: bool) -> Decision {
 }
 
 /// Returns whether decisions contradict each other.
-fn have_conflict(
+pub(crate) fn have_conflict(
     alloc: Global,
     diagram: &Diagram,
     decisions: &[Decision],
@@ -70,53 +70,4 @@ pub(crate) fn is_dead(
         Some(Tri::Unknown) => have_conflict(alloc, diagram, &[decision(feature, true)]),
         Some(Tri::Yes) | None => Ok(false),
     }
-}
-
-/// Returns the value of a feature under decisions.
-fn value_under(
-    alloc: Global,
-    diagram: &Diagram,
-    decisions: &[Decision],
-    feature: u16,
-) -> Result<Tri, AllocError> {
-    match closure_of(alloc, diagram, decisions)? {
-        Closed::Known(known) => Ok(
-            *known
-                .values()
-                .get(feature as usize)
-                .unwrap_or(&Tri::Unknown),
-        ),
-        Closed::Conflict => Ok(Tri::Unknown),
-    }
-}
-
-/// Decides a feature, out if that is no contradiction. Returns whether one of the values is none.
-fn decide(
-    alloc: Global,
-    diagram: &Diagram,
-    decisions: &mut Vec<Decision>,
-    feature: u16,
-) -> Result<bool, AllocError> {
-    for value in [false, true] {
-        decisions.push(decision(feature, value))?;
-        if !have_conflict(alloc, diagram, decisions)? {
-            return Ok(true);
-        }
-        decisions.pop();
-    }
-    Ok(false)
-}
-
-/// Returns whether propagation alone finds a product: each open feature is left out if that is no contradiction, and
-/// else taken.
-pub(crate) fn finds_product(alloc: Global, diagram: &Diagram) -> Result<bool, AllocError> {
-    let mut decisions = Vec::new(alloc);
-    let features = diagram.names().len() as u16;
-    for feature in 0..features {
-        let value = value_under(alloc, diagram, &decisions, feature)?;
-        if value == Tri::Unknown && !decide(alloc, diagram, &mut decisions, feature)? {
-            return Ok(false);
-        }
-    }
-    Ok(true)
 }

@@ -9,7 +9,7 @@ use std::alloc::{AllocError, Global};
 pub enum Sort {
     /// The diagram has no product.
     NoProduct,
-    /// Propagation alone finds no product.
+    /// No product of the diagram was found.
     NoneFound,
     /// A feature that is in no product.
     Dead,

@@ -212,7 +212,7 @@ fn put_of_feature(features: &Names, warning: Warning, out: &mut Vec<u8>) -> Resu
             b"the diagram has no product: its lines contradict each other",
         ),
         Sort::NoneFound => out.extend_from_slice(
-            b"the diagram may have no product: propagation alone finds none",
+            b"the diagram may have no product: none was found",
         ),
         Sort::Dead => put_feature(features, index, b"is in no product", out),
         Sort::Unnamed => put_feature(features, index, b"is named by no guard", out),

@@ -493,12 +493,18 @@ excludes a c
 excludes a d
 excludes b c
 excludes b d
-¦0 0 0 0[a & b & c & d];¦¦explained_diagram:1:6: warning: the diagram may have no product: propagation alone finds none
-explained_diagram:2:7: warning: `a` is in no product
-explained_diagram:2:9: warning: `b` is in no product
-explained_diagram:3:7: warning: `c` is in no product
-explained_diagram:3:9: warning: `d` is in no product
-warnings 5
+¦0 0 0 0[a & b & c & d];¦¦explained_diagram:1:6: warning: the diagram has no product: its lines contradict each other
+warnings 1
+§\
+¦lint¦root r
+optional r a
+or r: b c
+or r: d e
+rule a | !b | !d
+rule a | !b | !e
+rule a | !c | !d
+rule a | !c | !e
+¦0 0 0 0[a & b & c & d & e];¦¦warnings 0
 §\
 ¦lint¦root r
 optional r f
