@@ -5,8 +5,8 @@
     python3 bench/warned.py --lint VPGDESK CASES SEED        # random families: whether `lint` writes these lines
 
 Actions are those of the formulas that are read (`formulas.py`), states are found by a search of paths, and guards are
-decided by propagation (`oracle.py`). Each guard that is warned of is held to the diagram's products. The nearest name
-behind a word is not compared.
+decided by propagation (`oracle.py`). Each guard that is warned of is held to the diagram's products. So is a warning
+that the diagram has none; its other warnings are not compared, and neither is the nearest name behind a word.
 """
 import random
 import re
@@ -237,10 +237,13 @@ def compare(path, cases, seed):
         told = [line for line in lines if line.startswith(("system:", "requirements:"))]
         of_diagram = [line for line in lines if line.startswith("diagram:")]
         last = f"warnings {count + len(of_diagram)}"
-        if done.returncode or told != wanted or lines[-1:] != [last]:
+        d = oracle.read_diagram(texts[2])
+        without = [line for line in of_diagram if " no product: " in line]
+        is_empty = not requirements.products_of(d)
+        is_right = len(without) == is_empty and all("has no product" in line for line in without)
+        if done.returncode or told != wanted or lines[-1:] != [last] or not is_right:
             print(f"case {case} of seed {seed}", *texts, "wanted", *wanted, last, "got", *lines, done.stderr, sep="\n")
             return 1
-        d = oracle.read_diagram(texts[2])
         system = requirements.read_system(texts[0], d.names)
         for number in unmet(d, system):
             guard = system.transitions[number][2]
