@@ -1,5 +1,5 @@
 //! Raising tables by certified guesses.
-ghost use Rattle.std.specs.Prelude.{◌↔◌, ℕ, List, IfOk, IsTrue};
+ghost use Rattle.std.specs.Prelude.{◌≤◌, ◌↔◌, ℕ, List, IfOk, IsTrue};
 ghost use Rattle.vpg_guess.specs.Kept.{IsRaisedFrom, IsSettled, after_round};
 ghost use Rattle.vpg_measure.specs.Lifts.{IsTableOf, IsProgressTable, IsBelowTable, after_rounds};
 
@@ -501,9 +501,46 @@ impl Raising<'_> {
 /// these leave something, the vertices that Odd is guessed to win are raised to the top, and lifts and guesses of
 /// values follow. Each guess counts as far as certificates show it. A round of lifts comes last, even if memory runs
 /// out. `dual_shape` is the shape of the arena's dual, whose priorities are one greater: another shape costs
-/// certificates, and never the clauses. The budget is the number of edges and vertices that all of it may look at; one
+/// certificates, and never the clauses.
+///
+/// `looks` is the number of edges and vertices that all of it may look at, and what it looks at is taken from it. One
 /// more valuation of a strategy, one certificate and a few passes over the edges come on top. When it is spent, all
 /// that is known is certified and raised. If memory runs out, the table keeps what was raised until then.
+pub fn raise_within(
+    alloc: Global,
+    shape: &Shape,
+    dual_shape: &Shape,
+    arena: &Arena,
+    table: &mut Table,
+    looks: &mut u64,
+) -> Result<bool, AllocError>
+    requires { IsTableOf shape.now arena.now table.old }
+    ensures settled { IfOk result (λ settled. IsTrue settled ↔ IsProgressTable shape.now arena.now table.new) }
+    ensures table { IsTableOf shape.now arena.now table.new }
+    ensures above { IsBelowTable table.old table.new }
+    ensures below { (other : List ℕ) → IsTableOf shape.now arena.now other → IsProgressTable shape.now arena.now other →
+        IsBelowTable table.old other → IsBelowTable table.new other }
+    // The table is on or above itself after a round of lifts, even if memory runs out.
+    ensures round { IsBelowTable (after_rounds shape.now arena.now 1 table.old) table.new }
+    // No looks are added.
+    ensures left { looks.new ≤ looks.old }
+{
+    let mut budget = Budget::new(*looks);
+    let mut kept = None;
+    let mut raising = Raising {
+        alloc,
+        shape,
+        dual_shape,
+        arena,
+        table: mem::replace(table, Table::of(Vec::new(alloc))),
+    };
+    let settled = raising.raise(&mut kept, &mut budget);
+    *looks = budget.left().min(*looks);
+    *table = raising.into_table();
+    settled
+}
+
+/// Raises a table as `raise_within` does, with this many looks of its own.
 pub fn raise_by_bounds(
     alloc: Global,
     shape: &Shape,
@@ -521,16 +558,6 @@ pub fn raise_by_bounds(
     // The table is on or above itself after a round of lifts, even if memory runs out.
     ensures round { IsBelowTable (after_rounds shape.now arena.now 1 table.old) table.new }
 {
-    let mut budget = Budget::new(budget);
-    let mut kept = None;
-    let mut raising = Raising {
-        alloc,
-        shape,
-        dual_shape,
-        arena,
-        table: mem::replace(table, Table::of(Vec::new(alloc))),
-    };
-    let settled = raising.raise(&mut kept, &mut budget);
-    *table = raising.into_table();
-    settled
+    let mut looks = budget;
+    raise_within(alloc, shape, dual_shape, arena, table, &mut looks)
 }

@@ -1,6 +1,6 @@
 use Rattle.std.proofs.Common.{ℕ, List, sym, subst}
 use Rattle.vpg_measure.specs.Lifts.{IsBelowTable}
-use Rattle.vpg_guess.proofs.guesses.raise_by_bounds.Goals as goal
+use Rattle.vpg_guess.proofs.guesses.raise_within.Goals as goal
 
 pub returns-clause-settled : goal.returns-clause-settled
 returns-clause-settled c = rw c.into_table.ensures.same c.raise-settled.ensures.settled
