@@ -1,16 +1,14 @@
 -- Searches beside literals that are forced.
-use Rattle.std.proofs.Common.{◌≡◌, ◌≢◌, ℕ, ◌+◌, ◌<◌, Bool, List, [], ◌∷◌, ◌++◌, length, map, take, get_or, Contains, sym, ap, ◌∙◌, subst, append_assoc, arith}
-use Rattle.std.specs.List.{AllByRecursion}
+use Rattle.std.proofs.Common.{◌≡◌, ℕ, ◌+◌, ◌<◌, List, [], ◌∷◌, ◌++◌, length, take, get_or, Contains, sym, ap, ◌∙◌, subst, append_assoc}
 use Rattle.std.proofs.lemmas.List.{map-append, take_more}
 use Rattle.std.proofs.lemmas.List.Elements.{Contains-append_left}
 use Rattle.vpg_diagram.specs.DiagramText.{NamedDiagram, IsNamedDiagram}
 use Rattle.vpg_diagram.specs.FeatureDiagram.{Line, feature_count}
 use Rattle.vpg_diagram.specs.Clauses.{IsTrueIn}
 use Rattle.vpg_diagram.specs.declared.clause.Literal.{Literal}
-use Rattle.vpg_diagram.proofs.Lists.{All-append, All-front, All-back, All-from_contained}
+use Rattle.vpg_diagram.proofs.Lists.{All-append, All-front, All-from_contained}
 use Rattle.vpg_game.specs.Game.{NamedGame}
 use Rattle.vpg_partial.specs.Known.{literal_of}
-use Rattle.vpg_partial.specs.KnownLaws.{IsRemaining}
 use Rattle.vpg_partial.specs.TableLaws.{AreChoicesOf}
 use Rattle.vpg_partial.specs.declared.decision.Decision.{Decision}
 use Rattle.vpg_why.specs.Explained.{choices}
@@ -44,17 +42,20 @@ module _ (game : NamedGame) (diagram : NamedDiagram) (aim : Aim) (base : List Li
   }) m
   sought_beside founds.Unsettled s = tt
 
-pub settled_beside : (game : NamedGame) (diagram : NamedDiagram) (limits : Limits) (aim : Aim) (base : List Literal) (c : Literal) (forced : List Literal) → IsNamedDiagram diagram → AreChoicesOf diagram.lines base →
-    IsSettled game diagram limits (asks.Lost aim) base → IsSettled game diagram limits (asks.Lost aim) ((base ++ c ∷ []) ++ forced)
-settled_beside game diagram limits aim base c forced is named s = subst (λ (cs : List Literal). IsSettled game diagram limits (asks.Lost aim) cs) (sym (append_assoc base (c ∷ []) forced)) (
-  (λ more. subst (λ (cs : List Literal). AimSettlesUnder limits.rounds game diagram aim cs) (sym (append_assoc base (c ∷ forced) more)) (s.0 ((c ∷ forced) ++ more))),
+pub settled_beside : (game : NamedGame) (diagram : NamedDiagram) (limits : Limits) (aim : Aim) (base forced : List Literal) → IsNamedDiagram diagram → AreChoicesOf diagram.lines base →
+    IsSettled game diagram limits (asks.Lost aim) base → IsSettled game diagram limits (asks.Lost aim) (base ++ forced)
+settled_beside game diagram limits aim base forced is named s = (
+  (λ more. subst (λ (cs : List Literal). AimSettlesUnder limits.rounds game diagram aim cs) (sym (append_assoc base forced more)) (s.0 (forced ++ more))),
   record {
     most = s.1.most;
-    are_open = open_stays diagram.lines base (base ++ (c ∷ forced)) s.1.most is.diagram named (λ x h. Contains-append_left base (c ∷ forced) x h) s.1.are_open;
+    are_open = open_stays diagram.lines base (base ++ forced) s.1.most is.diagram named (λ x h. Contains-append_left base forced x h) s.1.are_open;
     enough = s.1.enough;
   },
 )
 
+pub named_one : (lines : List Line) (base : List Literal) (c : Literal) → AreChoicesOf lines base → c.feature < feature_count lines → AreChoicesOf lines (base ++ c ∷ [])
+named_one lines base c named less = All-append (λ (l : Literal). l.feature < feature_count lines) base (c ∷ []) named (less, tt)
+
 pub named_beside : (lines : List Line) (base : List Literal) (c : Literal) (forced : List Literal) → AreChoicesOf lines base → c.feature < feature_count lines → AreChoicesOf lines forced → AreChoicesOf lines ((base ++ c ∷ []) ++ forced)
 named_beside lines base c forced named less others = All-append (λ (l : Literal). l.feature < feature_count lines) (base ++ c ∷ []) forced
-    (All-append (λ (l : Literal). l.feature < feature_count lines) base (c ∷ []) named (less, tt)) others
+    (named_one lines base c named less) others

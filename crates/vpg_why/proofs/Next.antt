@@ -41,7 +41,7 @@ both_true : (a b : Bool) → IsTrue a → IsTrue b → IsTrue (a && b)
 both_true true b h k = k
 both_true false b h k = h
 
-module _ (game : NamedGame) (diagram : NamedDiagram) (limits : Limits) (question : Question) (decisions : List Decision) (is_diagram : IsNamedDiagram diagram) (named : AreChoicesOf diagram.lines (choices decisions)) where
+module _ (game : NamedGame) (diagram : NamedDiagram) (limits : Limits) (question : Question) (decisions : List Decision) (small : Bool) (is_diagram : IsNamedDiagram diagram) (named : AreChoicesOf diagram.lines (choices decisions)) where
   moved : (most : ℕ) (kept : List Decision) → Suffice game diagram question (choices (front_with most decisions kept)) → Suffice game diagram question (take most (choices decisions) ++ choices kept)
   moved most kept h = subst (λ (cs : List Literal). Suffice game diagram question cs) (choices_with most decisions kept) h
 
@@ -52,15 +52,15 @@ module _ (game : NamedGame) (diagram : NamedDiagram) (limits : Limits) (question
   first_listing kept e h = subst (λ (n : ℕ). IsListing (Suffice game diagram question) (choices decisions) (choices kept) n true) (length-map decisions literal_of)
       (subst (λ (ds : List Decision). IsListing (Suffice game diagram question) (choices decisions) (choices ds) (length (choices decisions)) true) (sym e) (begun (Suffice game diagram question) (choices decisions) h))
 
-  pub first_listed : (kept : List Decision) → kept ≡ [] → Suffice game diagram question (choices decisions) → IsListed (Suffice game diagram question) (EachIsSettled game diagram limits question (choices decisions)) decisions kept (length decisions) true
+  pub first_listed : (kept : List Decision) → kept ≡ [] → Suffice game diagram question (choices decisions) → IsListed (Suffice game diagram question) (IsTrue small × EachIsSettled game diagram limits question (choices decisions)) decisions kept (length decisions) true
   first_listed kept e h = record {
     listing = first_listing kept e h;
     in_turn = subst (λ (ds : List Decision). AreNeededInTurn (Suffice game diagram question) true (take (length decisions) decisions) (drop (length decisions) decisions) ds) (sym e) (none_yet (Suffice game diagram question) true decisions);
     settled = λ s. refl;
   }
 
-  module _ (kept new : List Decision) (most place : ℕ) (exact also : Bool) (x : Decision) (is : IsListed (Suffice game diagram question) (EachIsSettled game diagram limits question (choices decisions)) decisions kept most exact)
-      (last : IsLast (Suffice game diagram question) decisions kept most place also) (so : OfFronts (IsSettled game diagram limits question) decisions kept → IsTrue also) (e : new ≡ get_or decisions place x ∷ kept) where
+  module _ (kept new : List Decision) (most place : ℕ) (exact also : Bool) (x : Decision) (is : IsListed (Suffice game diagram question) (IsTrue small × EachIsSettled game diagram limits question (choices decisions)) decisions kept most exact)
+      (last : IsLast (Suffice game diagram question) decisions kept most place also) (so : IsTrue small → OfFronts (IsSettled game diagram limits question) decisions kept → IsTrue also) (e : new ≡ get_or decisions place x ∷ kept) where
     inside : place < length decisions
     inside = let w = is.listing.within in omega (arith, w, last.within, length-map decisions literal_of)
 
@@ -72,24 +72,24 @@ module _ (game : NamedGame) (diagram : NamedDiagram) (limits : Limits) (question
     next_listing = subst (λ (ds : List Decision). IsListing (Suffice game diagram question) (choices decisions) (choices ds) place (exact && also)) (sym e)
         (taken (Suffice game diagram question) (choices decisions) (choices kept) most place exact also is.listing last.within (literal_of (get_or decisions place x)) (choice_at decisions place x (literal_of (get_or decisions place x)) inside) (moved (place + 1) kept last.enough) (λ t h. last.short t (back place kept h)) more)
 
-    pub next_listed : IsListed (Suffice game diagram question) (EachIsSettled game diagram limits question (choices decisions)) decisions new place (exact && also)
+    pub next_listed : IsListed (Suffice game diagram question) (IsTrue small × EachIsSettled game diagram limits question (choices decisions)) decisions new place (exact && also)
     next_listed = record {
       listing = next_listing;
       in_turn = subst (λ (ds : List Decision). AreNeededInTurn (Suffice game diagram question) (exact && also) (take place decisions) (drop place decisions) ds) (sym e)
           (one_more (Suffice game diagram question) (exact && also) decisions kept place most x last.within inside (λ t. last.short (both_hold exact also t).1)
           (weaker (Suffice game diagram question) exact (exact && also) (λ t. (both_hold exact also t).0) is.in_turn));
-      settled = λ s. both_true exact also (is.settled s) (so (λ n. s (choices (front_with n decisions kept)) (front_among n decisions kept is.listing.among)));
+      settled = λ s. both_true exact also (is.settled s) (so s.0 (λ n. s.1 (choices (front_with n decisions kept)) (front_among n decisions kept is.listing.among)));
     }
 
-  pub last_listed : (kept : List Decision) (most : ℕ) (exact : Bool) → IsListed (Suffice game diagram question) (EachIsSettled game diagram limits question (choices decisions)) decisions kept most exact → Suffice game diagram question (choices (front_with 0 decisions kept)) →
-      IsListed (Suffice game diagram question) (EachIsSettled game diagram limits question (choices decisions)) decisions kept 0 exact
+  pub last_listed : (kept : List Decision) (most : ℕ) (exact : Bool) → IsListed (Suffice game diagram question) (IsTrue small × EachIsSettled game diagram limits question (choices decisions)) decisions kept most exact → Suffice game diagram question (choices (front_with 0 decisions kept)) →
+      IsListed (Suffice game diagram question) (IsTrue small × EachIsSettled game diagram limits question (choices decisions)) decisions kept 0 exact
   last_listed kept most exact is h = record {
     listing = ended (Suffice game diagram question) (choices decisions) (choices kept) most exact is.listing (moved 0 kept h);
     in_turn = shorter (Suffice game diagram question) exact decisions kept 0 most (omega arith) is.in_turn;
     settled = is.settled;
   }
 
-  pub explained : (kept : List Decision) (most : ℕ) (exact : Bool) → most ≡ 0 → IsListed (Suffice game diagram question) (EachIsSettled game diagram limits question (choices decisions)) decisions kept most exact → Explains (Suffice game diagram question) decisions kept exact
+  pub explained : (kept : List Decision) (most : ℕ) (exact : Bool) → most ≡ 0 → IsListed (Suffice game diagram question) (IsTrue small × EachIsSettled game diagram limits question (choices decisions)) decisions kept most exact → Explains (Suffice game diagram question) decisions kept exact
   explained kept most exact e is = record {
     among = at_end.listing.among;
     enough = at_end.listing.enough;
@@ -97,8 +97,8 @@ module _ (game : NamedGame) (diagram : NamedDiagram) (limits : Limits) (question
     in_turn = at_end.in_turn;
   }
     where
-      at_end : IsListed (Suffice game diagram question) (EachIsSettled game diagram limits question (choices decisions)) decisions kept 0 exact
-      at_end = subst (λ (n : ℕ). IsListed (Suffice game diagram question) (EachIsSettled game diagram limits question (choices decisions)) decisions kept n exact) e is
+      at_end : IsListed (Suffice game diagram question) (IsTrue small × EachIsSettled game diagram limits question (choices decisions)) decisions kept 0 exact
+      at_end = subst (λ (n : ℕ). IsListed (Suffice game diagram question) (IsTrue small × EachIsSettled game diagram limits question (choices decisions)) decisions kept n exact) e is
 
 pub explanations_are_one : ExplanationsAreOne
 explanations_are_one game lines question decisions one other is named a b =

@@ -1,5 +1,5 @@
 //! Asking a question of decisions.
-ghost use Rattle.std.specs.Prelude.{◌≡◌, ◌≢◌, ◌↔◌, ◌<◌, ◌++◌, ◌∷◌, [], List, ℕ, length, map, replicate, IfOk, IfSome, IsNone, IsTrue};
+ghost use Rattle.std.specs.Prelude.{◌≡◌, ◌≢◌, ◌↔◌, ◌<◌, ◌≤◌, ◌++◌, ◌∷◌, [], length, map, IfOk, IfSome, IsNone, IsTrue};
 ghost use Rattle.vpg_guards.specs.Known.{IsFiner, IsFinerValue};
 ghost use Rattle.vpg_diagram.specs.FeatureDiagram.{feature_count};
 ghost use Rattle.vpg_measure.specs.Games.{AreGamesOf, ArePageGames, games_arena, games_levels};
@@ -67,7 +67,50 @@ fn first_table(
 }
 
 /// Whether every progress table of one of the two games has the top at the vertex: the least one has it. The games are
-/// those of some decisions.
+/// those of some decisions. Looks for certified bounds are taken from those that are lent.
+pub(crate) fn is_top_within(
+    alloc: Global,
+    order: &Order,
+    games: &PageGames,
+    which: Which,
+    vertex: u32,
+    limits: Limits,
+    looks: &mut u64,
+) -> Result<Shown, AllocError>
+    requires games { AreGamesOf order.now.game order.now.diagram games.now }
+    requires vertex { vertex < length order.now.game.vertices }
+    ensures yes { IfOk result (λ shown. shown ≡ Shown.Yes → IsTopUnder order.now.game which vertex games.now.known) }
+    ensures no { IfOk result (λ shown. shown ≡ Shown.No → IsTopUnder order.now.game which vertex games.now.known → ⊥) }
+    ensures low { IfOk result (λ shown. shown ≡ Shown.No → IsLowUnder order.now.game which vertex games.now.known) }
+    ensures settled { IfOk result (λ shown. SettlesWithin limits.rounds order.now.game which games.now.known → shown ≢ Shown.Unsettled) }
+    // Yes is shown, settled or not, if this many rounds from zeros bring the vertex to the top.
+    ensures raised { IfOk result (λ shown.
+        RoundsReachTop limits.rounds order.now.game which vertex games.now.known → shown ≡ Shown.Yes) }
+    ensures looks { IfOk result (λ shown. looks.new ≤ looks.old) }
+{
+    let shape = games.shape(which);
+    let arena = games.arena(which);
+    let mut table = first_table(alloc, order, games, which)?;
+    if table.get(vertex) == shape.top() {
+        return Ok(Shown::Yes);
+    }
+    let again = Shape::of_dual_of_dual(alloc, order.game())?;
+    let dual_shape = match which {
+        Which::Hopeful => games.shape(Which::Dual),
+        Which::Dual => &again,
+    };
+    let settled = raise(alloc, shape, dual_shape, arena, &mut table, limits, looks)?;
+    if table.get(vertex) == shape.top() {
+        Ok(Shown::Yes)
+    } else if settled {
+        Ok(Shown::No)
+    } else {
+        Ok(Shown::Unsettled)
+    }
+}
+
+/// Whether every progress table of one of the two games has the top at the vertex, as `is_top_within` says it, with the
+/// looks of the limits.
 pub(crate) fn is_top(
     alloc: Global,
     order: &Order,
@@ -86,25 +129,8 @@ pub(crate) fn is_top(
     ensures raised { IfOk result (λ shown.
         RoundsReachTop limits.rounds order.now.game which vertex games.now.known → shown ≡ Shown.Yes) }
 {
-    let shape = games.shape(which);
-    let arena = games.arena(which);
-    let mut table = first_table(alloc, order, games, which)?;
-    if table.get(vertex) == shape.top() {
-        return Ok(Shown::Yes);
-    }
-    let again = Shape::of_dual_of_dual(alloc, order.game())?;
-    let dual_shape = match which {
-        Which::Hopeful => games.shape(Which::Dual),
-        Which::Dual => &again,
-    };
-    let settled = raise(alloc, shape, dual_shape, arena, &mut table, limits)?;
-    if table.get(vertex) == shape.top() {
-        Ok(Shown::Yes)
-    } else if settled {
-        Ok(Shown::No)
-    } else {
-        Ok(Shown::Unsettled)
-    }
+    let mut looks = limits.budget;
+    is_top_within(alloc, order, games, which, vertex, limits, &mut looks)
 }
 
 /// Whether a feature is known so.
@@ -159,13 +185,16 @@ pub fn games_with(
     }
 }
 
-pub(crate) fn verdict_shown(
+/// Whether the decisions alone make the vertex hopeless, for the hopeful table, or sure, for the dual one. Looks for
+/// certified bounds are taken from those of the line.
+pub fn verdict_shown(
     alloc: Global,
     order: &Order,
     which: Which,
     vertex: u32,
     decisions: &[Decision],
     limits: Limits,
+    looks: &mut u64,
 ) -> Result<Shown, AllocError>
     requires named { AreChoicesOf order.now.diagram.lines (map literal_of decisions.now) }
     requires vertex { vertex < length order.now.game.vertices }
@@ -174,10 +203,11 @@ pub(crate) fn verdict_shown(
     ensures settled { IfOk result (λ shown.
         IsSettled order.now.game order.now.diagram limits (Question.Verdict which vertex)
         (map literal_of decisions.now) → shown ≢ Shown.Unsettled) }
+    ensures looks { IfOk result (λ shown. looks.new ≤ looks.old) }
 {
     match games_with(alloc, order, decisions)? {
         Some(games) => {
-            let shown = is_top(alloc, order, &games, which, vertex, limits)?;
+            let shown = is_top_within(alloc, order, &games, which, vertex, limits, looks)?;
             Ok(shown)
         }
         None => Ok(Shown::Yes),

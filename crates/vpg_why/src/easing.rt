@@ -1,5 +1,5 @@
 //! Easier aims: any product will do where each one that is left meets the aim.
-ghost use Rattle.std.specs.Prelude.{◌≡◌, ◌<◌, length, IfOk};
+ghost use Rattle.std.specs.Prelude.{◌≡◌, ◌<◌, ◌≤◌, length, IfOk};
 ghost use Rattle.vpg_measure.specs.Games.{ArePageGames};
 ghost use Rattle.vpg_measure.specs.Orders.{other_table};
 ghost use Rattle.vpg_partial.specs.TableLaws.{AreChoicesOf};
@@ -7,7 +7,7 @@ ghost use Rattle.vpg_why.specs.Eased.{IsEased};
 ghost use Rattle.vpg_why.specs.Explained.{choices};
 ghost use Rattle.vpg_why.specs.Suffices.{IsAim};
 
-use crate::asking::is_top;
+use crate::asking::is_top_within;
 use crate::question::{Aim, Limits, Shown};
 use std::alloc::{AllocError, Global};
 use vpg_measure::{Order, PageGames};
@@ -34,16 +34,18 @@ pub(crate) fn eased_under(
     vertex: u32,
     decisions: &[Decision],
     limits: Limits,
+    looks: &mut u64,
 ) -> Result<Aim, AllocError>
     requires games { ArePageGames order.now.game order.now.diagram (choices decisions.now) games.now }
     requires named { AreChoicesOf order.now.diagram.lines (choices decisions.now) }
     requires vertex { vertex < length order.now.game.vertices }
-    ensures { IfOk result
+    ensures eased { IfOk result
         (IsEased order.now.game order.now.diagram (choices decisions.now) (Aim.Won which vertex)) }
+    ensures looks { IfOk result (λ aim. looks.new ≤ looks.old) }
 {
     // Properties of every order, for the proof.
     let _order = order.game();
-    let shown = is_top(alloc, order, games, opposite(which), vertex, limits)?;
+    let shown = is_top_within(alloc, order, games, opposite(which), vertex, limits, looks)?;
     match shown {
         Shown::Yes => Ok(Aim::Any),
         _ => Ok(Aim::Won { which, vertex }),

@@ -4,7 +4,7 @@ ghost use Rattle.vpg_partial.specs.TableLaws.{AreChoicesOf};
 ghost use Rattle.vpg_why.specs.Explained.{choices, front_with, IsLast, OfFronts, Explains};
 ghost use Rattle.vpg_why.specs.Suffices.{Suffice, EachIsSettled, IsAskable, IsSettled};
 
-use crate::answering::suffice;
+use crate::answering::suffice_within;
 use crate::question::{Limits, Question, Shown};
 use std::alloc::{AllocError, Global};
 use vpg_measure::Order;
@@ -42,6 +42,9 @@ fn front_suffices(
     most: usize,
     kept: &[Decision],
     limits: Limits,
+    looks: &mut u64,
+    is_small: bool,
+    trials: &mut u64,
 ) -> Result<Shown, AllocError>
     requires named { AreChoicesOf order.now.diagram.lines (choices decisions.now) }
     requires kept_named { AreChoicesOf order.now.diagram.lines (choices kept.now) }
@@ -49,12 +52,19 @@ fn front_suffices(
     requires within { most ≤ length decisions.now }
     ensures yes { IfOk result (λ shown. shown ≡ Shown.Yes → Suffice order.now.game order.now.diagram question (choices (front_with most decisions.now kept.now))) }
     ensures no { IfOk result (λ shown. shown ≡ Shown.No → Suffice order.now.game order.now.diagram question (choices (front_with most decisions.now kept.now)) → ⊥) }
-    ensures settled { IfOk result (λ shown.
+    ensures settled { IfOk result (λ shown. IsTrue is_small →
         IsSettled order.now.game order.now.diagram limits question (choices (front_with most decisions.now kept.now)) →
         shown ≢ Shown.Unsettled) }
+    ensures looks { IfOk result (λ shown. looks.new ≤ looks.old) }
+    ensures left { IfOk result (λ shown. trials.new ≤ trials.old) }
 {
+    if !is_small && *looks == 0 {
+        return Ok(Shown::Unsettled);
+    }
     let joined = joined(alloc, decisions, most, kept)?;
-    let shown = suffice(alloc, order, question, &joined, limits)?;
+    let shown = suffice_within(
+        alloc, order, question, &joined, limits, looks, is_small, trials,
+    )?;
     Ok(shown)
 }
 
@@ -100,6 +110,9 @@ fn halve(
     exact: bool,
     hint: &[Decision],
     limits: Limits,
+    looks: &mut u64,
+    is_small: bool,
+    trials: &mut u64,
 ) -> Result<Last, AllocError>
     requires named { AreChoicesOf order.now.diagram.lines (choices decisions.now) }
     requires kept_named { AreChoicesOf order.now.diagram.lines (choices kept.now) }
@@ -107,21 +120,25 @@ fn halve(
     requires within { most ≤ length decisions.now }
     requires some { 0 < most }
     requires enough { Suffice order.now.game order.now.diagram question (choices (front_with most decisions.now kept.now)) }
-    requires settled { OfFronts (IsSettled order.now.game order.now.diagram limits question) decisions.now kept.now →
+    requires settled { IsTrue is_small → OfFronts (IsSettled order.now.game order.now.diagram limits question) decisions.now kept.now →
         IsTrue exact }
     requires short { IsTrue exact → Suffice order.now.game order.now.diagram question (choices (front_with 0 decisions.now kept.now)) → ⊥ }
     ensures place { IfOk result (λ last. last.place < most) }
     ensures enough { IfOk result (λ last. Suffice order.now.game order.now.diagram question (choices (front_with (last.place + 1) decisions.now kept.now))) }
     ensures short { IfOk result (λ last. IsTrue last.exact → Suffice order.now.game order.now.diagram question (choices (front_with last.place decisions.now kept.now)) → ⊥) }
-    ensures settled { IfOk result (λ last.
+    ensures settled { IfOk result (λ last. IsTrue is_small →
         OfFronts (IsSettled order.now.game order.now.diagram limits question) decisions.now kept.now → IsTrue last.exact) }
+    ensures looks { IfOk result (λ last. looks.new ≤ looks.old) }
+    ensures left { IfOk result (λ last. trials.new ≤ trials.old) }
 {
     let mut low = 0;
     let mut high = most;
     let mut exact = exact;
     'halving: while high - low > 1 {
         let middle = between(decisions, hint, low, high);
-        let shown = front_suffices(alloc, order, question, decisions, middle, kept, limits)?;
+        let shown = front_suffices(
+            alloc, order, question, decisions, middle, kept, limits, looks, is_small, trials,
+        )?;
         match shown {
             Shown::Yes => high = middle,
             Shown::No => {
@@ -147,6 +164,9 @@ fn last_needed(
     kept: &[Decision],
     hint: &[Decision],
     limits: Limits,
+    looks: &mut u64,
+    is_small: bool,
+    trials: &mut u64,
 ) -> Result<Option<Last>, AllocError>
     requires named { AreChoicesOf order.now.diagram.lines (choices decisions.now) }
     requires kept_named { AreChoicesOf order.now.diagram.lines (choices kept.now) }
@@ -156,23 +176,27 @@ fn last_needed(
     requires enough { Suffice order.now.game order.now.diagram question (choices (front_with most decisions.now kept.now)) }
     ensures none { IfOk result (λ found. IsNone found → Suffice order.now.game order.now.diagram question (choices (front_with 0 decisions.now kept.now))) }
     ensures some { IfOk result (λ found. IfSome found (λ last. IsLast (Suffice order.now.game order.now.diagram question) decisions.now kept.now most last.place last.exact)) }
-    ensures settled { IfOk result (λ found. IfSome found (λ last.
+    ensures settled { IfOk result (λ found. IfSome found (λ last. IsTrue is_small →
         OfFronts (IsSettled order.now.game order.now.diagram limits question) decisions.now kept.now → IsTrue last.exact)) }
+    ensures looks { IfOk result (λ found. looks.new ≤ looks.old) }
+    ensures left { IfOk result (λ found. trials.new ≤ trials.old) }
 {
-    let shown = front_suffices(alloc, order, question, decisions, 0, kept, limits)?;
+    let shown = front_suffices(
+        alloc, order, question, decisions, 0, kept, limits, looks, is_small, trials,
+    )?;
     let exact = match shown {
         Shown::Yes => return Ok(None),
         Shown::No => true,
         Shown::Unsettled => false,
     };
     let last = halve(
-        alloc, order, question, decisions, most, kept, exact, hint, limits,
+        alloc, order, question, decisions, most, kept, exact, hint, limits, looks, is_small, trials,
     )?;
     Ok(Some(last))
 }
 
-// The explanation of `explain`. It is tried first whether the last of the decisions in the hint are the last that are
-// needed.
+// The explanation of `explain`, with the looks of a line, and its trials unless a small family has those of the limits
+// for each question. It is tried first whether the last of the decisions in the hint are the last that are needed.
 pub(crate) fn explain_by(
     alloc: Global,
     order: &Order,
@@ -180,13 +204,18 @@ pub(crate) fn explain_by(
     decisions: &[Decision],
     hint: &[Decision],
     limits: Limits,
+    looks: &mut u64,
+    is_small: bool,
+    trials: &mut u64,
 ) -> Result<Explanation, AllocError>
     requires named { AreChoicesOf order.now.diagram.lines (choices decisions.now) }
     requires askable { IsAskable order.now.game order.now.diagram question }
     requires enough { Suffice order.now.game order.now.diagram question (choices decisions.now) }
     ensures explains { IfOk result (λ found. Explains (Suffice order.now.game order.now.diagram question) decisions.now found.decisions.items found.exact) }
-    ensures settled { IfOk result (λ found.
+    ensures settled { IfOk result (λ found. IsTrue is_small →
         EachIsSettled order.now.game order.now.diagram limits question (choices decisions.now) → IsTrue found.exact) }
+    ensures looks { IfOk result (λ found. looks.new ≤ looks.old) }
+    ensures left { IfOk result (λ found. trials.new ≤ trials.old) }
 {
     // Properties of every order, for the proof.
     let _order = order.game();
@@ -194,7 +223,9 @@ pub(crate) fn explain_by(
     let mut exact = true;
     let mut most = decisions.len();
     'listing: while most > 0 {
-        let found = last_needed(alloc, order, question, decisions, most, &kept, hint, limits)?;
+        let found = last_needed(
+            alloc, order, question, decisions, most, &kept, hint, limits, looks, is_small, trials,
+        )?;
         match found {
             Some(last) => {
                 kept.insert(0, decisions[last.place])?;
@@ -230,6 +261,18 @@ pub fn explain(
     ensures settled { IfOk result (λ found.
         EachIsSettled order.now.game order.now.diagram limits question (choices decisions.now) → IsTrue found.exact) }
 {
-    let found = explain_by(alloc, order, question, decisions, &[], limits)?;
+    let mut looks = limits.budget;
+    let mut trials = limits.trials;
+    let found = explain_by(
+        alloc,
+        order,
+        question,
+        decisions,
+        &[],
+        limits,
+        &mut looks,
+        true,
+        &mut trials,
+    )?;
     Ok(found)
 }

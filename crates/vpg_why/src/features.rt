@@ -1,10 +1,9 @@
 //! A search by features alone.
-ghost use Rattle.std.specs.Prelude.{◌≡◌, ◌<◌, ◌≤◌, ◌+◌, ◌++◌, ◌∷◌, [], Bool, List, ℕ, length, map, take, count_by, true, false, slice_index_or, IfOk, IfSome, IsNone, IsSome, IsTrue, ◌↔◌};
+ghost use Rattle.std.specs.Prelude.{◌≡◌, ◌<◌, ◌≤◌, ◌+◌, [], ℕ, length, map, take, count_by, true, false, slice_index_or, IfOk, IfSome, IsNone, IsTrue, ◌↔◌};
 ghost use Rattle.std.proofs.Math.ListN.{set};
 ghost use Rattle.std.specs.List.{AllByRecursion};
 ghost use Rattle.vpg_guards.specs.declared.tri.Tri.TheVariants.{Unknown};
 ghost use Rattle.vpg_guards.specs.Known.{AreAllKnown, IsFiner};
-ghost use Rattle.vpg_diagram.specs.FeatureDiagram.{feature_count};
 ghost use Rattle.vpg_game.specs.Game.{NamedGame};
 ghost use Rattle.vpg_partial.specs.KnownTable.{is_known_as};
 ghost use Rattle.vpg_partial.specs.TableLaws.{AreChoicesOf, IsOnlyRemaining};
@@ -348,6 +347,7 @@ pub(crate) fn search_features(
     avoided: &[bool],
     begun: usize,
     limits: Limits,
+    looks: &mut u64,
     depth: u32,
     trials: &mut u64,
 ) -> Result<Reasoned, AllocError>
@@ -361,6 +361,7 @@ pub(crate) fn search_features(
     ensures settled { IfOk result
         (λ found. HasRoom order.now.diagram (choices decisions.now) depth trials.old →
         IsReasonedExact avoided.now found) }
+    ensures looks { IfOk result (λ found. looks.new ≤ looks.old) }
 {
     // Properties of every order, for the proof.
     let _order = order.game();
@@ -370,7 +371,7 @@ pub(crate) fn search_features(
     let begun = begun.min(decisions.len());
     let Some(known) = closed(alloc, order, decisions)? else {
         *trials -= 1;
-        let marks = reason(alloc, order, Aim::Any, decisions, begun, limits)?;
+        let marks = reason(alloc, order, Aim::Any, decisions, begun, limits, looks)?;
         return Ok(Reasoned::Nothing(marks));
     };
     let found = search_known(

@@ -129,13 +129,18 @@ fn used_under(
     vertex: u32,
     decisions: &[Decision],
     limits: Limits,
+    looks: &mut u64,
 ) -> Result<Option<Vec<bool>>, AllocError>
     requires games { ArePageGames order.now.game order.now.diagram (choices decisions.now) games.now }
     requires vertex { vertex < length order.now.game.vertices }
+    ensures { IfOk result (λ found. looks.new ≤ looks.old) }
 {
+    if *looks == 0 {
+        return Ok(None);
+    }
     let winner = opposite(which);
     let arena = caution(alloc, order.game(), games.known(), winner)?;
-    let Some(table) = table_of(alloc, order.game(), games, winner, &arena, limits)? else {
+    let Some(table) = table_of(alloc, order.game(), games, winner, &arena, limits, looks)? else {
         return Ok(None);
     };
     let Some(moves) = moves_by(alloc, games.shape(winner), &arena, &table, vertex)? else {
@@ -317,10 +322,12 @@ pub(crate) fn grounds(
     decisions: &[Decision],
     begun: usize,
     limits: Limits,
+    looks: &mut u64,
 ) -> Result<Vec<bool>, AllocError>
     requires named { AreChoicesOf order.now.diagram.lines (choices decisions.now) }
     requires aim { IsAim order.now.game aim }
-    ensures { IfOk result (λ marks. length marks.items ≡ length decisions.now) }
+    ensures count { IfOk result (λ marks. length marks.items ≡ length decisions.now) }
+    ensures looks { IfOk result (λ marks. looks.new ≤ looks.old) }
 {
     let none = decided(alloc, decisions, begun, &[])?;
     let Aim::Won { which, vertex } = aim else {
@@ -329,7 +336,9 @@ pub(crate) fn grounds(
     let Some(games) = games_with(alloc, order, decisions)? else {
         return mark_until_shown(alloc, order, decisions, none, None);
     };
-    match used_under(alloc, order, &games, which, vertex, decisions, limits)? {
+    match used_under(
+        alloc, order, &games, which, vertex, decisions, limits, looks,
+    )? {
         Some(used) => {
             let marks = decided(alloc, decisions, begun, &used)?;
             mark_until_shown(alloc, order, decisions, marks, Some((games.known(), &used)))

@@ -18,16 +18,18 @@
 //! that may be there, by such moves or by any.
 //!
 //! The layer above uses `why`, `why_lost`, `why_known`, `why_conflict` (explanations), `find` (an example or a
-//! counterexample, or that there is none) and `needs` (the features that all won products share). It uses `look_ahead`,
-//! `look_back`, `stays_without` (the verdicts after one more decision, or one fewer), `repair` (what to retract) and
-//! `winning_moves`. `Which::Hopeful` asks for Even, `Which::Dual` for Odd. Every answer has `Limits` of work, and says
-//! if it met one: it is then unsettled, never wrong.
+//! counterexample, or that there is none) and `needs` (the features that all won products share). It uses `foresee`
+//! (the verdicts and the winner after one more decision), `seek` and `verdict_shown` (what other decisions would bring)
+//! and `winning_moves`. `look_ahead`, `look_back`, `stays_without` and `repair` speak of verdicts alone.
+//! `Which::Hopeful` asks for Even, `Which::Dual` for Odd. Every answer has `Limits` of work, and says if it met one: it
+//! is then unsettled, never wrong. Its searches share them: each takes looks and trials from what is left, and gives
+//! back what it did not need. Only a search of few features has the trials of the limits for itself.
 //!
 //! Definitions: `specs/Suffices` (what decisions alone make so); `specs/Explained` (explanations); `specs/Products`
 //! (the products that decisions leave); `specs/Eased` (aims that each product left meets); `specs/Found`,
-//! `specs/Offered`, `specs/Repaired` (the meaning of the answers); `specs/Moves`, `specs/Played` and `specs/Reachable`
-//! (moves that win, and the vertices that they come to); `specs/Searched` for the search of vertices; `specs/Reasons`
-//! (why a search finds nothing). Their laws stand in `laws`.
+//! `specs/Offered`, `specs/Foreseen`, `specs/Repaired` (the meaning of the answers); `specs/Moves`, `specs/Played` and
+//! `specs/Reachable` (moves that win, and the vertices that they come to); `specs/Searched` for the search of vertices;
+//! `specs/Reasons` (why a search finds nothing). Their laws stand in `laws`.
 #![tactic(auto)]
 
 mod answering;
@@ -36,6 +38,7 @@ mod easing;
 mod explaining;
 mod features;
 mod forcing;
+mod foreseeing;
 mod grounds;
 pub mod laws;
 mod offering;
@@ -50,13 +53,15 @@ mod telling;
 mod winning;
 
 pub use answering::suffice;
-pub use asking::{games_with, with_one};
+pub use asking::{games_with, verdict_shown, with_one};
 pub use explaining::{Explanation, explain};
 pub use forcing::{Demand, Forced, needs};
+pub use foreseeing::{Findings, Foresight, Side, foresee, no_findings};
 pub use offering::{Offer, look_ahead, look_back, stays_without};
 pub use question::{Aim, Limits, Question, Shown};
 pub use repairing::{Remedy, Retraction, repair};
 pub use searching::{Example, Found, Outlook, find, look_at_games, search, search_all};
+pub use seeking::{is_small, large_limits, seek};
 pub use stepping::reachable;
-pub use telling::{WhyLost, why, why_conflict, why_known, why_lost};
+pub use telling::{WhyLost, why, why_conflict, why_known, why_lost, why_within};
 pub use winning::{Moves, winning_moves};

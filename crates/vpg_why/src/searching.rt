@@ -1,6 +1,6 @@
 //! A search for a product that meets an aim.
 ghost use Rattle.std.specs.Prelude.{◌≡◌, ◌≢◌, ◌<◌, ◌≤◌, ◌+◌, ◌++◌, ◌∷◌, [], List, ℕ, true, false, not, length, Bool};
-ghost use Rattle.std.specs.Prelude.{slice_index_or, IfOk, IfSome, IsNone, IsSome};
+ghost use Rattle.std.specs.Prelude.{slice_index_or, IfOk, IfSome, IsNone, IsSome, IsTrue};
 ghost use Rattle.vpg_guards.specs.declared.tri.Tri.TheVariants.{Unknown};
 ghost use Rattle.vpg_guards.specs.Known.{AreAllKnown};
 ghost use Rattle.vpg_diagram.specs.DiagramText.{NamedDiagram};
@@ -15,12 +15,12 @@ ghost use Rattle.vpg_why.specs.Eased.{IsEased};
 ghost use Rattle.vpg_why.specs.Reasons.{either_of, HasMarks, IsHalf, IsHalfExact, IsHalfMarked, IsReason, IsReasoned, IsReasonedExact, IsTaken};
 ghost use Rattle.vpg_why.specs.Suffices.{choice, IsAim, IsBarred, MayMeet, AimSettles, AimSettlesUnder, AreOpenUpTo, SettlesUnder, IsSettled, most_trials};
 
-use crate::asking::{closed, games_with, is_top, with_one};
+use crate::asking::{closed, games_with, is_top_within, with_one};
 use crate::easing::{eased, eased_under};
 use crate::features::search_features;
 use crate::grounds::{grounds, kept_by};
 use crate::question::{Aim, Limits, Question, Shown};
-use crate::seeking::has;
+use crate::seeking::{has, is_small, large_limits};
 use std::alloc::{AllocError, Global};
 use vpg_guards::Tri;
 use vpg_measure::{Order, PageGames};
@@ -140,6 +140,7 @@ pub fn look_at_games(
     vertex: u32,
     decisions: &[Decision],
     limits: Limits,
+    looks: &mut u64,
 ) -> Result<Outlook, AllocError>
     requires games { ArePageGames order.now.game order.now.diagram (choices decisions.now) games.now }
     requires named { AreChoicesOf order.now.diagram.lines (choices decisions.now) }
@@ -149,10 +150,11 @@ pub fn look_at_games(
     ensures settled { IfOk result
         (λ outlook. SettlesUnder limits.rounds order.now.game order.now.diagram which (choices decisions.now) →
         IsOutlookExact outlook) }
+    ensures looks { IfOk result (λ outlook. looks.new ≤ looks.old) }
 {
     // Properties of every order, for the proof.
     let _order = order.game();
-    let shown = is_top(alloc, order, games, which, vertex, limits)?;
+    let shown = is_top_within(alloc, order, games, which, vertex, limits, looks)?;
     let aim = Aim::Won { which, vertex };
     let found = outlook_under(alloc, order, aim, decisions, games.known(), shown)?;
     Ok(found)
@@ -166,6 +168,7 @@ fn look_at_game(
     vertex: u32,
     decisions: &[Decision],
     limits: Limits,
+    looks: &mut u64,
 ) -> Result<Outlook, AllocError>
     requires named { AreChoicesOf order.now.diagram.lines (choices decisions.now) }
     requires vertex { vertex < length order.now.game.vertices }
@@ -174,11 +177,14 @@ fn look_at_game(
     ensures settled { IfOk result
         (λ outlook. SettlesUnder limits.rounds order.now.game order.now.diagram which (choices decisions.now) →
         IsOutlookExact outlook) }
+    ensures looks { IfOk result (λ outlook. looks.new ≤ looks.old) }
 {
     // Properties of every order, for the proof.
     let _order = order.game();
     match games_with(alloc, order, decisions)? {
-        Some(games) => look_at_games(alloc, order, &games, which, vertex, decisions, limits),
+        Some(games) => look_at_games(
+            alloc, order, &games, which, vertex, decisions, limits, looks,
+        ),
         None => Ok(Outlook::Lost),
     }
 }
@@ -189,6 +195,7 @@ pub(crate) fn look(
     aim: Aim,
     decisions: &[Decision],
     limits: Limits,
+    looks: &mut u64,
 ) -> Result<Outlook, AllocError>
     requires named { AreChoicesOf order.now.diagram.lines (choices decisions.now) }
     requires aim { IsAim order.now.game aim }
@@ -196,10 +203,13 @@ pub(crate) fn look(
     ensures settled { IfOk result
         (λ outlook. AimSettlesUnder limits.rounds order.now.game order.now.diagram aim (choices decisions.now) →
         IsOutlookExact outlook) }
+    ensures looks { IfOk result (λ outlook. looks.new ≤ looks.old) }
 {
     match aim {
         Aim::Any => look_at_features(alloc, order, decisions),
-        Aim::Won { which, vertex } => look_at_game(alloc, order, which, vertex, decisions, limits),
+        Aim::Won { which, vertex } => look_at_game(
+            alloc, order, which, vertex, decisions, limits, looks,
+        ),
     }
 }
 
@@ -220,16 +230,20 @@ fn aim_beyond(
     vertex: u32,
     decisions: &[Decision],
     limits: Limits,
+    looks: &mut u64,
     outlook: &Outlook,
 ) -> Result<Aim, AllocError>
     requires games { ArePageGames order.now.game order.now.diagram (choices decisions.now) games.now }
     requires named { AreChoicesOf order.now.diagram.lines (choices decisions.now) }
     requires vertex { vertex < length order.now.game.vertices }
-    ensures { IfOk result
+    ensures eased { IfOk result
         (IsEased order.now.game order.now.diagram (choices decisions.now) (Aim.Won which vertex)) }
+    ensures looks { IfOk result (λ aim. looks.new ≤ looks.old) }
 {
     match outlook {
-        Outlook::Open { .. } => eased_under(alloc, order, games, which, vertex, decisions, limits),
+        Outlook::Open { .. } => eased_under(
+            alloc, order, games, which, vertex, decisions, limits, looks,
+        ),
         _ => Ok(Aim::Won { which, vertex }),
     }
 }
@@ -243,6 +257,7 @@ fn scout_games(
     vertex: u32,
     decisions: &[Decision],
     limits: Limits,
+    looks: &mut u64,
 ) -> Result<Scouted, AllocError>
     requires games { ArePageGames order.now.game order.now.diagram (choices decisions.now) games.now }
     requires named { AreChoicesOf order.now.diagram.lines (choices decisions.now) }
@@ -254,10 +269,11 @@ fn scout_games(
         IsOutlookExact seen.outlook) }
     ensures eased { IfOk result (λ seen.
         IsEased order.now.game order.now.diagram (choices decisions.now) (Aim.Won which vertex) seen.aim) }
+    ensures looks { IfOk result (λ seen. looks.new ≤ looks.old) }
 {
-    let outlook = look_at_games(alloc, order, games, which, vertex, decisions, limits)?;
+    let outlook = look_at_games(alloc, order, games, which, vertex, decisions, limits, looks)?;
     let aim = aim_beyond(
-        alloc, order, games, which, vertex, decisions, limits, &outlook,
+        alloc, order, games, which, vertex, decisions, limits, looks, &outlook,
     )?;
     Ok(Scouted { outlook, aim })
 }
@@ -270,6 +286,7 @@ fn scout_game(
     vertex: u32,
     decisions: &[Decision],
     limits: Limits,
+    looks: &mut u64,
 ) -> Result<Scouted, AllocError>
     requires named { AreChoicesOf order.now.diagram.lines (choices decisions.now) }
     requires vertex { vertex < length order.now.game.vertices }
@@ -280,11 +297,14 @@ fn scout_game(
         IsOutlookExact seen.outlook) }
     ensures eased { IfOk result (λ seen.
         IsEased order.now.game order.now.diagram (choices decisions.now) (Aim.Won which vertex) seen.aim) }
+    ensures looks { IfOk result (λ seen. looks.new ≤ looks.old) }
 {
     // Properties of every order, for the proof.
     let _order = order.game();
     match games_with(alloc, order, decisions)? {
-        Some(games) => scout_games(alloc, order, &games, which, vertex, decisions, limits),
+        Some(games) => scout_games(
+            alloc, order, &games, which, vertex, decisions, limits, looks,
+        ),
         None => Ok(Scouted {
             outlook: Outlook::Lost,
             aim: Aim::Won { which, vertex },
@@ -298,6 +318,7 @@ fn scout(
     aim: Aim,
     decisions: &[Decision],
     limits: Limits,
+    looks: &mut u64,
 ) -> Result<Scouted, AllocError>
     requires named { AreChoicesOf order.now.diagram.lines (choices decisions.now) }
     requires aim { IsAim order.now.game aim }
@@ -308,13 +329,16 @@ fn scout(
         IsOutlookExact seen.outlook) }
     ensures eased { IfOk result (λ seen.
         IsEased order.now.game order.now.diagram (choices decisions.now) aim seen.aim) }
+    ensures looks { IfOk result (λ seen. looks.new ≤ looks.old) }
 {
     match aim {
         Aim::Any => {
             let outlook = look_at_features(alloc, order, decisions)?;
             Ok(Scouted { outlook, aim })
         }
-        Aim::Won { which, vertex } => scout_game(alloc, order, which, vertex, decisions, limits),
+        Aim::Won { which, vertex } => scout_game(
+            alloc, order, which, vertex, decisions, limits, looks,
+        ),
     }
 }
 
@@ -451,17 +475,19 @@ pub(crate) fn reason(
     decisions: &[Decision],
     begun: usize,
     limits: Limits,
+    looks: &mut u64,
 ) -> Result<Vec<bool>, AllocError>
     requires named { AreChoicesOf order.now.diagram.lines (choices decisions.now) }
     requires aim { IsAim order.now.game aim }
     requires lost { NoneMeets order.now.game order.now.diagram aim (choices decisions.now) }
-    ensures { IfOk result (λ marks.
+    ensures reason { IfOk result (λ marks.
         IsReason order.now.game order.now.diagram aim (choices decisions.now) [] marks.items) }
+    ensures looks { IfOk result (λ marks. looks.new ≤ looks.old) }
 {
     if decisions.len() > begun {
-        let marks = grounds(alloc, order, aim, decisions, begun, limits)?;
+        let marks = grounds(alloc, order, aim, decisions, begun, limits, looks)?;
         let kept = kept_by(alloc, decisions, &marks)?;
-        if let Outlook::Lost = look(alloc, order, aim, &kept, limits)? {
+        if let Outlook::Lost = look(alloc, order, aim, &kept, limits, looks)? {
             return Ok(marks);
         }
     }
@@ -491,6 +517,8 @@ pub(crate) fn search_with_reasons(
     avoided: &[bool],
     begun: usize,
     limits: Limits,
+    looks: &mut u64,
+    is_small: bool,
     depth: u32,
     trials: &mut u64,
 ) -> Result<Reasoned, AllocError>
@@ -503,25 +531,29 @@ pub(crate) fn search_with_reasons(
         AreOpenUpTo most order.now.diagram.lines (choices decisions.now) →
         trials.old ≤ trials.new + most_trials (most + 1)) }
     ensures settled { IfOk result
-        (λ found. HasRoom order.now.diagram (choices decisions.now) depth trials.old →
+        (λ found. IsTrue is_small → HasRoom order.now.diagram (choices decisions.now) depth trials.old →
         AimSettles limits.rounds order.now.game order.now.diagram aim (choices decisions.now) →
         IsReasonedExact avoided.now found) }
+    ensures looks { IfOk result (λ found. looks.new ≤ looks.old) }
 {
     if let Aim::Any = aim {
         let sought = search_features(
-            alloc, order, decisions, avoided, begun, limits, depth, trials,
+            alloc, order, decisions, avoided, begun, limits, looks, depth, trials,
         )?;
         return Ok(sought);
+    }
+    if !is_small && *looks == 0 {
+        return Ok(Reasoned::Unsettled);
     }
     if depth == 0 || *trials == 0 {
         return Ok(Reasoned::Unsettled);
     }
     *trials -= 1;
-    let seen = scout(alloc, order, aim, decisions, limits)?;
+    let seen = scout(alloc, order, aim, decisions, limits, looks)?;
     let outlook = seen.outlook;
     let feature = match outlook {
         Outlook::Lost => {
-            let marks = reason(alloc, order, aim, decisions, begun, limits)?;
+            let marks = reason(alloc, order, aim, decisions, begun, limits, looks)?;
             return Ok(Reasoned::Nothing(marks));
         }
         Outlook::Met(features) => {
@@ -540,7 +572,7 @@ pub(crate) fn search_with_reasons(
     let more = with_one(alloc, decisions, feature, value)?;
     let less = depth - 1;
     let one = search_with_reasons(
-        alloc, order, aim, &more, avoided, begun, limits, less, trials,
+        alloc, order, aim, &more, avoided, begun, limits, looks, is_small, less, trials,
     )?;
     *trials += kept;
     let reason = match first_half(decisions.len(), value, one) {
@@ -549,20 +581,23 @@ pub(crate) fn search_with_reasons(
     };
     let more = with_one(alloc, decisions, feature, !value)?;
     let other = search_with_reasons(
-        alloc, order, aim, &more, avoided, begun, limits, less, trials,
+        alloc, order, aim, &more, avoided, begun, limits, looks, is_small, less, trials,
     )?;
     let found = both(alloc, decisions.len(), value, reason, other)?;
     Ok(found)
 }
 
 /// Searches as `find` does, among the products that agree with the decisions. Splits nest at most this deep, and each
-/// look takes one of the trials. If these are used up, the search gives up.
+/// look takes one of the trials. If these are used up, the search gives up. So it does if the looks for certified
+/// bounds are, unless it is to go on, with rounds of lifts alone, as in a small family.
 pub fn search(
     alloc: Global,
     order: &Order,
     aim: Aim,
     decisions: &[Decision],
     limits: Limits,
+    looks: &mut u64,
+    is_small: bool,
     depth: u32,
     trials: &mut u64,
 ) -> Result<Found, AllocError>
@@ -577,8 +612,9 @@ pub fn search(
         AreOpenUpTo most order.now.diagram.lines (choices decisions.now) →
         trials.old ≤ trials.new + most_trials (most + 1)) }
     ensures settled { IfOk result
-        (λ found. HasRoom order.now.diagram (choices decisions.now) depth trials.old →
+        (λ found. IsTrue is_small → HasRoom order.now.diagram (choices decisions.now) depth trials.old →
         AimSettles limits.rounds order.now.game order.now.diagram aim (choices decisions.now) → IsFoundExact found) }
+    ensures looks { IfOk result (λ found. looks.new ≤ looks.old) }
 {
     let begun = decisions.len();
     match search_with_reasons(
@@ -589,6 +625,8 @@ pub fn search(
         &[],
         begun,
         limits,
+        looks,
+        is_small,
         depth,
         trials,
     )? {
@@ -598,13 +636,44 @@ pub fn search(
     }
 }
 
-/// Searches as `find` does, among the products that agree with the decisions in place of the order's own.
+// Searches as `search` does, as deep as it may go, with these trials.
+fn search_for(
+    alloc: Global,
+    order: &Order,
+    aim: Aim,
+    decisions: &[Decision],
+    limits: Limits,
+    looks: &mut u64,
+    is_small: bool,
+    trials: &mut u64,
+) -> Result<Found, AllocError>
+    requires named { AreChoicesOf order.now.diagram.lines (choices decisions.now) }
+    requires aim { IsAim order.now.game aim }
+    ensures found { IfOk result (IsFound order.now.game order.now.diagram aim (choices decisions.now)) }
+    ensures settled { IfOk result (λ found. IsTrue is_small → limits.trials ≤ trials.old →
+        IsSettled order.now.game order.now.diagram limits (Question.Lost aim) (choices decisions.now) →
+        IsFoundExact found) }
+    ensures looks { IfOk result (λ found. looks.new ≤ looks.old) }
+    ensures left { IfOk result (λ found. trials.new ≤ trials.old) }
+{
+    let depth = order.diagram().features() as u32 + 1;
+    let found = search(
+        alloc, order, aim, decisions, limits, looks, is_small, depth, trials,
+    )?;
+    Ok(found)
+}
+
+/// Searches as `find` does, among the products that agree with the decisions in place of the order's own. Looks and
+/// trials are taken from those that are lent, and the search ends where one of them does. But where the trials of the
+/// limits suffice for each case of the open features, it has these, and goes on by rounds of lifts.
 pub fn search_all(
     alloc: Global,
     order: &Order,
     aim: Aim,
     decisions: &[Decision],
     limits: Limits,
+    looks: &mut u64,
+    trials: &mut u64,
 ) -> Result<Found, AllocError>
     requires named { AreChoicesOf order.now.diagram.lines (choices decisions.now) }
     requires aim { IsAim order.now.game aim }
@@ -612,10 +681,40 @@ pub fn search_all(
     ensures settled { IfOk result
         (λ found. IsSettled order.now.game order.now.diagram limits (Question.Lost aim) (choices decisions.now) →
         IsFoundExact found) }
+    // No looks and no trials are added.
+    ensures looks { IfOk result (λ found. looks.new ≤ looks.old) }
+    ensures left { IfOk result (λ found. trials.new ≤ trials.old) }
 {
-    let mut trials = limits.trials;
-    let depth = order.diagram().features() as u32 + 1;
-    let found = search(alloc, order, aim, decisions, limits, depth, &mut trials)?;
+    let is_small = is_small(alloc, order, decisions, limits)?;
+    if is_small {
+        let mut own = limits.trials;
+        let found = search_for(alloc, order, aim, decisions, limits, looks, true, &mut own)?;
+        return Ok(found);
+    }
+    let large = large_limits(order, limits, *looks);
+    let found = search_for(alloc, order, aim, decisions, large, looks, false, trials)?;
+    Ok(found)
+}
+
+/// Searches as `find` does, with the looks and the trials that a line has left.
+pub(crate) fn find_within(
+    alloc: Global,
+    order: &Order,
+    aim: Aim,
+    limits: Limits,
+    looks: &mut u64,
+    trials: &mut u64,
+) -> Result<Found, AllocError>
+    requires { IsAim order.now.game aim }
+    ensures found { IfOk result (IsFound order.now.game order.now.diagram aim (choices order.now.decisions)) }
+    ensures settled { IfOk result (λ found.
+        IsSettled order.now.game order.now.diagram limits (Question.Lost aim) (choices order.now.decisions) →
+        IsFoundExact found) }
+    ensures looks { IfOk result (λ found. looks.new ≤ looks.old) }
+    ensures left { IfOk result (λ found. trials.new ≤ trials.old) }
+{
+    let aim = eased(order, aim);
+    let found = search_all(alloc, order, aim, order.decisions(), limits, looks, trials)?;
     Ok(found)
 }
 
@@ -632,6 +731,8 @@ pub fn find(alloc: Global, order: &Order, aim: Aim, limits: Limits) -> Result<Fo
         (λ found. IsSettled order.now.game order.now.diagram limits (Question.Lost aim) (choices order.now.decisions) →
         IsFoundExact found) }
 {
-    let found = search_all(alloc, order, eased(order, aim), order.decisions(), limits)?;
+    let mut looks = limits.budget;
+    let mut trials = limits.trials;
+    let found = find_within(alloc, order, aim, limits, &mut looks, &mut trials)?;
     Ok(found)
 }

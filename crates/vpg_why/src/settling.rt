@@ -1,5 +1,5 @@
 //! The least progress table of an arena, and its moves.
-ghost use Rattle.std.specs.Prelude.{◌≡◌, ◌↔◌, ◌<◌, ℕ, List, length, replicate, slice_index, IfOk, IfSome, IsNone, IsTrue};
+ghost use Rattle.std.specs.Prelude.{◌≡◌, ◌↔◌, ◌<◌, ◌≤◌, ◌-◌, ℕ, List, length, replicate, slice_index, IfOk, IfSome, IsNone, IsTrue};
 ghost use Rattle.vpg_game.specs.Levels.{top_of};
 ghost use Rattle.vpg_hope.specs.Strategies.{Wins};
 ghost use Rattle.vpg_measure.specs.Least.{IsLeastTable};
@@ -9,9 +9,36 @@ ghost use Rattle.vpg_measure.specs.Views.{strategy_of};
 use crate::question::Limits;
 use std::alloc::{AllocError, Global};
 use vpg_game::Player;
-use vpg_guess::raise_by_bounds;
+use vpg_guess::raise_within;
 use vpg_hope::Arena;
 use vpg_measure::{Shape, StrategyFault, Table, is_progress, settle_alone, strategy};
+
+// Raises a table by certified bounds, which take half at most of the looks that are left. Returns whether it is a
+// progress table then.
+fn raise_for(
+    alloc: Global,
+    shape: &Shape,
+    dual_shape: &Shape,
+    arena: &Arena,
+    table: &mut Table,
+    looks: &mut u64,
+) -> Result<bool, AllocError>
+    requires { IsTableOf shape.now arena.now table.old }
+    ensures settled { IfOk result (λ settled. IsTrue settled ↔ IsProgressTable shape.now arena.now table.new) }
+    ensures table { IsTableOf shape.now arena.now table.new }
+    ensures above { IsBelowTable table.old table.new }
+    ensures below { (other : List ℕ) → IsTableOf shape.now arena.now other → IsProgressTable shape.now arena.now other →
+        IsBelowTable table.old other → IsBelowTable table.new other }
+    // A table takes a look for each vertex at least.
+    ensures spent { IfOk result (λ settled. looks.new ≤ looks.old - length arena.now) }
+{
+    let rest = looks.saturating_sub(arena.vertices() as u64);
+    let mut lent = rest / 2;
+    let kept = rest - lent;
+    let settled = raise_within(alloc, shape, dual_shape, arena, table, &mut lent)?;
+    *looks = kept + lent;
+    Ok(settled)
+}
 
 // Raises a table by certified bounds and, if these do not settle it, by rounds of lifts. Returns whether it is a
 // progress table then.
@@ -22,6 +49,7 @@ pub(crate) fn raise(
     arena: &Arena,
     table: &mut Table,
     limits: Limits,
+    looks: &mut u64,
 ) -> Result<bool, AllocError>
     requires { IsTableOf shape.now arena.now table.old }
     ensures settled { IfOk result (λ settled. IsTrue settled ↔ IsProgressTable shape.now arena.now table.new) }
@@ -35,8 +63,10 @@ pub(crate) fn raise(
     ensures rounds { IfOk result (λ settled.
         IsProgressTable shape.now arena.now (after_rounds shape.now arena.now limits.rounds table.old) →
         IsTrue settled) }
+    // A table takes a look for each vertex at least.
+    ensures spent { IfOk result (λ settled. looks.new ≤ looks.old - length arena.now) }
 {
-    let settled = raise_by_bounds(alloc, shape, dual_shape, arena, table, limits.budget)?;
+    let settled = raise_for(alloc, shape, dual_shape, arena, table, looks)?;
     if settled {
         return Ok(true);
     }
@@ -51,13 +81,15 @@ pub(crate) fn least_table(
     dual_shape: &Shape,
     arena: &Arena,
     limits: Limits,
+    looks: &mut u64,
 ) -> Result<Option<Table>, AllocError>
     ensures least { IfOk result (λ found. IfSome found (λ table. IsLeastTable shape.now arena.now table)) }
     ensures settled { IfOk result (λ found. IsNone found → IsProgressTable shape.now arena.now
         (after_rounds shape.now arena.now limits.rounds (replicate (length arena.now) 0)) → ⊥) }
+    ensures looks { IfOk result (λ found. looks.new ≤ looks.old - length arena.now) }
 {
     let mut table = Table::zero(alloc, shape, arena.vertices())?;
-    let settled = raise(alloc, shape, dual_shape, arena, &mut table, limits)?;
+    let settled = raise(alloc, shape, dual_shape, arena, &mut table, limits, looks)?;
     if settled { Ok(Some(table)) } else { Ok(None) }
 }
 

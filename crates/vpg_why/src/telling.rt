@@ -1,5 +1,5 @@
 //! Why a verdict, a loss, a known feature or a conflict is so.
-ghost use Rattle.std.specs.Prelude.{◌≡◌, ◌↔◌, ◌<◌, List, length, slice_index, IfOk, IfSome, IsSome, IsTrue};
+ghost use Rattle.std.specs.Prelude.{◌≡◌, ◌↔◌, ◌<◌, ◌≤◌, List, length, slice_index, IfOk, IfSome, IsSome, IsTrue};
 ghost use Rattle.vpg_game.specs.Game.{graph_of};
 ghost use Rattle.vpg_measure.specs.Orders.{order_table};
 ghost use Rattle.vpg_measure.specs.TwoGames.{top_for};
@@ -13,11 +13,51 @@ ghost use Rattle.vpg_why.specs.Suffices.{Suffice, EachIsSettled, IsAim, IsAskabl
 use crate::answering::suffice;
 use crate::explaining::{Explanation, explain, explain_by};
 use crate::question::{Aim, Limits, Question, Shown};
-use crate::searching::{Example, Found, find};
+use crate::searching::{Example, Found, find_within};
+use crate::seeking::is_small;
 use std::alloc::{AllocError, Global};
 use vpg_measure::Order;
 use vpg_partial::Decision;
 use vpg_verdict::Which;
+
+/// Returns the decisions that `why` returns, with the looks that a line has left.
+pub fn why_within(
+    alloc: Global,
+    order: &Order,
+    which: Which,
+    vertex: u32,
+    limits: Limits,
+    looks: &mut u64,
+) -> Result<Option<Explanation>, AllocError>
+    requires { vertex < length order.now.game.vertices }
+    ensures told { IfOk result (λ found. IsSome found ↔ (slice_index (order_table which order.now) vertex ≡ top_for which (graph_of order.now.game))) }
+    ensures explains { IfOk result (λ found. IfSome found (λ e.
+        Explains (Suffice order.now.game order.now.diagram (Question.Verdict which vertex)) order.now.decisions e.decisions.items e.exact)) }
+    // These decisions alone leave the loser of the verdict no winning strategy in any product that agrees with them.
+    ensures lost { IfOk result (λ found. IfSome found (λ e. NoneMeets order.now.game order.now.diagram (Aim.Won which vertex) (choices e.decisions.items))) }
+    ensures settled { IfOk result (λ found. IfSome found (λ e.
+        EachIsSettled order.now.game order.now.diagram limits (Question.Verdict which vertex)
+        (choices order.now.decisions) → IsTrue e.exact)) }
+    ensures looks { IfOk result (λ found. looks.new ≤ looks.old) }
+{
+    if order.table(which).get(vertex) != order.shape(which).top() {
+        return Ok(None);
+    }
+    let question = Question::Verdict { which, vertex };
+    let mut trials = limits.trials;
+    let found = explain_by(
+        alloc,
+        order,
+        question,
+        order.decisions(),
+        &[],
+        limits,
+        looks,
+        true,
+        &mut trials,
+    )?;
+    Ok(Some(found))
+}
 
 /// Returns the decisions of the page that make the vertex hopeless, by the hopeful table, or sure, by the dual one.
 /// Returns nothing if the page's table does not have it so.
@@ -38,12 +78,8 @@ pub fn why(
         EachIsSettled order.now.game order.now.diagram limits (Question.Verdict which vertex)
         (choices order.now.decisions) → IsTrue e.exact)) }
 {
-    if order.table(which).get(vertex) != order.shape(which).top() {
-        return Ok(None);
-    }
-    let question = Question::Verdict { which, vertex };
-    let found = explain(alloc, order, question, order.decisions(), limits)?;
-    Ok(Some(found))
+    let mut looks = limits.budget;
+    why_within(alloc, order, which, vertex, limits, &mut looks)
 }
 
 /// Why no product meets an aim: the decisions that make it so, or a product that does.
@@ -63,17 +99,55 @@ fn hint_for(
     order: &Order,
     aim: Aim,
     limits: Limits,
+    looks: &mut u64,
 ) -> Result<Vec<Decision>, AllocError>
     requires { IsAim order.now.game aim }
+    ensures { IfOk result (λ hint. looks.new ≤ looks.old) }
 {
     let verdict = match aim {
         Aim::Any => None,
-        Aim::Won { which, vertex } => why(alloc, order, which, vertex, limits)?,
+        Aim::Won { which, vertex } => why_within(alloc, order, which, vertex, limits, looks)?,
     };
     match verdict {
         Some(found) => Ok(found.decisions),
         None => Ok(Vec::new(alloc)),
     }
+}
+
+// The decisions that leave no product that meets the aim, with the looks and the trials that the line has left.
+fn because(
+    alloc: Global,
+    order: &Order,
+    aim: Aim,
+    limits: Limits,
+    looks: &mut u64,
+    trials: &mut u64,
+) -> Result<Explanation, AllocError>
+    requires aim { IsAim order.now.game aim }
+    requires lost { NoneMeets order.now.game order.now.diagram aim (choices order.now.decisions) }
+    ensures explains { IfOk result (λ found. Explains (Suffice order.now.game order.now.diagram (Question.Lost aim))
+        order.now.decisions found.decisions.items found.exact) }
+    ensures settled { IfOk result (λ found.
+        EachIsSettled order.now.game order.now.diagram limits (Question.Lost aim) (choices order.now.decisions) →
+        IsTrue found.exact) }
+    ensures looks { IfOk result (λ found. looks.new ≤ looks.old) }
+    ensures left { IfOk result (λ found. trials.new ≤ trials.old) }
+{
+    let hint = hint_for(alloc, order, aim, limits, looks)?;
+    let is_small = is_small(alloc, order, &[], limits)?;
+    let question = Question::Lost { aim };
+    let found = explain_by(
+        alloc,
+        order,
+        question,
+        order.decisions(),
+        &hint,
+        limits,
+        looks,
+        is_small,
+        trials,
+    )?;
+    Ok(found)
 }
 
 /// Returns the decisions of the page that leave no product that meets the aim, whatever the cautious verdict of the
@@ -94,20 +168,14 @@ pub fn why_lost(
         EachIsSettled order.now.game order.now.diagram limits (Question.Lost aim) (choices order.now.decisions) →
         IsWhyLostExact found) }
 {
-    match find(alloc, order, aim, limits)? {
+    let mut looks = limits.budget;
+    let mut trials = limits.trials;
+    match find_within(alloc, order, aim, limits, &mut looks, &mut trials)? {
         Found::Product(example) => return Ok(WhyLost::Unless(example)),
         Found::Unsettled => return Ok(WhyLost::Unsettled),
         Found::Nothing => {}
     }
-    let hint = hint_for(alloc, order, aim, limits)?;
-    let found = explain_by(
-        alloc,
-        order,
-        Question::Lost { aim },
-        order.decisions(),
-        &hint,
-        limits,
-    )?;
+    let found = because(alloc, order, aim, limits, &mut looks, &mut trials)?;
     Ok(WhyLost::Because(found))
 }
 

@@ -10,7 +10,7 @@ pub returns-in-Yes-clause-none : goal.returns-in-Yes-clause-none
 returns-in-Yes-clause-none c = grind (arith, common_steps)
 
 pub halve-requires-clause-settled : goal.halve-requires-clause-settled
-halve-requires-clause-settled c each = elim c.match-shown.branch [
+halve-requires-clause-settled c small each = elim c.match-shown.branch [
   | in-No w ↦ rw w.exact-is refl
-  | in-Unsettled w ↦ absurd (c.in_ok-shown.ensures.settled (each 0) w.in-Unsettled.is)
+  | in-Unsettled w ↦ absurd (c.in_ok-shown.ensures.settled small (each 0) w.in-Unsettled.is)
 ]

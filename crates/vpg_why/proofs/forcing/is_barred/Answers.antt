@@ -1,6 +1,7 @@
-use Rattle.std.proofs.lemmas.Grind.{common_steps}
-use Rattle.std.proofs.Common.{◌≡◌, true, false, sym, ◌∙◌, arith}
+use Rattle.std.proofs.Common.{◌≡◌, true, false, sym, ◌∙◌}
 use Rattle.vpg_why.specs.Explained.{choices}
+use Rattle.vpg_why.specs.Suffices.{choice}
+use Rattle.vpg_why.proofs.Rooms.{settled_more}
 use Rattle.vpg_why.proofs.Sought.{one_more, otherwise, sought_with}
 use Rattle.vpg_why.proofs.Distinct.{yes_no, yes_unsettled, no_yes, no_unsettled, unsettled_yes, unsettled_no}
 use Rattle.vpg_why.proofs.forcing.is_barred.Goals as goal
@@ -47,7 +48,10 @@ pub returns-in-Nothing-clause-settled : goal.returns-in-Nothing-clause-settled
 returns-in-Nothing-clause-settled c s e = yes_unsettled e
 
 pub returns-in-Unsettled-clause-settled : goal.returns-in-Unsettled-clause-settled
-returns-in-Unsettled-clause-settled c s e = c.in_ok-example.ensures.settled (c.requires.small s.1) s c.in-Unsettled.is
+returns-in-Unsettled-clause-settled c s e =
+    let order = c.args.order.now in
+    c.in_ok-example.ensures.settled (c.requires.small s.1)
+    (settled_more order.game order.diagram c.args.limits c.args.aim (choices order.decisions) (choice c.args.feature c.args.value) c.game-order.ensures.order.diagram c.game-order.ensures.order.named s) c.in-Unsettled.is
 
 pub returns-then-not-all_have-clause-yes : goal.returns-then-not-all_have-clause-yes
 returns-then-not-all_have-clause-yes c e = absurd (no_yes e)

@@ -24,6 +24,7 @@ forcing-preserved c = elim c.match-tri.branch [
         (c.forcing.literals.items ++ choice c.forcing.feature (slice_index_or c.args.product.now c.forcing.feature false) ∷ []) refl (rw w.has-value.ensures at (w.in_ok-is_barred.ensures.yes w.in-Yes.is))),
     rw w.found-is w.in_ok-is_barred.ensures.found,
     rw w.trials-is (let l = w.in_ok-is_barred.ensures.left in let n = c.forcing.invariant.2 in omega (arith, l, n)),
+    rw w.looks-is (let l = w.in_ok-is_barred.ensures.looks in let n = c.forcing.invariant.3 in omega (arith, l, n)),
   )
   | in-Unknown+in_ok-is_barred+in-No w ↦ (
     rw (w.literals-is, w.exact-is)
@@ -31,6 +32,7 @@ forcing-preserved c = elim c.match-tri.branch [
         (rw w.has-value.ensures at (w.in_ok-is_barred.ensures.no w.in-No.is))),
     rw w.found-is w.in_ok-is_barred.ensures.found,
     rw w.trials-is (let l = w.in_ok-is_barred.ensures.left in let n = c.forcing.invariant.2 in omega (arith, l, n)),
+    rw w.looks-is (let l = w.in_ok-is_barred.ensures.looks in let n = c.forcing.invariant.3 in omega (arith, l, n)),
   )
   | in-Unknown+in_ok-is_barred+in-Unsettled w ↦ (
     rw (w.literals-is, w.exact-is)
@@ -38,6 +40,7 @@ forcing-preserved c = elim c.match-tri.branch [
         (λ s. w.in_ok-is_barred.ensures.settled s w.in-Unsettled.is)),
     rw w.found-is w.in_ok-is_barred.ensures.found,
     rw w.trials-is (let l = w.in_ok-is_barred.ensures.left in let n = c.forcing.invariant.2 in omega (arith, l, n)),
+    rw w.looks-is (let l = w.in_ok-is_barred.ensures.looks in let n = c.forcing.invariant.3 in omega (arith, l, n)),
   )
   | in_default w ↦ (
     rw (w.literals-is, w.exact-is)
@@ -46,6 +49,7 @@ forcing-preserved c = elim c.match-tri.branch [
         (λ e. w.in_default.not-Unknown (c.value-tri.ensures ∙ e))),
     rw w.found-is c.forcing.invariant.1,
     rw w.trials-is c.forcing.invariant.2,
+    rw w.looks-is c.forcing.invariant.3,
   )
 ]
 
@@ -75,6 +79,9 @@ is_barred-requires-clause-small c has = c.has_trials-is_small.ensures (page_tria
 
 pub returns-clause-left : goal.returns-clause-left
 returns-clause-left c = c.forcing.invariant.2
+
+pub returns-clause-looks : goal.returns-clause-looks
+returns-clause-looks c = c.forcing.invariant.3
 
 pub is_barred-requires-clause-named : goal.is_barred-requires-clause-named
 is_barred-requires-clause-named c =

@@ -1,12 +1,10 @@
-use Rattle.std.proofs.Common.{◌+◌, arith}
 use Rattle.vpg_why.specs.Explained.{choices}
 use Rattle.vpg_why.specs.declared.forcing.Demand.TheVariants as demands
 use Rattle.vpg_why.proofs.Eased.{eased_aim, eased_room, needs_eased}
-use Rattle.vpg_why.proofs.Rooms.{whole_room}
 use Rattle.vpg_why.proofs.forcing.needs.Goals as goal
 
-pub search-requires-clause-aim : goal.search-requires-clause-aim
-search-requires-clause-aim c = eased_aim c.args.order.now.game c.args.order.now.diagram (choices c.args.order.now.decisions) c.args.aim c.eased-aim.result c.eased-aim.ensures c.requires
+pub search_all-requires-clause-aim : goal.search_all-requires-clause-aim
+search_all-requires-clause-aim c = eased_aim c.args.order.now.game c.args.order.now.diagram (choices c.args.order.now.decisions) c.args.aim c.eased-aim.result c.eased-aim.ensures c.requires
 
 pub returns-in-Nothing-clause-needs : goal.returns-in-Nothing-clause-needs
 returns-in-Nothing-clause-needs c =
@@ -15,10 +13,8 @@ returns-in-Nothing-clause-needs c =
 
 pub returns-in-Unsettled-clause-settled : goal.returns-in-Unsettled-clause-settled
 returns-in-Unsettled-clause-settled c s =
-    let count = rw (c.deref.ensures, c.diagram.ensures.diagram) at c.features.ensures.count in
-    let room = eased_room c.args.order.now.game c.args.order.now.diagram (choices c.args.order.now.decisions) c.args.aim c.eased-aim.result c.args.limits c.eased-aim.ensures s in
     (rw (c.in-Unsettled.is, c.decisions-decisions.ensures.decisions) at c.in_ok-example.ensures.settled)
-    (whole_room c.args.order.now.diagram (choices c.args.order.now.decisions) (c.features.result + 1) c.args.limits.trials (omega (arith, count)) room.1) room.0
+    (eased_room c.args.order.now.game c.args.order.now.diagram (choices c.args.order.now.decisions) c.args.aim c.eased-aim.result c.args.limits c.eased-aim.ensures s)
 
 pub returns-clause-needs : goal.returns-clause-needs
 returns-clause-needs c =

@@ -31,7 +31,7 @@ returns-in-Lost-clause-spent t c =
     spent c.args.depth (c.args.depth - 1) c.args.trials.now (c.args.trials.now - 1) (c.args.trials.now - 1) (one_less c.args.depth c.if-depth-eq0.false) (omega arith) (omega arith)
 
 pub returns-in-Unsettled-clause-settled : goal.returns-in-Unsettled-clause-settled
-returns-in-Unsettled-clause-settled t c room settles =
+returns-in-Unsettled-clause-settled t c small room settles =
     (rw c.in-Unsettled.is at c.in_ok-seen.ensures.settled) (settles_here c.args.limits.rounds c.args.order.now.game c.args.order.now.diagram c.args.aim (choices c.args.decisions.now) settles)
 
 pub returns-in-Unsettled-clause-fewer : goal.returns-in-Unsettled-clause-fewer
@@ -70,9 +70,9 @@ returns-in-Ends-clause-fewer t c most up =
     open_spent most c.args.trials.now (c.args.trials.now - 1) (c.search_with_reasons.new.trials + c.reserve-kept.result) (omega arith) (omega (arith, s, k))
 
 pub returns-in-Ends-clause-settled : goal.returns-in-Ends-clause-settled
-returns-in-Ends-clause-settled t c room settles =
+returns-in-Ends-clause-settled t c small room settles =
     rw c.in-Ends.is at (c.first_half.ensures.exact c.args.avoided.now (λ none. tried c.args.avoided.now c.in-Open.feature c.has-value.result c.has-value.ensures none)
-    ((rw (c.deref.ensures.value, c.in_ok-more.ensures) at c.in_ok-one.ensures.settled) (child_room c.args.order.now.diagram (choices c.args.decisions.now) c.in-Open.feature (not c.has-value.result) (rw c.in-Open.is at c.in_ok-seen.ensures.outlook) c.args.depth (c.args.depth - 1) c.args.trials.now ((c.args.trials.now - 1) - c.reserve-kept.result) (one_less c.args.depth c.if-depth-eq0.false) room (let r = room_trials c.args.order.now.diagram (choices c.args.decisions.now) c.args.depth c.args.trials.now room in enough_kept room.most c.args.trials.now c.reserve-kept.result r c.reserve-kept.ensures)) (eased_settles c.args.order.now.game c.args.order.now.diagram (choices c.args.decisions.now) c.args.aim c.in_ok-seen.seen.aim c.args.limits.rounds _ c.in_ok-seen.ensures.eased (child_settles c.args.order.now.diagram (choices c.args.decisions.now) c.in-Open.feature (not c.has-value.result) (rw c.in-Open.is at c.in_ok-seen.ensures.outlook) c.args.limits.rounds c.args.order.now.game c.args.aim settles))))
+    ((rw (c.deref.ensures.value, c.in_ok-more.ensures) at c.in_ok-one.ensures.settled) small (child_room c.args.order.now.diagram (choices c.args.decisions.now) c.in-Open.feature (not c.has-value.result) (rw c.in-Open.is at c.in_ok-seen.ensures.outlook) c.args.depth (c.args.depth - 1) c.args.trials.now ((c.args.trials.now - 1) - c.reserve-kept.result) (one_less c.args.depth c.if-depth-eq0.false) room (let r = room_trials c.args.order.now.diagram (choices c.args.decisions.now) c.args.depth c.args.trials.now room in enough_kept room.most c.args.trials.now c.reserve-kept.result r c.reserve-kept.ensures)) (eased_settles c.args.order.now.game c.args.order.now.diagram (choices c.args.decisions.now) c.args.aim c.in_ok-seen.seen.aim c.args.limits.rounds _ c.in_ok-seen.ensures.eased (child_settles c.args.order.now.diagram (choices c.args.decisions.now) c.in-Open.feature (not c.has-value.result) (rw c.in-Open.is at c.in_ok-seen.ensures.outlook) c.args.limits.rounds c.args.order.now.game c.args.aim settles))))
 
 -- ---- the second half is searched too
 
@@ -101,9 +101,9 @@ returns-clause-fewer t c most up =
     open_spent most c.args.trials.now (c.args.trials.now - 1) c.search_with_reasons-2.new.trials (omega arith) (omega (arith, s, u, k))
 
 pub returns-clause-settled : goal.returns-clause-settled
-returns-clause-settled t c room settles = c.in_ok-found.ensures.exact c.args.avoided.now (λ none. tried c.args.avoided.now c.in-Open.feature c.has-value.result c.has-value.ensures none)
-    (rw c.in-GoesOn.is at (c.first_half.ensures.exact c.args.avoided.now (λ none. tried c.args.avoided.now c.in-Open.feature c.has-value.result c.has-value.ensures none) ((rw (c.deref.ensures.value, c.in_ok-more.ensures) at c.in_ok-one.ensures.settled) (child_room c.args.order.now.diagram (choices c.args.decisions.now) c.in-Open.feature (not c.has-value.result) (rw c.in-Open.is at c.in_ok-seen.ensures.outlook) c.args.depth (c.args.depth - 1) c.args.trials.now ((c.args.trials.now - 1) - c.reserve-kept.result) (one_less c.args.depth c.if-depth-eq0.false) room (let r = room_trials c.args.order.now.diagram (choices c.args.decisions.now) c.args.depth c.args.trials.now room in enough_kept room.most c.args.trials.now c.reserve-kept.result r c.reserve-kept.ensures)) (eased_settles c.args.order.now.game c.args.order.now.diagram (choices c.args.decisions.now) c.args.aim c.in_ok-seen.seen.aim c.args.limits.rounds _ c.in_ok-seen.ensures.eased (child_settles c.args.order.now.diagram (choices c.args.decisions.now) c.in-Open.feature (not c.has-value.result) (rw c.in-Open.is at c.in_ok-seen.ensures.outlook) c.args.limits.rounds c.args.order.now.game c.args.aim settles)))))
-    ((rw (c.deref-2.ensures.value, c.in_ok-more-2.ensures) at c.in_ok-other.ensures.settled)
+returns-clause-settled t c small room settles = c.in_ok-found.ensures.exact c.args.avoided.now (λ none. tried c.args.avoided.now c.in-Open.feature c.has-value.result c.has-value.ensures none)
+    (rw c.in-GoesOn.is at (c.first_half.ensures.exact c.args.avoided.now (λ none. tried c.args.avoided.now c.in-Open.feature c.has-value.result c.has-value.ensures none) ((rw (c.deref.ensures.value, c.in_ok-more.ensures) at c.in_ok-one.ensures.settled) small (child_room c.args.order.now.diagram (choices c.args.decisions.now) c.in-Open.feature (not c.has-value.result) (rw c.in-Open.is at c.in_ok-seen.ensures.outlook) c.args.depth (c.args.depth - 1) c.args.trials.now ((c.args.trials.now - 1) - c.reserve-kept.result) (one_less c.args.depth c.if-depth-eq0.false) room (let r = room_trials c.args.order.now.diagram (choices c.args.decisions.now) c.args.depth c.args.trials.now room in enough_kept room.most c.args.trials.now c.reserve-kept.result r c.reserve-kept.ensures)) (eased_settles c.args.order.now.game c.args.order.now.diagram (choices c.args.decisions.now) c.args.aim c.in_ok-seen.seen.aim c.args.limits.rounds _ c.in_ok-seen.ensures.eased (child_settles c.args.order.now.diagram (choices c.args.decisions.now) c.in-Open.feature (not c.has-value.result) (rw c.in-Open.is at c.in_ok-seen.ensures.outlook) c.args.limits.rounds c.args.order.now.game c.args.aim settles)))))
+    ((rw (c.deref-2.ensures.value, c.in_ok-more-2.ensures) at c.in_ok-other.ensures.settled) small
     (child_room c.args.order.now.diagram (choices c.args.decisions.now) c.in-Open.feature (not (not c.has-value.result)) (rw c.in-Open.is at c.in_ok-seen.ensures.outlook) c.args.depth (c.args.depth - 1) c.args.trials.now (c.search_with_reasons.new.trials + c.reserve-kept.result) (one_less c.args.depth c.if-depth-eq0.false) room
     (let r = room_trials c.args.order.now.diagram (choices c.args.decisions.now) c.args.depth c.args.trials.now room in
     let s = left_after_half c.args.order.now.diagram (choices c.args.decisions.now) c.in-Open.feature (not c.has-value.result) (rw c.in-Open.is at c.in_ok-seen.ensures.outlook) room.most ((c.args.trials.now - 1) - c.reserve-kept.result) c.search_with_reasons.new.trials room.are_open (rw (c.deref.ensures.value, c.in_ok-more.ensures) at c.in_ok-one.ensures.fewer) in
@@ -117,4 +117,4 @@ returns-in-Any-clause-found t c =
     subst (λ (a : Aim). IsReasoned c.args.order.now.game c.args.order.now.diagram a (choices c.args.decisions.now) c.in_ok-sought.sought) (sym c.in-Any.is) c.in_ok-sought.ensures.found
 
 pub returns-in-Any-clause-settled : goal.returns-in-Any-clause-settled
-returns-in-Any-clause-settled t c room settles = c.in_ok-sought.ensures.settled room
+returns-in-Any-clause-settled t c small room settles = c.in_ok-sought.ensures.settled room

@@ -4,8 +4,8 @@ use Rattle.vpg_why.specs.Explained.{choices}
 use Rattle.vpg_why.specs.Suffices.{IsTopUnder, IsLowUnder}
 use Rattle.vpg_why.proofs.searching.look_at_games.Goals as goal
 
-pub is_top-requires-clause-games : goal.is_top-requires-clause-games
-is_top-requires-clause-games c = (choices c.args.decisions.now, c.requires.games)
+pub is_top_within-requires-clause-games : goal.is_top_within-requires-clause-games
+is_top_within-requires-clause-games c = (choices c.args.decisions.now, c.requires.games)
 
 pub outlook_under-requires-clause-yes : goal.outlook_under-requires-clause-yes
 outlook_under-requires-clause-yes c e = subst (λ (k : List Tri). IsTopUnder c.args.order.now.game c.args.which c.args.vertex k) (sym c.known.ensures) (c.in_ok-shown.ensures.yes e)

@@ -11,7 +11,7 @@ pub look-requires-clause-named : goal.look-requires-clause-named
 look-requires-clause-named c = subst (λ (ds : List Decision). AreChoicesOf c.args.order.now.diagram.lines (choices ds)) (sym c.deref-then-decisions-begun.ensures.value)
     (marked_choices c.args.order.now.diagram.lines c.deref.result.now (choices c.args.decisions.now) (choices c.in_ok-kept.kept.items) c.in_ok-kept.ensures c.requires.named)
 
-pub returns : goal.returns
-returns c =
+pub returns-clause-reason : goal.returns-clause-reason
+returns-clause-reason c =
     all_are_reason c.args.order.now.game c.args.order.now.diagram c.args.aim (choices c.args.decisions.now) c.in_ok-all.all.items
     (c.in_ok-all.ensures.items_if_clones_equal (λ y e. e) ∙ ap (λ (n : ℕ). replicate n true) (sym (length-map c.args.decisions.now literal_of))) c.requires.lost

@@ -1,4 +1,4 @@
-use Rattle.std.proofs.Common.{refl}
+use Rattle.std.proofs.Common.{arith, refl}
 use Rattle.vpg_why.specs.Explained.{choices}
 use Rattle.vpg_why.specs.declared.question.Aim.TheVariants as aims
 use Rattle.vpg_why.proofs.Splits.{conflict_lost}
@@ -12,4 +12,5 @@ returns-in-None c = record {
   outlook = conflict_lost c.args.order.now.game c.args.order.now.diagram (aims.Won c.args.which c.args.vertex) (choices c.args.decisions.now) c.game-order.ensures.order.diagram ((rw c.in-None.is at c.in_ok-games.ensures.conflict) refl);
   settled = λ s. tt;
   eased = refl;
+  looks = omega arith;
 }

@@ -13,7 +13,7 @@ returns-in-Nothing-clause-found c =
     (rw c.in-Nothing.is at c.in_ok-example.ensures.found)
 
 pub returns-clause-settled : goal.returns-clause-settled
-returns-clause-settled c settles has e =
+returns-clause-settled c small settles has e =
     let count = rw (c.deref.ensures, c.diagram.ensures.diagram) at c.features.ensures.count in
-    absurd ((rw c.in-Unsettled.is at c.in_ok-example.ensures.settled)
+    absurd ((rw c.in-Unsettled.is at c.in_ok-example.ensures.settled) small
     (whole_room c.args.order.now.diagram (choices c.args.decisions.now) (c.features.result + 1) c.args.trials.now (omega (arith, count)) has) settles)

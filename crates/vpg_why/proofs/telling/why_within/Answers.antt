@@ -1,15 +1,15 @@
 use Rattle.std.proofs.lemmas.Grind.{common_steps}
-use Rattle.std.proofs.Common.{ℕ, List, slice_index, sym, ap, ◌∙◌, arith}
+use Rattle.std.proofs.Common.{ℕ, List, slice_index, refl, sym, ap, ◌∙◌, arith}
 use Rattle.vpg_game.specs.Levels.{top_of}
 use Rattle.vpg_game.specs.declared.levels.Level.{Level}
 use Rattle.vpg_why.specs.Explained.{choices}
 use Rattle.vpg_why.proofs.Listing.{among_named}
 use Rattle.vpg_why.proofs.Losing.{sufficient_choices_lose}
 use Rattle.vpg_why.proofs.Ordered.{made}
-use Rattle.vpg_why.proofs.telling.why.Goals as goal
+use Rattle.vpg_why.proofs.telling.why_within.Goals as goal
 
-pub explain-requires-clause-enough : goal.explain-requires-clause-enough
-explain-requires-clause-enough c =
+pub explain_by-requires-clause-enough : goal.explain_by-requires-clause-enough
+explain_by-requires-clause-enough c =
     rw c.decisions.ensures.decisions
     (made c.args.order.now c.table.ensures.order c.args.which c.args.vertex c.requires
     (ap (λ (t : List ℕ). slice_index t c.args.vertex) (sym c.table.ensures.table) ∙ sym c.get.ensures ∙ c.if-get-top.false ∙ c.top.ensures.top ∙ ap (λ (s : List Level). top_of s) c.shape.ensures))
@@ -29,8 +29,8 @@ returns-clause-lost c =
 pub get-requires : goal.get-requires
 get-requires c = grind (arith, common_steps)
 
-pub explain-requires-clause-named : goal.explain-requires-clause-named
-explain-requires-clause-named c = grind (arith, common_steps)
+pub explain_by-requires-clause-named : goal.explain_by-requires-clause-named
+explain_by-requires-clause-named c = grind (arith, common_steps)
 
 pub returns-clause-settled : goal.returns-clause-settled
-returns-clause-settled c = rw c.decisions.ensures.decisions at c.in_ok-found.ensures.settled
+returns-clause-settled c = (rw c.decisions.ensures.decisions at c.in_ok-found.ensures.settled) refl

@@ -6,7 +6,7 @@ use Rattle.vpg_measure.specs.Least.{IsBelowProgressTables}
 use Rattle.vpg_measure.specs.Lifts.{IsTableOf}
 use Rattle.vpg_why.proofs.Tops.{low_shown, rounds_settle, settles_from_zeros, top_not_reached, top_refuted, top_shown, value_there, zeros_below, zeros_fit}
 use Rattle.vpg_why.proofs.Distinct.{yes_no, yes_unsettled, no_yes, no_unsettled, unsettled_yes, unsettled_no}
-use Rattle.vpg_why.proofs.asking.is_top.Goals as goal
+use Rattle.vpg_why.proofs.asking.is_top_within.Goals as goal
 
 -- the table that it begins with, for this shape and these edges
 begun : (levels from_levels : List Level) (arena from_arena : List Node) (table : List ℕ) → levels ≡ from_levels → arena ≡ from_arena → IsTableOf from_levels from_arena table → IsTableOf levels arena table
