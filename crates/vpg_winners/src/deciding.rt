@@ -49,7 +49,8 @@ fn both(won: Found, lost: Found) -> Decided
 /// Returns the winner at the vertex in the products that agree with the decisions. If both players win some, the answer
 /// has the first product of each, if no limit was met.
 ///
-/// The call looks for a product that Even wins, and for one that Odd wins, each within the limits. The only error is a
+/// The call looks for a product that Even wins, with half of the trials of the limits, and then for one that Odd wins,
+/// with the rest. Where these suffice for each case of the open features, each search has them all. The only error is a
 /// lack of memory.
 pub fn decide(
     alloc: Global,
@@ -71,15 +72,35 @@ pub fn decide(
 {
     // Properties of every order, for the proof.
     let _order = order.game();
+    let mut looks = limits.budget;
+    let mut trials = limits.trials / 2;
+    let rest = limits.trials - trials;
     let aim = Aim::Won {
         which: Which::Hopeful,
         vertex,
     };
-    let won = search_all(alloc, order, aim, decisions, limits)?;
+    let won = search_all(
+        alloc,
+        order,
+        aim,
+        decisions,
+        limits,
+        &mut looks,
+        &mut trials,
+    )?;
+    trials += rest;
     let aim = Aim::Won {
         which: Which::Dual,
         vertex,
     };
-    let lost = search_all(alloc, order, aim, decisions, limits)?;
+    let lost = search_all(
+        alloc,
+        order,
+        aim,
+        decisions,
+        limits,
+        &mut looks,
+        &mut trials,
+    )?;
     Ok(both(won, lost))
 }

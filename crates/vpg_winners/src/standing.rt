@@ -1,5 +1,5 @@
 //! The standing of a vertex under decisions before any split.
-ghost use Rattle.std.specs.Prelude.{◌<◌, length, IfOk};
+ghost use Rattle.std.specs.Prelude.{◌<◌, ◌≤◌, length, IfOk};
 ghost use Rattle.vpg_measure.specs.Games.{ArePageGames};
 ghost use Rattle.vpg_partial.specs.TableLaws.{AreChoicesOf};
 ghost use Rattle.vpg_why.specs.Explained.{choices};
@@ -34,6 +34,7 @@ fn look_under(
     vertex: u32,
     decisions: &[Decision],
     limits: Limits,
+    looks: &mut u64,
 ) -> Result<Standing, AllocError>
     requires games { ArePageGames order.now.game order.now.diagram (choices decisions.now) games.now }
     requires named { AreChoicesOf order.now.diagram.lines (choices decisions.now) }
@@ -43,6 +44,7 @@ fn look_under(
         SettlesUnder limits.rounds order.now.game order.now.diagram Which.Hopeful (choices decisions.now) →
         SettlesUnder limits.rounds order.now.game order.now.diagram Which.Dual (choices decisions.now) →
         IsStandingExact standing) }
+    ensures looks { IfOk result (λ standing. looks.new ≤ looks.old) }
 {
     // Properties of every order, for the proof.
     let _order = order.game();
@@ -54,12 +56,22 @@ fn look_under(
         vertex,
         decisions,
         limits,
+        looks,
     )? {
         Outlook::Lost => return Ok(Standing::Each(Winner::Lost)),
         Outlook::Met(_) => return Ok(Standing::Only(Winner::Won)),
         _ => {}
     }
-    match look_at_games(alloc, order, games, Which::Dual, vertex, decisions, limits)? {
+    match look_at_games(
+        alloc,
+        order,
+        games,
+        Which::Dual,
+        vertex,
+        decisions,
+        limits,
+        looks,
+    )? {
         Outlook::Lost => Ok(Standing::Each(Winner::Won)),
         Outlook::Met(_) => Ok(Standing::Only(Winner::Lost)),
         Outlook::Open { feature } => Ok(Standing::Open { feature }),
@@ -74,6 +86,7 @@ pub(crate) fn look(
     vertex: u32,
     decisions: &[Decision],
     limits: Limits,
+    looks: &mut u64,
 ) -> Result<Standing, AllocError>
     requires named { AreChoicesOf order.now.diagram.lines (choices decisions.now) }
     requires vertex { vertex < length order.now.game.vertices }
@@ -82,11 +95,12 @@ pub(crate) fn look(
         SettlesUnder limits.rounds order.now.game order.now.diagram Which.Hopeful (choices decisions.now) →
         SettlesUnder limits.rounds order.now.game order.now.diagram Which.Dual (choices decisions.now) →
         IsStandingExact standing) }
+    ensures looks { IfOk result (λ standing. looks.new ≤ looks.old) }
 {
     // Properties of every order, for the proof.
     let _order = order.game();
     match games_with(alloc, order, decisions)? {
-        Some(games) => look_under(alloc, order, &games, vertex, decisions, limits),
+        Some(games) => look_under(alloc, order, &games, vertex, decisions, limits, looks),
         None => Ok(Standing::Empty),
     }
 }

@@ -1,4 +1,4 @@
-use Rattle.std.proofs.Common.{refl}
+use Rattle.std.proofs.Common.{arith, refl}
 use Rattle.vpg_why.specs.Explained.{choices}
 use Rattle.vpg_winners.proofs.Looking.{none_by_conflict}
 use Rattle.vpg_winners.proofs.standing.look.Goals as goal
@@ -11,4 +11,5 @@ returns-in-None c = record {
   standing = none_by_conflict c.args.order.now.game c.args.order.now.diagram (choices c.args.decisions.now) c.args.vertex
       c.game-order.ensures.order.diagram ((rw c.in-None.is at c.in_ok-games.ensures.conflict) refl);
   settled = λ s t. tt;
+  looks = omega arith;
 }

@@ -9,6 +9,7 @@ returns-in-Lost c = record {
   standing = odd_wins c.args.order.now.game c.args.order.now.diagram (choices c.args.decisions.now) c.args.vertex
       c.game-order.ensures.order.game c.requires.vertex (rw c.in-Lost.is at c.in_ok-look_at_games.ensures.outlook);
   settled = λ s t. lost_is_told;
+  looks = c.in_ok-look_at_games.ensures.looks;
 }
 
 pub returns-in-Met : goal.returns-in-Met
@@ -16,6 +17,7 @@ returns-in-Met c = let o = rw c.in-Met.is at c.in_ok-look_at_games.ensures.outlo
   standing = won_alone c.args.order.now.game c.args.order.now.diagram (choices c.args.decisions.now) c.args.vertex
       _ o.0 o.1;
   settled = λ s t. won_is_told;
+  looks = c.in_ok-look_at_games.ensures.looks;
 }
 
 pub returns-clause-standing : goal.returns-clause-standing
