@@ -1,36 +1,33 @@
 -- What is listed of the features before one.
-use Rattle.std.proofs.Common.{◌≡◌, ℕ, zero, suc, ◌+◌, ◌<◌, Bool, true, false, List, [], ◌∷◌, ◌++◌, map, slice_index_or, All, refl, sym, ap, ap₂, ◌∙◌, subst, append_assoc, append-nil, add-one, arith}
+use Rattle.std.proofs.Common.{◌≡◌, ◌≢◌, ℕ, zero, suc, ◌+◌, ◌<◌, Bool, true, false, List, [], ◌∷◌, ◌++◌, length, map, slice_index_or, All, refl, sym, ap, ap₂, ◌∙◌, subst, append_assoc, append-nil, add-one, arith}
 use Rattle.std.specs.List.{AllByRecursion}
 use Rattle.std.proofs.lemmas.List.{map-append}
 use Rattle.vpg_guards.specs.declared.tri.Tri.{Tri}
 use Rattle.vpg_guards.specs.declared.tri.Tri.TheVariants.{No, Unknown, Yes}
 use Rattle.vpg_diagram.specs.declared.clause.Literal.{Literal}
 use Rattle.vpg_diagram.proofs.Lists.{All-append}
-use Rattle.vpg_game.specs.Game.{NamedGame, graph_of}
+use Rattle.vpg_game.specs.Game.{NamedGame, IsGame}
 use Rattle.vpg_diagram.specs.DiagramText.{NamedDiagram}
 use Rattle.vpg_verdict.specs.declared.which.Which.{Which}
 use Rattle.vpg_verdict.specs.declared.which.Which.TheVariants.{Hopeful, Dual}
 use Rattle.vpg_partial.specs.declared.decision.Decision.{Decision}
 use Rattle.vpg_texts.specs.Scene.{Scene, scene_of}
 use Rattle.vpg_texts.specs.Text.{is_value}
-use Rattle.vpg_why.specs.Offered.{IsShown, IsOffer}
+use Rattle.vpg_why.specs.Foreseen.{IsForeseen, SomeMeets}
+use Rattle.vpg_why.specs.Offered.{IsShown}
+use Rattle.vpg_why.specs.Products.{NoneMeets}
+use Rattle.vpg_why.specs.declared.foreseeing.Foresight.{Foresight}
+use Rattle.vpg_why.specs.declared.foreseeing.Foresight.TheVariants as foresights
 use Rattle.vpg_why.specs.Suffices.{IsSettled, choice}
-use Rattle.vpg_why.specs.declared.offering.Offer.{Offer}
-use Rattle.vpg_why.specs.declared.offering.Offer.TheVariants as offers
 use Rattle.vpg_why.specs.declared.question.Aim.TheVariants as aims
 use Rattle.vpg_why.specs.declared.question.Limits.{Limits}
 use Rattle.vpg_why.specs.declared.question.Question.TheVariants as asks
 use Rattle.vpg_why.specs.declared.question.Shown.{Shown}
-use Rattle.vpg_why.specs.declared.searching.Example.{Example}
-use Rattle.vpg_winners.specs.Decided.{IsDecidedAs, IsDecidedExact}
-use Rattle.vpg_winners.specs.declared.deciding.Decided.{Decided}
-use Rattle.vpg_winners.specs.declared.deciding.Decided.TheVariants as decides
-use Rattle.vpg_answers.specs.declared.offers.Fact.{Fact}
-use Rattle.vpg_answers.specs.declared.offers.Fact.TheVariants as facts
+use Rattle.vpg_why.specs.declared.question.Shown.TheVariants as shown
 use Rattle.vpg_answers.specs.declared.offers.Offered.{Offered}
 use Rattle.vpg_answers.specs.declared.offers.Prospect.{Prospect}
-use Rattle.vpg_answers.specs.declared.offers.Prospect.TheVariants as prospects
-use Rattle.vpg_answers.specs.Offers.{IsFact, IsVerdictShown, IsProspect, IsOffered, both_if, AreOffers}
+use Rattle.vpg_winners.proofs.OneWins.{even_wins, odd_wins}
+use Rattle.vpg_answers.specs.Offers.{IsFact, IsVerdictShown, IsProspect, IsOffered, both_if, fact_of, prospect_by, AreOffers}
 
 not_open : (t : Tri) → (t ≡ Unknown → ⊥) → is_value t Unknown ≡ false
 not_open No known = refl
@@ -93,38 +90,32 @@ module _ (game : NamedGame) (diagram : NamedDiagram) (limits : Limits) (vertex :
   shown_in : (which : Which) (answer : Shown) → IsShown limits.rounds game diagram vertex chosen which answer → IsVerdictShown (scene_of game diagram) limits vertex chosen which answer
   shown_in which answer so = record { yes = so.yes; no = so.no; settled = so.settled }
 
-  pub conflict_in : (offer : Offer) → offer ≡ offers.Conflict → IsOffer limits.rounds game diagram vertex chosen offer → Is prospects.Conflict
-  conflict_in offer is so = subst (λ (o : Offer). IsOffer limits.rounds game diagram vertex chosen o) is so
+  -- the winner, by whether each player wins in some product
+  module _ (is : IsGame game) (inside : vertex < length game.vertices) where
+    abbrev Some_meets : Which → Type 0
+    Some_meets which = SomeMeets game diagram (aims.Won which vertex) chosen
 
-  pub prospect_in : (offer : Offer) (hopeless sure : Shown) (fact : Fact) → offer ≡ offers.Verdict hopeless sure → IsOffer limits.rounds game diagram vertex chosen offer →
-      IsFact (scene_of game diagram) limits vertex chosen fact → Is (prospects.Left hopeless sure fact)
-  prospect_in offer hopeless sure fact is so wins =
-      let o = subst (λ (x : Offer). IsOffer limits.rounds game diagram vertex chosen x) is so in
-      (o.0, shown_in Hopeful hopeless o.1, shown_in Dual sure o.2, wins)
+    abbrev None_meets : Which → Type 0
+    None_meets which = NoneMeets game diagram (aims.Won which vertex) chosen
 
-  -- the winner, as it was decided
-  abbrev Decided_is : Decided → Type 0
-  Decided_is decided = IsDecidedAs (graph_of game) diagram.lines chosen vertex decided
+    abbrev Settled : Which → Type 0
+    Settled which = IsSettled game diagram limits (asks.Lost (aims.Won which vertex)) chosen
 
-  abbrev Settled : Which → Type 0
-  Settled which = IsSettled game diagram limits (asks.Lost (aims.Won which vertex)) chosen
+    fact_in : (won lost : Shown) → (won ≡ shown.Yes → Some_meets Hopeful) → (won ≡ shown.No → None_meets Hopeful) → (Settled Hopeful → won ≢ shown.Unsettled) →
+        (lost ≡ shown.Yes → Some_meets Dual) → (lost ≡ shown.No → None_meets Dual) → (Settled Dual → lost ≢ shown.Unsettled) → IsFact (scene_of game diagram) limits vertex chosen (fact_of won lost)
+    fact_in shown.Yes shown.Yes wy wn ws ly ln ls = (wy refl, ly refl)
+    fact_in shown.Yes shown.No wy wn ws ly ln ls = let w = wy refl in ((w.0, w.1), even_wins game diagram chosen vertex is inside (ln refl))
+    fact_in shown.No shown.Yes wy wn ws ly ln ls = let l = ly refl in ((l.0, l.1), odd_wins game diagram chosen vertex is inside (wn refl))
+    fact_in shown.No shown.No wy wn ws ly ln ls = λ set remains. ln refl set remains (odd_wins game diagram chosen vertex is inside (wn refl) set remains)
+    fact_in shown.Yes shown.Unsettled wy wn ws ly ln ls = λ both. ls (both.1.0, both.1.1) refl
+    fact_in shown.No shown.Unsettled wy wn ws ly ln ls = λ both. ls (both.1.0, both.1.1) refl
+    fact_in shown.Unsettled lost wy wn ws ly ln ls = λ both. ws (both.0.0, both.0.1) refl
 
-  abbrev Fact_is : Fact → Type 0
-  Fact_is fact = IsFact (scene_of game diagram) limits vertex chosen fact
-
-  pub fact_won : (decided : Decided) → decided ≡ decides.Won → Decided_is decided → Fact_is facts.Won
-  fact_won decided is so = subst Decided_is is so
-
-  pub fact_lost : (decided : Decided) → decided ≡ decides.Lost → Decided_is decided → Fact_is facts.Lost
-  fact_lost decided is so = subst Decided_is is so
-
-  pub fact_mixed : (decided : Decided) (won lost : Example) → decided ≡ decides.Mixed won lost → Decided_is decided → Fact_is facts.Mixed
-  fact_mixed decided won lost is so =
-      let d = subst Decided_is is so in
-      ((won.features.items, d.0.remaining, d.0.wins), (lost.features.items, d.1.remaining, d.1.wins))
-
-  pub fact_empty : (decided : Decided) → decided ≡ decides.Empty → Decided_is decided → Fact_is facts.Empty
-  fact_empty decided is so = subst Decided_is is so
-
-  pub fact_open : (decided : Decided) → decided ≡ decides.Unsettled → (Settled Hopeful → Settled Dual → IsDecidedExact decided) → Fact_is facts.Unsettled
-  fact_open decided is settled both = subst IsDecidedExact is (settled (both.0.0, both.0.1) (both.1.0, both.1.1))
+    pub foreseen_in : (foresight : Foresight) → IsForeseen limits game diagram vertex chosen foresight → Is (prospect_by foresight)
+    foreseen_in foresights.Conflict so = so
+    foreseen_in (foresights.Sides even odd) so = (
+      so.0,
+      shown_in Hopeful even.verdict so.1.verdict,
+      shown_in Dual odd.verdict so.2.verdict,
+      fact_in even.met odd.met so.1.yes so.1.no so.1.settled so.2.yes so.2.no so.2.settled,
+    )

@@ -1,6 +1,6 @@
 -- Trying each decision of a page alone, and each step of it.
-use Rattle.std.proofs.Common.{◌≡◌, ℕ, zero, suc, ◌+◌, ◌<◌, ◌≤◌, Bool, true, false, List, [], ◌∷◌, ◌++◌, length, map, take, get_or, refl, sym, ap, ap₂, ◌∙◌, subst, append-nil, add-one, arith}
-use Rattle.std.specs.Prelude.{All, IsTrue}
+use Rattle.std.proofs.Common.{◌≡◌, ◌≢◌, ℕ, zero, suc, ◌+◌, ◌<◌, ◌≤◌, Bool, List, [], ◌∷◌, ◌++◌, length, map, get_or, refl, sym, ap, ap₂, ◌∙◌, subst, append-nil, add-one, arith}
+use Rattle.std.specs.Prelude.{All}
 use Rattle.std.specs.List.{AllByRecursion}
 use Rattle.std.proofs.Math.Seq.{take-length, take-suc}
 use Rattle.std.proofs.lemmas.List.{length-map, length-take-le, map-append}
@@ -13,7 +13,7 @@ use Rattle.vpg_partial.specs.TableLaws.{AreChoicesOf}
 use Rattle.vpg_partial.specs.declared.decision.Decision.{Decision}
 use Rattle.vpg_texts.specs.Scene.{Scene, scene_of}
 use Rattle.vpg_why.specs.Explained.{choices}
-use Rattle.vpg_why.specs.Found.{IsFound, IsFoundExact}
+use Rattle.vpg_why.specs.Found.{IsSought}
 use Rattle.vpg_why.specs.Repaired.{KeepsOldest, ends, keeps, gives_up}
 use Rattle.vpg_why.specs.Suffices.{IsSettled}
 use Rattle.vpg_why.specs.declared.question.Aim.TheVariants as aims
@@ -92,7 +92,7 @@ module _ (scene : Scene) (limits : Limits) (vertex : ℕ) (was_hopeless : Bool) 
 
 module _ (game : NamedGame) (diagram : NamedDiagram) (limits : Limits) (vertex : ℕ) (was_hopeless : Bool) (chosen : List Literal) where
   abbrev Found_is : Found → Type 0
-  Found_is found = IsFound game diagram (aims.Won Hopeful vertex) chosen found
+  Found_is found = IsSought game diagram (aims.Won Hopeful vertex) chosen found
 
   abbrev Ends : Type 0
   Ends = SearchEnds (scene_of game diagram) limits (aims.Won Hopeful vertex) chosen
@@ -108,10 +108,10 @@ module _ (game : NamedGame) (diagram : NamedDiagram) (limits : Limits) (vertex :
   verdict_room s = subst (λ (cs : List Literal). RoundsSettle (scene_of game diagram) limits.rounds Hopeful cs) (append-nil chosen) (s.0 [])
 
   pub found_winner : (found : Found) (e : Example) → found ≡ founds.Product e → Found_is found → HasWinner (scene_of game diagram) vertex chosen
-  found_winner found e is so = let p = subst Found_is is so in (e.features.items, p.remaining, p.meets)
+  found_winner found e is so = let p = subst Found_is is so in (e.features.items, p.0, p.1)
 
   pub found_lost : (found : Found) → found ≡ founds.Nothing → Found_is found → IsLostBy (scene_of game diagram) vertex chosen
   found_lost found is so = subst Found_is is so
 
-  pub found_short : (found : Found) → found ≡ founds.Unsettled → (Settled → IsFoundExact found) → Ends → ⊥
-  found_short found is settled s = subst IsFoundExact is (settled (room_of s))
+  pub found_short : (found : Found) → found ≡ founds.Unsettled → (Settled → found ≢ founds.Unsettled) → Ends → ⊥
+  found_short found is settled s = settled (room_of s) is

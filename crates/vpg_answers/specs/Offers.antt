@@ -3,7 +3,9 @@ use Rattle.std.specs.Prelude.{◌≡◌, ◌≢◌, ℕ, zero, suc, Bool, true, 
 use Rattle.std.specs.List.{AllByRecursion}
 use Rattle.vpg_guards.specs.declared.tri.Tri.{Tri}
 use Rattle.vpg_guards.specs.declared.tri.Tri.TheVariants.{Unknown}
+use Rattle.vpg_diagram.specs.DiagramText.{NamedDiagram}
 use Rattle.vpg_diagram.specs.declared.clause.Literal.{Literal}
+use Rattle.vpg_game.specs.Game.{NamedGame}
 use Rattle.vpg_players.specs.declared.player.Player.{Player}
 use Rattle.vpg_players.specs.declared.player.Player.TheVariants.{Even, Odd}
 use Rattle.vpg_verdict.specs.declared.which.Which.{Which}
@@ -14,6 +16,10 @@ use Rattle.vpg_texts.specs.Scene.{Scene}
 use Rattle.vpg_texts.specs.Text.{is_value}
 use Rattle.vpg_why.specs.Explained.{choices}
 use Rattle.vpg_why.specs.Suffices.{SufficeIn, choice}
+use Rattle.vpg_why.specs.Foreseen.{AreFindings}
+use Rattle.vpg_why.specs.declared.foreseeing.Foresight.{Foresight}
+use Rattle.vpg_why.specs.declared.foreseeing.Foresight.TheVariants as foresights
+use Rattle.vpg_why.specs.declared.question.Aim.TheVariants as aims
 use Rattle.vpg_why.specs.declared.question.Limits.{Limits}
 use Rattle.vpg_why.specs.declared.question.Question.TheVariants as asks
 use Rattle.vpg_why.specs.declared.question.Shown.{Shown}
@@ -21,6 +27,7 @@ use Rattle.vpg_why.specs.declared.question.Shown.TheVariants as shown
 use Rattle.vpg_winners.specs.Decided.{HasRemaining, NoneRemains, WinsEach, WinsProduct}
 use Rattle.vpg_answers.specs.declared.offers.Fact.{Fact}
 use Rattle.vpg_answers.specs.declared.offers.Fact.TheVariants as facts
+use Rattle.vpg_answers.specs.declared.offers.Shared.{Shared}
 use Rattle.vpg_answers.specs.declared.offers.Offered.{Offered}
 use Rattle.vpg_answers.specs.declared.offers.Prospect.{Prospect}
 use Rattle.vpg_answers.specs.declared.offers.Prospect.TheVariants as prospects
@@ -76,3 +83,24 @@ pub record AreOffers (scene : Scene) (limits : Limits) (vertex : ℕ) (decisions
     (n : ℕ) (listed : List Offered) : Type 0 where
   pub each : map (λ o. o.choice) listed ≡ open_choices known n
   pub offered : AllByRecursion (IsOffered scene limits vertex decisions) listed
+
+-- ---- how they are found
+
+-- what the offers of a line have found: of products that Even wins from the vertex, and of those that Odd wins
+pub record IsShared (game : NamedGame) (diagram : NamedDiagram) (vertex : ℕ) (choices : List Literal) (line : Shared) :
+    Type 0 where
+  pub won : AreFindings game diagram (aims.Won Hopeful vertex) choices line.won
+  pub lost : AreFindings game diagram (aims.Won Dual vertex) choices line.lost
+
+-- the winner, by whether Even wins in some product, and whether Odd does
+abbrev pub fact_of : (won lost : Shown) → Fact
+fact_of shown.Yes shown.Yes = facts.Mixed
+fact_of shown.Yes shown.No = facts.Won
+fact_of shown.No shown.Yes = facts.Lost
+fact_of shown.No shown.No = facts.Empty
+fact_of _ _ = facts.Unsettled
+
+-- the prospect, by what one more decision brings
+abbrev pub prospect_by : Foresight → Prospect
+prospect_by foresights.Conflict = prospects.Conflict
+prospect_by (foresights.Sides even odd) = prospects.Left even.verdict odd.verdict (fact_of even.met odd.met)

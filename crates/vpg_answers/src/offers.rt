@@ -1,11 +1,14 @@
 //! The verdicts of a vertex after each further decision, and who wins then.
 ghost use Rattle.std.specs.List.{AllByRecursion};
-ghost use Rattle.std.specs.Prelude.{◌≡◌, ◌<◌, ◌+◌, ◌++◌, ◌∷◌, [], All, IfOk, OnOk, flat_map, length};
+ghost use Rattle.std.specs.Prelude.{◌≡◌, ◌<◌, ◌+◌, ◌++◌, ℕ, List, All, IfOk, OnOk, flat_map, length};
 ghost use Rattle.vpg_answers.specs.Answers.{Appends, TellsOffers};
-ghost use Rattle.vpg_answers.specs.Offers.{AreOffers, IsFact, IsOffered, IsProspect};
+ghost use Rattle.vpg_answers.specs.Offers.{AreOffers, IsShared, IsOffered, fact_of, prospect_by};
 ghost use Rattle.vpg_answers.specs.Texts.{fact_word, offer_line, offer_words, offers_text, shown_word};
+ghost use Rattle.vpg_diagram.specs.DiagramText.{NamedDiagram};
 ghost use Rattle.vpg_diagram.specs.FeatureDiagram.{feature_count};
-ghost use Rattle.vpg_partial.specs.TableLaws.{AreChoicesOf, IsKnownTable};
+ghost use Rattle.vpg_diagram.specs.declared.clause.Literal.{Literal};
+ghost use Rattle.vpg_game.specs.Game.{NamedGame};
+ghost use Rattle.vpg_partial.specs.TableLaws.{IsKnownTable};
 ghost use Rattle.vpg_texts.specs.Scene.{scene_of};
 ghost use Rattle.vpg_why.specs.Explained.{choices};
 
@@ -15,11 +18,10 @@ use std::alloc::{AllocError, Global};
 use vpg_diagram::Literal;
 use vpg_guards::{Names, Tri};
 use vpg_measure::Order;
-use vpg_partial::{Decision, Partial};
+use vpg_partial::Partial;
 use vpg_texts::blank_number;
 use vpg_verdict::Which;
-use vpg_why::{Limits, Offer, Shown, look_ahead, with_one};
-use vpg_winners::{Decided, decide};
+use vpg_why::{Findings, Foresight, Limits, Shown, foresee, no_findings};
 
 /// The winner in the products left.
 #[derive(Clone, Copy)]
@@ -56,86 +58,87 @@ pub(crate) struct Offered {
     prospect: Prospect,
 }
 
-/// Returns the winner at the vertex in the products that agree with the decisions.
-fn fact_of(
-    alloc: Global,
-    order: &Order,
-    decisions: &[Decision],
-    vertex: u32,
-    limits: Limits,
-) -> Result<Fact, AllocError>
-    requires named { AreChoicesOf order.now.diagram.lines (choices decisions.now) }
-    requires vertex { vertex < length order.now.game.vertices }
-    ensures { IfOk result
-        (IsFact (scene_of order.now.game order.now.diagram) limits vertex (choices decisions.now)) }
+/// What the offers of a line have left of its looks and trials, and what they have found: of products in which Even
+/// wins from the vertex, and of those in which Odd does.
+#[derive(Drop)]
+pub(crate) struct Shared {
+    pub(crate) looks: u64,
+    pub(crate) trials: u64,
+    pub(crate) won: Findings,
+    pub(crate) lost: Findings,
+}
+
+/// Returns what there is before the first offer of a line.
+fn line_of(alloc: Global, limits: Limits) -> Shared
+    ensures { (game : NamedGame) (diagram : NamedDiagram) (vertex : ℕ) (own : List Literal) →
+        IsShared game diagram vertex own result }
 {
-    let found = decide(alloc, order, vertex, decisions, limits)?;
-    match found {
-        Decided::Won => Ok(Fact::Won),
-        Decided::Lost => Ok(Fact::Lost),
-        Decided::Mixed { won: _, lost: _ } => Ok(Fact::Mixed),
-        Decided::Empty => Ok(Fact::Empty),
-        Decided::Unsettled => Ok(Fact::Unsettled),
+    Shared {
+        looks: limits.budget,
+        trials: limits.trials,
+        won: no_findings(alloc),
+        lost: no_findings(alloc),
     }
 }
 
-/// Returns the winner after one more decision.
-fn fact_after(
-    alloc: Global,
-    order: &Order,
-    choice: Literal,
-    vertex: u32,
-    limits: Limits,
-) -> Result<Fact, AllocError>
-    requires feature { choice.feature < feature_count order.now.diagram.lines }
-    requires vertex { vertex < length order.now.game.vertices }
-    ensures { IfOk result (IsFact (scene_of order.now.game order.now.diagram) limits vertex
-        (choices order.now.decisions ++ choice ∷ [])) }
+/// Returns the winner, by whether each player wins in some product: first Even, then Odd.
+fn fact_of(won: Shown, lost: Shown) -> Fact
+    ensures { result ≡ fact_of won lost }
 {
-    let more = with_one(alloc, order.decisions(), choice.feature, choice.value)?;
-    let fact = fact_of(alloc, order, &more, vertex, limits)?;
-    Ok(fact)
-}
-
-fn prospect_of(
-    alloc: Global,
-    order: &Order,
-    choice: Literal,
-    vertex: u32,
-    limits: Limits,
-) -> Result<Prospect, AllocError>
-    requires feature { choice.feature < feature_count order.now.diagram.lines }
-    requires vertex { vertex < length order.now.game.vertices }
-    ensures { IfOk result (IsProspect (scene_of order.now.game order.now.diagram) limits vertex
-        (choices order.now.decisions ++ choice ∷ [])) }
-{
-    match look_ahead(alloc, order, choice.feature, choice.value, vertex, limits)? {
-        Offer::Conflict => Ok(Prospect::Conflict),
-        Offer::Verdict { hopeless, sure } => {
-            let fact = fact_after(alloc, order, choice, vertex, limits)?;
-            Ok(Prospect::Left {
-                hopeless,
-                sure,
-                fact,
-            })
-        }
+    match (won, lost) {
+        (Shown::Yes, Shown::Yes) => Fact::Mixed,
+        (Shown::Yes, Shown::No) => Fact::Won,
+        (Shown::No, Shown::Yes) => Fact::Lost,
+        (Shown::No, Shown::No) => Fact::Empty,
+        _ => Fact::Unsettled,
     }
 }
 
+fn prospect_by(foresight: Foresight) -> Prospect
+    ensures { result ≡ prospect_by foresight }
+{
+    match foresight {
+        Foresight::Conflict => Prospect::Conflict,
+        Foresight::Sides { even, odd } => Prospect::Left {
+            hopeless: even.verdict,
+            sure: odd.verdict,
+            fact: fact_of(even.met, odd.met),
+        },
+    }
+}
+
+/// Returns the offer of a choice, by what the offers before have found and left of the line's looks and trials.
 fn offer_of(
     alloc: Global,
     order: &Order,
     choice: Literal,
     vertex: u32,
     limits: Limits,
+    line: &mut Shared,
 ) -> Result<Offered, AllocError>
     requires feature { choice.feature < feature_count order.now.diagram.lines }
     requires vertex { vertex < length order.now.game.vertices }
+    requires line { IsShared order.now.game order.now.diagram vertex (choices order.now.decisions) line.old }
     ensures choice { IfOk result (λ o. o.choice ≡ choice) }
     ensures offer { IfOk result
         (IsOffered (scene_of order.now.game order.now.diagram) limits vertex order.now.decisions) }
+    ensures line { IfOk result
+        (λ o. IsShared order.now.game order.now.diagram vertex (choices order.now.decisions) line.new) }
 {
-    let prospect = prospect_of(alloc, order, choice, vertex, limits)?;
+    // The invariant of every order, for the proof.
+    let _order = order.game();
+    let foresight = foresee(
+        alloc,
+        order,
+        choice,
+        vertex,
+        limits,
+        &mut line.looks,
+        &mut line.trials,
+        &mut line.won,
+        &mut line.lost,
+    )?;
+    let prospect = prospect_by(foresight);
     Ok(Offered { choice, prospect })
 }
 
@@ -154,11 +157,13 @@ fn list_open(
     feature: u16,
     vertex: u32,
     limits: Limits,
+    line: &mut Shared,
     listed: &mut Vec<Offered>,
 ) -> Result<(), AllocError>
     requires known { length known.now ≡ feature_count order.now.diagram.lines }
     requires feature { feature < feature_count order.now.diagram.lines }
     requires vertex { vertex < length order.now.game.vertices }
+    requires line { IsShared order.now.game order.now.diagram vertex (choices order.now.decisions) line.old }
     ensures offers { OnOk result
         (AreOffers (scene_of order.now.game order.now.diagram) limits vertex order.now.decisions known.now feature
         listed.old.items →
@@ -167,15 +172,31 @@ fn list_open(
     ensures named { OnOk result
         (AllByRecursion (λ o. o.choice.feature < feature_count order.now.diagram.lines) listed.old.items →
         AllByRecursion (λ o. o.choice.feature < feature_count order.now.diagram.lines) listed.new.items) }
+    ensures line { OnOk result
+        (IsShared order.now.game order.now.diagram vertex (choices order.now.decisions) line.new) }
 {
     if known.value(feature) != Tri::Unknown {
         return Ok(());
     }
     let value = true;
-    let inside = offer_of(alloc, order, Literal { feature, value }, vertex, limits)?;
+    let inside = offer_of(
+        alloc,
+        order,
+        Literal { feature, value },
+        vertex,
+        limits,
+        line,
+    )?;
     listed.push(inside)?;
     let value = false;
-    let outside = offer_of(alloc, order, Literal { feature, value }, vertex, limits)?;
+    let outside = offer_of(
+        alloc,
+        order,
+        Literal { feature, value },
+        vertex,
+        limits,
+        line,
+    )?;
     listed.push(outside)?;
     Ok(())
 }
@@ -197,9 +218,19 @@ fn list(
         (λ listed. AllByRecursion (λ o. o.choice.feature < feature_count order.now.diagram.lines) listed.items) }
 {
     let features = order.diagram().features() as u16;
+    let mut line = line_of(alloc, limits);
     let mut listed = Vec::new(alloc);
     'listing: for feature in 0..features {
-        list_open(alloc, order, known, feature, vertex, limits, &mut listed)?;
+        list_open(
+            alloc,
+            order,
+            known,
+            feature,
+            vertex,
+            limits,
+            &mut line,
+            &mut listed,
+        )?;
     }
     Ok(listed)
 }

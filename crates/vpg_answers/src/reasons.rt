@@ -14,7 +14,7 @@ use vpg_guards::Names;
 use vpg_measure::Order;
 use vpg_serving::{Tone, done};
 use vpg_verdict::Which;
-use vpg_why::{Limits, why, why_conflict, why_known};
+use vpg_why::{Limits, why_conflict, why_known, why_within};
 
 pub(crate) fn names(order: &Order) -> &Names
     ensures names { result.now ≡ order.now.diagram.names }
@@ -30,13 +30,14 @@ pub(crate) fn identifier(order: &Order, vertex: u32) -> u32
     order.game().id(vertex)
 }
 
-/// Appends why the vertex has the verdict of a table, or that it hasn't.
+/// Appends why the vertex has the verdict of a table, or that it hasn't, with the looks of the line.
 fn verdict(
     alloc: Global,
     order: &Order,
     which: Which,
     vertex: u32,
     limits: Limits,
+    looks: &mut u64,
     out: &mut Vec<u8>,
 ) -> Result<(), AllocError>
     requires { vertex < length order.now.game.vertices }
@@ -46,7 +47,7 @@ fn verdict(
 {
     let names = names(order);
     let identifier = identifier(order, vertex);
-    match why(alloc, order, which, vertex, limits)? {
+    match why_within(alloc, order, which, vertex, limits, looks)? {
         Some(found) => lines::verdict(names, which, identifier, &found.decisions, found.exact, out),
         None => lines::other(which, identifier, out),
     }
@@ -65,8 +66,17 @@ pub(crate) fn vertex(
         (TellsVertex (scene_of order.now.game order.now.diagram) limits vertex order.now.decisions order.now.hopeful order.now.dual)
         out.old.items out.new.items) }
 {
-    verdict(alloc, order, Which::Hopeful, vertex, limits, out)?;
-    verdict(alloc, order, Which::Dual, vertex, limits, out)
+    let mut looks = limits.budget;
+    verdict(
+        alloc,
+        order,
+        Which::Hopeful,
+        vertex,
+        limits,
+        &mut looks,
+        out,
+    )?;
+    verdict(alloc, order, Which::Dual, vertex, limits, &mut looks, out)
 }
 
 /// Appends why the feature is known, or refuses if it isn't. Returns the answer's tone.

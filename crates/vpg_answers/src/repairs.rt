@@ -1,13 +1,12 @@
 //! The decisions to retract so that Even wins from a vertex in a product left.
 ghost use Rattle.std.specs.List.{list_all, list_any};
-ghost use Rattle.std.specs.Prelude.{◌≡◌, ◌↔◌, ◌<◌, ◌+◌, ◌++◌, ◌≤◌, [], All, IfOk, IsTrue, OnOk, count_by, false, flat_map, length, slice_index, true};
-ghost use Rattle.vpg_answers.specs.Answers.{Appends, HasSingle, TellsRepair, TellsRetractions, TellsSeveral};
+ghost use Rattle.std.specs.Prelude.{◌≡◌, ◌↔◌, ◌<◌, ◌+◌, ◌++◌, ◌≤◌, [], All, IsTrue, OnOk, count_by, false, length, slice_index, true};
+ghost use Rattle.vpg_answers.specs.Answers.{Appends, HasSingle, TellsRepair, TellsRetractions};
 ghost use Rattle.vpg_answers.specs.Repairs.{AreTried, IsLostBy, is_listed, is_shown, is_winning, rank_of};
 ghost use Rattle.vpg_answers.specs.Texts.{line_at, lines_at, mark_text, marked_text, repair_line, several_text, singles_text};
 ghost use Rattle.vpg_game.specs.Game.{graph_of};
 ghost use Rattle.vpg_measure.specs.TwoGames.{top_for};
 ghost use Rattle.vpg_texts.specs.Scene.{scene_of};
-ghost use Rattle.vpg_why.specs.Explained.{choices};
 
 use crate::lines;
 use crate::reasons::{identifier, names};
@@ -186,6 +185,8 @@ fn several(
     was_hopeless: bool,
     tried: &[Tried],
     limits: Limits,
+    looks: &mut u64,
+    trials: &mut u64,
     out: &mut Vec<u8>,
 ) -> Result<(), AllocError>
     requires vertex { vertex < length order.now.game.vertices }
@@ -198,7 +199,15 @@ fn several(
         out.old.items out.new.items) }
 {
     let names = names(order);
-    let found = give_up(alloc, order, order.decisions(), vertex, limits)?;
+    let found = give_up(
+        alloc,
+        order,
+        order.decisions(),
+        vertex,
+        limits,
+        looks,
+        trials,
+    )?;
     let exact = all_shown(tried);
     tell_several(names, &found.given, found.sure, tried, exact, out)
 }
@@ -211,6 +220,8 @@ fn no_single(
     was_hopeless: bool,
     tried: &[Tried],
     limits: Limits,
+    looks: &mut u64,
+    trials: &mut u64,
     out: &mut Vec<u8>,
 ) -> Result<(), AllocError>
     requires vertex { vertex < length order.now.game.vertices }
@@ -222,9 +233,19 @@ fn no_single(
         out.old.items out.new.items) }
 {
     let names = names(order);
-    match lost(alloc, order, &[], vertex, limits)? {
+    match lost(alloc, order, &[], vertex, limits, looks, trials)? {
         Shown::Yes => lines::none(out),
-        Shown::No => several(alloc, order, vertex, was_hopeless, tried, limits, out),
+        Shown::No => several(
+            alloc,
+            order,
+            vertex,
+            was_hopeless,
+            tried,
+            limits,
+            looks,
+            trials,
+            out,
+        ),
         Shown::Unsettled => tell_marked(names, 0, tried, false, out),
     }
 }
@@ -236,6 +257,8 @@ fn retractions(
     vertex: u32,
     was_hopeless: bool,
     limits: Limits,
+    looks: &mut u64,
+    trials: &mut u64,
     out: &mut Vec<u8>,
 ) -> Result<(), AllocError>
     requires { vertex < length order.now.game.vertices }
@@ -244,9 +267,19 @@ fn retractions(
         out.old.items out.new.items) }
 {
     let names = names(order);
-    let tried = tries(alloc, order, vertex, was_hopeless, limits)?;
+    let tried = tries(alloc, order, vertex, was_hopeless, limits, looks, trials)?;
     if !has_single(&tried) {
-        return no_single(alloc, order, vertex, was_hopeless, &tried, limits, out);
+        return no_single(
+            alloc,
+            order,
+            vertex,
+            was_hopeless,
+            &tried,
+            limits,
+            looks,
+            trials,
+            out,
+        );
     }
     tell_singles(names, &tried, all_shown(&tried), out)
 }
@@ -264,13 +297,42 @@ pub(crate) fn repairs_at(
         (TellsRepair (scene_of order.now.game order.now.diagram) limits vertex order.now.decisions order.now.hopeful)
         out.old.items out.new.items) }
 {
+    let mut looks = limits.budget;
+    let mut trials = limits.trials;
     if is_hopeless(order, vertex) {
-        return retractions(alloc, order, vertex, true, limits, out);
+        return retractions(
+            alloc,
+            order,
+            vertex,
+            true,
+            limits,
+            &mut looks,
+            &mut trials,
+            out,
+        );
     }
-    let found = effect_of(alloc, order, order.decisions(), vertex, false, limits)?;
+    let found = effect_of(
+        alloc,
+        order,
+        order.decisions(),
+        vertex,
+        false,
+        limits,
+        &mut looks,
+        &mut trials,
+    )?;
     match found {
         Effect::Won => lines::other(Which::Hopeful, identifier(order, vertex), out),
         Effect::Unsettled => lines::unsettled(out),
-        _ => retractions(alloc, order, vertex, false, limits, out),
+        _ => retractions(
+            alloc,
+            order,
+            vertex,
+            false,
+            limits,
+            &mut looks,
+            &mut trials,
+            out,
+        ),
     }
 }

@@ -11,7 +11,7 @@ use std::alloc::{AllocError, Global};
 use vpg_measure::Order;
 use vpg_partial::Decision;
 use vpg_verdict::Which;
-use vpg_why::{Aim, Found, Limits, Question, Shown, search_all, suffice};
+use vpg_why::{Aim, Found, Limits, Shown, seek, verdict_shown};
 
 /// The effect of retracting a decision.
 #[derive(Clone, Copy)]
@@ -51,6 +51,7 @@ fn cautious_effect(
     vertex: u32,
     was_hopeless: bool,
     limits: Limits,
+    looks: &mut u64,
 ) -> Result<Effect, AllocError>
     requires named { AreChoicesOf order.now.diagram.lines (choices kept.now) }
     requires vertex { vertex < length order.now.game.vertices }
@@ -61,21 +62,14 @@ fn cautious_effect(
     if !was_hopeless {
         return Ok(Effect::Nothing);
     }
-    let which = Which::Hopeful;
-    match suffice(
-        alloc,
-        order,
-        Question::Verdict { which, vertex },
-        kept,
-        limits,
-    )? {
+    match verdict_shown(alloc, order, Which::Hopeful, vertex, kept, limits, looks)? {
         Shown::Yes => Ok(Effect::Nothing),
         Shown::No => Ok(Effect::Possible),
         Shown::Unsettled => Ok(Effect::Unsettled),
     }
 }
 
-/// Returns the effect of a retraction, by the decisions that stay.
+/// Returns the effect of a retraction, by the decisions that stay, with the looks and the trials of the line.
 pub(crate) fn effect_of(
     alloc: Global,
     order: &Order,
@@ -83,6 +77,8 @@ pub(crate) fn effect_of(
     vertex: u32,
     was_hopeless: bool,
     limits: Limits,
+    looks: &mut u64,
+    trials: &mut u64,
 ) -> Result<Effect, AllocError>
     requires named { AreChoicesOf order.now.diagram.lines (choices kept.now) }
     requires vertex { vertex < length order.now.game.vertices }
@@ -90,10 +86,11 @@ pub(crate) fn effect_of(
         (choices kept.now)) }
 {
     let which = Which::Hopeful;
-    let found = search_all(alloc, order, Aim::Won { which, vertex }, kept, limits)?;
+    let aim = Aim::Won { which, vertex };
+    let found = seek(alloc, order, aim, kept, limits, looks, trials)?;
     match found {
         Found::Product(_) => Ok(Effect::Won),
-        Found::Nothing => cautious_effect(alloc, order, kept, vertex, was_hopeless, limits),
+        Found::Nothing => cautious_effect(alloc, order, kept, vertex, was_hopeless, limits, looks),
         Found::Unsettled => Ok(Effect::Unsettled),
     }
 }
@@ -116,6 +113,8 @@ fn effect_without(
     vertex: u32,
     was_hopeless: bool,
     limits: Limits,
+    looks: &mut u64,
+    trials: &mut u64,
 ) -> Result<Effect, AllocError>
     requires place { place < length order.now.decisions }
     requires vertex { vertex < length order.now.game.vertices }
@@ -123,17 +122,28 @@ fn effect_without(
         (choices (without place order.now.decisions))) }
 {
     let kept = without(alloc, order.decisions(), place)?;
-    let found = effect_of(alloc, order, &kept, vertex, was_hopeless, limits)?;
+    let found = effect_of(
+        alloc,
+        order,
+        &kept,
+        vertex,
+        was_hopeless,
+        limits,
+        looks,
+        trials,
+    )?;
     Ok(found)
 }
 
-/// Returns the decisions of the page, each with the effect of retracting it alone.
+/// Returns the decisions of the page, each with the effect of retracting it alone. All of them share looks and trials.
 pub(crate) fn tries(
     alloc: Global,
     order: &Order,
     vertex: u32,
     was_hopeless: bool,
     limits: Limits,
+    looks: &mut u64,
+    trials: &mut u64,
 ) -> Result<Vec<Tried>, AllocError>
     requires { vertex < length order.now.game.vertices }
     ensures { IfOk result (λ tried. AreTried (scene_of order.now.game order.now.diagram) limits vertex was_hopeless
@@ -142,7 +152,16 @@ pub(crate) fn tries(
     let decisions = order.decisions();
     let mut tried = Vec::new(alloc);
     'trying: for place in 0..decisions.len() {
-        let effect = effect_without(alloc, order, place, vertex, was_hopeless, limits)?;
+        let effect = effect_without(
+            alloc,
+            order,
+            place,
+            vertex,
+            was_hopeless,
+            limits,
+            looks,
+            trials,
+        )?;
         tried.push(Tried {
             decision: decisions[place],
             effect,
@@ -158,6 +177,8 @@ pub(crate) fn lost(
     decisions: &[Decision],
     vertex: u32,
     limits: Limits,
+    looks: &mut u64,
+    trials: &mut u64,
 ) -> Result<Shown, AllocError>
     requires named { AreChoicesOf order.now.diagram.lines (choices decisions.now) }
     requires vertex { vertex < length order.now.game.vertices }
@@ -171,7 +192,12 @@ pub(crate) fn lost(
 {
     let which = Which::Hopeful;
     let aim = Aim::Won { which, vertex };
-    suffice(alloc, order, Question::Lost { aim }, decisions, limits)
+    let found = seek(alloc, order, aim, decisions, limits, looks, trials)?;
+    match found {
+        Found::Product(_) => Ok(Shown::No),
+        Found::Nothing => Ok(Shown::Yes),
+        Found::Unsettled => Ok(Shown::Unsettled),
+    }
 }
 
 // The decisions and one more.
@@ -205,6 +231,8 @@ pub(crate) fn give_up(
     decisions: &[Decision],
     vertex: u32,
     limits: Limits,
+    looks: &mut u64,
+    trials: &mut u64,
 ) -> Result<Given, AllocError>
     requires named { AreChoicesOf order.now.diagram.lines (choices decisions.now) }
     requires vertex { vertex < length order.now.game.vertices }
@@ -220,7 +248,7 @@ pub(crate) fn give_up(
     let mut sure = true;
     'deciding: for d in decisions {
         let more = appended(alloc, &kept, *d)?;
-        let shown = lost(alloc, order, &more, vertex, limits)?;
+        let shown = lost(alloc, order, &more, vertex, limits, looks, trials)?;
         if let Shown::No = shown {
             kept = more;
         } else {

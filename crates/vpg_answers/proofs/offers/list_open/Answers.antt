@@ -19,3 +19,12 @@ offer_of-requires-2-clause-feature c = grind (arith, common_steps)
 
 pub offer_of-requires-clause-vertex : goal.offer_of-requires-clause-vertex
 offer_of-requires-clause-vertex c = grind (arith, common_steps)
+
+pub offer_of-requires-clause-line : goal.offer_of-requires-clause-line
+offer_of-requires-clause-line c = c.requires.line
+
+pub offer_of-requires-2-clause-line : goal.offer_of-requires-2-clause-line
+offer_of-requires-2-clause-line c = c.in_ok-inside.ensures.line
+
+pub returns-clause-line : goal.returns-clause-line
+returns-clause-line c = c.in_ok-outside.ensures.line

@@ -5,4 +5,4 @@ use Rattle.vpg_answers.proofs.retracting.cautious_effect.Goals as goal
 pub returns-in-Unsettled : goal.returns-in-Unsettled
 returns-in-Unsettled c =
     let order = c.args.order.now in
-    λ s. c.in_ok-suffice.ensures.settled (verdict_room order.game order.diagram c.args.limits c.args.vertex c.args.was_hopeless (choices c.args.kept.now) s) c.in-Unsettled.is
+    λ s. c.in_ok-verdict_shown.ensures.settled (verdict_room order.game order.diagram c.args.limits c.args.vertex c.args.was_hopeless (choices c.args.kept.now) s) c.in-Unsettled.is

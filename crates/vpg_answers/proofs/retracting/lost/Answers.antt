@@ -1,0 +1,26 @@
+use Rattle.vpg_why.proofs.Distinct.{yes_no, yes_unsettled, no_unsettled, no_yes, unsettled_no, unsettled_yes}
+use Rattle.vpg_answers.proofs.retracting.lost.Goals as goal
+use Rattle.vpg_answers.proofs.retracting.lost.Goals.{in-Product, in-Nothing, in-Unsettled}
+
+pub returns-clause-yes : goal.returns-clause-yes
+returns-clause-yes c = elim c.match-found.branch [
+  | in-Product w ↦ rw w.result-is (λ e. absurd (no_yes e))
+  | in-Nothing w ↦ rw w.result-is (λ e. rw w.in-Nothing.is at c.in_ok-found.ensures.found)
+  | in-Unsettled w ↦ rw w.result-is (λ e. absurd (unsettled_yes e))
+]
+
+pub returns-clause-no : goal.returns-clause-no
+returns-clause-no c = elim c.match-found.branch [
+  | in-Product w ↦
+      let found = rw w.in-Product.is at c.in_ok-found.ensures.found in
+      rw w.result-is (λ e none. none _ found.0 found.1)
+  | in-Nothing w ↦ rw w.result-is (λ e. absurd (yes_no e))
+  | in-Unsettled w ↦ rw w.result-is (λ e. absurd (unsettled_no e))
+]
+
+pub returns-clause-settled : goal.returns-clause-settled
+returns-clause-settled c = elim c.match-found.branch [
+  | in-Product w ↦ rw w.result-is (λ s e. no_unsettled e)
+  | in-Nothing w ↦ rw w.result-is (λ s e. yes_unsettled e)
+  | in-Unsettled w ↦ rw w.result-is (λ s e. c.in_ok-found.ensures.settled (s.0, s.1) w.in-Unsettled.is)
+]
