@@ -1,6 +1,7 @@
 //! Scripts with their answers and ends, and a line for each table of them, or for each fact.
 
 mod devices;
+mod drawn;
 mod ends;
 mod faults;
 mod manners;
@@ -26,11 +27,12 @@ enum Table {
     Manners,
     Ends,
     Names,
+    Drawn,
     Faulty(LineFault),
 }
 
 /// The tables with their names.
-static TABLES: [(&str, Table); 21] = [
+static TABLES: [(&str, Table); 22] = [
     ("worked scripts, settling", Table::Worked(Worked::Settling)),
     ("worked scripts, changes", Table::Worked(Worked::Changes)),
     ("worked scripts, harvests", Table::Worked(Worked::Harvests)),
@@ -65,6 +67,7 @@ static TABLES: [(&str, Table); 21] = [
     ("scripts in each manner", Table::Manners),
     ("scripts on families, and how they end", Table::Ends),
     ("scripts that call vertices by their names", Table::Names),
+    ("pages that scripts leave, drawn", Table::Drawn),
     (
         "lines with other words than their command takes",
         Table::Faulty(LineFault::Args),
@@ -87,10 +90,11 @@ enum Check {
     ServedFault,
     ServedDevices,
     ShownFaults,
+    LargePicture,
 }
 
 /// The facts, as lines say them.
-static CHECKS: [(&str, Check); 12] = [
+static CHECKS: [(&str, Check); 13] = [
     (
         "a vertex rises to the widest measure",
         Check::WidestMeasures,
@@ -121,6 +125,10 @@ static CHECKS: [(&str, Check); 12] = [
         Check::ServedDevices,
     ),
     ("faults show themselves by their words", Check::ShownFaults),
+    (
+        "a large game is drawn on the page that a script leaves",
+        Check::LargePicture,
+    ),
 ];
 
 /// Returns the place of the first row of a table that holds otherwise.
@@ -135,6 +143,7 @@ fn first_other<R: Threads + Wait + Sync>(
         Table::Manners => manners::first_other(rt, alloc, family),
         Table::Ends => ends::first_other(rt, alloc),
         Table::Names => names::first_other(rt, alloc),
+        Table::Drawn => drawn::first_other(rt, alloc),
         Table::Faulty(fault) => served::first_other(rt, alloc, fault),
     }
 }
@@ -153,6 +162,7 @@ fn holds<R: Threads + Wait + Sync>(rt: &R, alloc: Global, family: &Family, check
         Check::ServedFault => served::names_the_line(rt, alloc),
         Check::ServedDevices => served::ends_at_devices(rt, alloc),
         Check::ShownFaults => faults::are_shown(alloc),
+        Check::LargePicture => drawn::is_large_drawn(rt, alloc),
     }
 }
 

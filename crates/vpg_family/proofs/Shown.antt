@@ -1,20 +1,18 @@
 -- Systems that are drawn, and what is told where they are not.
-use Rattle.std.proofs.Common.{◌≡◌, ℕ, Bool, List, [], ◌++◌, map, take, ap, subst, ◌∙◌}
+use Rattle.std.proofs.Common.{◌≡◌, ℕ, Bool, Option, List, [], ◌++◌, map, ap, subst, ◌∙◌}
 use Rattle.vpg_guards.specs.declared.tri.Tri.{Tri}
 use Rattle.vpg_diagram.specs.declared.clause.Literal.{Literal}
 use Rattle.vpg_diagram.specs.DiagramText.{NamedDiagram, IsTextOf}
-use Rattle.vpg_game.specs.Game.{NamedGame}
 use Rattle.vpg_partial.specs.Known.{literal_of}
+use Rattle.vpg_partial.specs.TableLaws.{IsKnownTable}
 use Rattle.vpg_partial.specs.declared.decision.Decision.{Decision}
 use Rattle.vpg_system.specs.SystemText.{NamedSystem, IsTextOf as IsSystemText}
 use Rattle.vpg_system_draw.specs.Reached.{AreReached}
 use Rattle.vpg_system_draw.specs.SystemDrawing.{system_drawing}
-use Rattle.vpg_system_draw.specs.Traced.{Marking, Trail, marking_of, no_marking}
-use Rattle.vpg_verdict.specs.declared.verdict.Verdict.{Verdict}
+use Rattle.vpg_system_draw.specs.Traced.{Marking, Trail}
 use Rattle.vpg_family.specs.Families.{IsDiagramFault}
-use Rattle.vpg_family.specs.Pages.{sight_of, IsSight}
 use Rattle.vpg_family.specs.Pictures.{TellsContradiction}
-use Rattle.vpg_family.specs.Systems.{IsSystemFault, IsSystemDrawn, IsSystemUndrawn, IsSystemRedrawn, IsSystemTraced}
+use Rattle.vpg_family.specs.Systems.{IsSystemFault, IsSystemDrawn, IsSystemOn, IsSystemUndrawn, IsSystemUnder, marks_on}
 use Rattle.vpg_family.specs.declared.fault.Fault.{Fault}
 use Rattle.vpg_family.specs.declared.fault.Fault.TheVariants as told
 
@@ -48,24 +46,19 @@ shown names seen known choices system marking reached found before picture are i
       ∙ ap (λ (marks : List Bool). system_drawing names known choices system marks marking) alike;
 }
 
-pub redrawn : (diagram : NamedDiagram) (game : NamedGame) (system_text text written : List ℕ) (begins : ℕ) (known : List Tri) (decisions shown : List Decision) (verdicts : List Verdict) (system : NamedSystem) (picture : List ℕ)
-    → IsSight diagram game written begins known decisions verdicts → IsSystemText diagram.names text system → text ≡ system_text → IsSystemDrawn diagram.names known (map literal_of shown) system no_marking picture → shown ≡ decisions
-    → IsSystemRedrawn diagram game system_text written picture
-redrawn diagram game system_text text written begins known decisions shown verdicts system picture seen spelled same drawn all = record {
-  sight = sight_of known (map literal_of decisions) verdicts;
-  known_is = seen.known_is;
-  earlier = take begins written;
-  written_is = seen.written_is;
-  system = system;
-  system_spelled = subst (λ (t : List ℕ). IsSystemText diagram.names t system) same spelled;
-  drawn = subst (λ (ds : List Decision). IsSystemDrawn diagram.names known (map literal_of ds) system no_marking picture) all drawn;
+pub under : (diagram drawn : NamedDiagram) (choices : List Literal) (known seen : List Tri) (decisions : List Decision) (system : NamedSystem) (trail : Option Trail) (picture : List ℕ)
+    → IsKnownTable diagram.lines choices known → IsSystemDrawn drawn.names seen (map literal_of decisions) system (marks_on system trail) picture → drawn ≡ diagram → seen ≡ known → map literal_of decisions ≡ choices
+    → IsSystemUnder diagram choices system trail picture
+under diagram drawn choices known seen decisions system trail picture known_is is d k ds = record {
+  known = known;
+  known_is = known_is;
+  drawn = coe 0 1 (i. IsSystemDrawn (d i).names (k i) (ds i) system (marks_on system trail) picture) is;
 }
 
-pub traced : (diagram : NamedDiagram) (system_text : List ℕ) (known : List Tri) (decisions shown : List Decision) (system : NamedSystem) (trail : Trail) (picture : List ℕ)
-    → IsSystemText diagram.names system_text system → IsSystemDrawn diagram.names known (map literal_of shown) system (marking_of system trail) picture → shown ≡ decisions
-    → IsSystemTraced diagram system_text known (map literal_of decisions) trail picture
-traced diagram system_text known decisions shown system trail picture spelled drawn all = record {
+pub on_page : (diagram read : NamedDiagram) (choices : List Literal) (system_text : List ℕ) (system : NamedSystem) (trail : Option Trail) (picture : List ℕ)
+    → IsSystemText read.names system_text system → read ≡ diagram → IsSystemUnder diagram choices system trail picture → IsSystemOn diagram choices system_text trail picture
+on_page diagram read choices system_text system trail picture spelled same under = record {
   system = system;
-  system_spelled = spelled;
-  drawn = subst (λ (ds : List Decision). IsSystemDrawn diagram.names known (map literal_of ds) system (marking_of system trail) picture) all drawn;
+  system_spelled = subst (λ (d : NamedDiagram). IsSystemText d.names system_text system) same spelled;
+  under = under;
 }

@@ -1,15 +1,17 @@
--- Pages that are drawn once more.
-use Rattle.std.proofs.Common.{◌≡◌, ℕ, List, ◌++◌, map, take, ap, ◌∙◌}
+-- Pages that are drawn.
+use Rattle.std.proofs.Common.{◌≡◌, ℕ, List, ◌++◌, map, take}
 use Rattle.vpg_guards.specs.declared.tri.Tri.{Tri}
+use Rattle.vpg_diagram.specs.declared.clause.Literal.{Literal}
 use Rattle.vpg_diagram.specs.DiagramText.{NamedDiagram}
 use Rattle.vpg_game.specs.Game.{NamedGame}
 use Rattle.vpg_partial.specs.Known.{literal_of}
+use Rattle.vpg_partial.specs.TableLaws.{IsKnownTable}
 use Rattle.vpg_partial.specs.declared.decision.Decision.{Decision}
 use Rattle.vpg_verdict.specs.declared.verdict.Verdict.{Verdict}
 use Rattle.vpg_draw.specs.GameDrawing.{game_drawing}
 use Rattle.vpg_names.specs.Spelled.{Told}
 use Rattle.vpg_family.specs.Pictures.{TellsNames}
-use Rattle.vpg_family.specs.Pages.{sight_of, IsSight, IsNamed, IsGameSeen, IsSightDrawn, IsRedrawn}
+use Rattle.vpg_family.specs.Pages.{sight_of, IsSight, IsNamed, IsGameSeen, IsPageDrawn, IsSightDrawn}
 use Rattle.vpg_family.specs.declared.drawing.Subject.{Subject}
 
 pub named : (diagram : NamedDiagram) (game : NamedGame) (names : List (List ℕ)) (written : List ℕ) (begins : ℕ) (known : List Tri) (decisions : List Decision) (verdicts : List Verdict) (before text : List ℕ)
@@ -23,24 +25,15 @@ named diagram game names written begins known decisions verdicts before text see
   text_is = is;
 }
 
-pub redrawn : (subject : Subject) (diagram : NamedDiagram) (game : NamedGame) (diagram_text game_text written : List ℕ) (begins : ℕ) (known : List Tri) (decisions : List Decision) (verdicts : List Verdict) (picture : List ℕ)
-    → IsSight diagram game written begins known decisions verdicts
-    → IsSightDrawn subject diagram game (sight_of known (map literal_of decisions) verdicts) diagram_text game_text picture
-    → IsRedrawn subject diagram game diagram_text game_text written picture
-redrawn subject diagram game diagram_text game_text written begins known decisions verdicts picture seen drawn = record {
-  sight = sight_of known (map literal_of decisions) verdicts;
-  known_is = seen.known_is;
-  earlier = take begins written;
-  written_is = seen.written_is;
-  drawn = drawn;
+pub paged : (subject : Subject) (diagram drawn : NamedDiagram) (game played : NamedGame) (choices : List Literal) (known seen : List Tri) (decisions : List Decision) (verdicts : List Verdict) (diagram_text game_text picture : List ℕ)
+    → IsKnownTable diagram.lines choices known → IsSightDrawn subject drawn played (sight_of seen (map literal_of decisions) verdicts) diagram_text game_text picture
+    → drawn ≡ diagram → played ≡ game → seen ≡ known → map literal_of decisions ≡ choices → IsPageDrawn subject diagram game choices verdicts diagram_text game_text picture
+paged subject diagram drawn game played choices known seen decisions verdicts diagram_text game_text picture known_is is d g k ds = record {
+  known = known;
+  known_is = known_is;
+  drawn = coe 0 1 (i. IsSightDrawn subject (d i) (g i) (sight_of (k i) (ds i) verdicts) diagram_text game_text picture) is;
 }
 
-pub seen_game : (diagram : NamedDiagram) (game : NamedGame) (known : List Tri) (decisions shown : List Decision) (verdicts looks : List Verdict) (text picture : List ℕ) (names : Told)
-    → TellsNames text names → picture ≡ game_drawing diagram.names known (map literal_of shown) names.names looks game
-    → shown ≡ decisions → looks ≡ verdicts → IsGameSeen diagram game (sight_of known (map literal_of decisions) verdicts) text picture
-seen_game diagram game known decisions shown verdicts looks text picture names told is d v = record {
-  names = names;
-  names_are = told;
-  picture_is = is ∙ ap (λ (ds : List Decision). game_drawing diagram.names known (map literal_of ds) names.names looks game) d
-      ∙ ap (λ (vs : List Verdict). game_drawing diagram.names known (map literal_of decisions) names.names vs game) v;
-}
+pub seen_game : (diagram : NamedDiagram) (game : NamedGame) (known : List Tri) (choices : List Literal) (verdicts : List Verdict) (text picture : List ℕ) (names : Told)
+    → TellsNames text names → picture ≡ game_drawing diagram.names known choices names.names verdicts game → IsGameSeen diagram game (sight_of known choices verdicts) text picture
+seen_game diagram game known choices verdicts text picture names told is = record { names = names; names_are = told; picture_is = is }

@@ -1,4 +1,4 @@
--- The picture of a family on the page that a script leaves. This project's own.
+-- The picture of a family on a page, and of pages in answers. This project's own.
 use Rattle.std.specs.Prelude.{◌≡◌, ◌⊎◌, ℕ, ◌<◌, ◌≤◌, Bool, true, false, if◌then◌else◌, nat_eq, IsTrue, Option, Some, None, List, [], ◌++◌, All, length, map, take, codes}
 use Rattle.std.specs.List.{starts_with}
 use Rattle.std.specs.Str.{bytes_eq}
@@ -69,16 +69,14 @@ IsSightDrawn Game diagram game sight diagram_text game_text picture = IsGameSeen
 IsSightDrawn Features diagram game sight diagram_text game_text picture =
     picture ≡ feature_drawing diagram.names sight.known sight.choices diagram_text
 
--- The written text ends in the picture of the game on a page, without names, and the picture is made of this page.
-pub record IsRedrawn (subject : Subject) (diagram : NamedDiagram) (game : NamedGame)
-    (diagram_text game_text written picture : List ℕ) : Type 0 where
-  pub sight : Sight
-  pub known_is : IsKnownTable diagram.lines sight.choices sight.known
-  pub earlier : List ℕ
-  pub written_is : written ≡ earlier ++ sight_drawing diagram game sight []
-  pub drawn : IsSightDrawn subject diagram game sight diagram_text game_text picture
+-- The page with these choices of features and these verdicts is drawn, under what the choices make known.
+pub record IsPageDrawn (subject : Subject) (diagram : NamedDiagram) (game : NamedGame) (choices : List Literal)
+    (verdicts : List Verdict) (diagram_text game_text picture : List ℕ) : Type 0 where
+  pub known : List Tri
+  pub known_is : IsKnownTable diagram.lines choices known
+  pub drawn : IsSightDrawn subject diagram game (sight_of known choices verdicts) diagram_text game_text picture
 
--- If no page is drawn again, the fault is one of two: `LogFull` or `Memory`.
+-- If no page is read from a picture, the fault is one of two: `LogFull` or `Memory`.
 abbrev pub IsUnseen : Fault → Type 0
 IsUnseen fault = (fault ≡ LogFull) ⊎ (fault ≡ Memory)
 

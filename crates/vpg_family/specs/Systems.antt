@@ -1,9 +1,8 @@
 -- The picture of a system over the features of a diagram, and the fault if there is none. This project's own.
-use Rattle.std.specs.Prelude.{◌≡◌, ◌≢◌, ℕ, ⊤, Bool, List, [], ◌++◌}
+use Rattle.std.specs.Prelude.{◌≡◌, ◌≢◌, ℕ, ⊤, Bool, Option, Some, None, List, []}
 use Rattle.vpg_guards.specs.declared.tri.Tri.{Tri}
 use Rattle.vpg_diagram.specs.declared.clause.Literal.{Literal}
 use Rattle.vpg_diagram.specs.DiagramText.{NamedDiagram, IsTextOf}
-use Rattle.vpg_game.specs.Game.{NamedGame}
 use Rattle.vpg_partial.specs.TableLaws.{IsKnownTable}
 use Rattle.vpg_system.specs.SystemText.{NamedSystem, IsTextOf as IsSystemText}
 use Rattle.vpg_system.specs.TextFaults.{IsFirstFault}
@@ -12,7 +11,6 @@ use Rattle.vpg_system_draw.specs.Reached.{AreReached}
 use Rattle.vpg_system_draw.specs.SystemDrawing.{system_drawing}
 use Rattle.vpg_system_draw.specs.Traced.{Marking, Trail, marking_of, no_marking}
 use Rattle.vpg_family.specs.Families.{IsDiagramFault}
-use Rattle.vpg_family.specs.Pages.{Sight, sight_drawing}
 use Rattle.vpg_family.specs.Pictures.{TellsContradiction}
 use Rattle.vpg_family.specs.declared.fault.Fault.{Fault}
 use Rattle.vpg_family.specs.declared.fault.Fault.TheVariants as told
@@ -54,20 +52,22 @@ IsSystemUndrawn diagram_text system_text (told.Conflict name) =
     (diagram : NamedDiagram) × IsTextOf diagram_text diagram × TellsContradiction diagram (told.Conflict name)
 IsSystemUndrawn diagram_text system_text fault = IsDiagramFault diagram_text fault
 
--- The written text ends in the picture of the game on a page, without names, and on this page the system is drawn.
-pub record IsSystemRedrawn (diagram : NamedDiagram) (game : NamedGame) (system_text written picture : List ℕ) :
-    Type 0 where
-  pub sight : Sight
-  pub known_is : IsKnownTable diagram.lines sight.choices sight.known
-  pub earlier : List ℕ
-  pub written_is : written ≡ earlier ++ sight_drawing diagram game sight []
-  pub system : NamedSystem
-  pub system_spelled : IsSystemText diagram.names system_text system
-  pub drawn : IsSystemDrawn diagram.names sight.known sight.choices system no_marking picture
+-- the marks of a trace, if there is one
+abbrev pub marks_on : NamedSystem → Option Trail → Marking
+marks_on system None = no_marking
+marks_on system (Some trail) = marking_of system trail
 
--- the system that a text spells is drawn under these decisions and what they make known, with the marks of a trace
-pub record IsSystemTraced (diagram : NamedDiagram) (system_text : List ℕ) (known : List Tri) (choices : List Literal)
-    (trail : Trail) (picture : List ℕ) : Type 0 where
+-- The system is drawn under these choices of features and what they make known, with the marks of a trace if there is
+-- one.
+pub record IsSystemUnder (diagram : NamedDiagram) (choices : List Literal) (system : NamedSystem)
+    (trail : Option Trail) (picture : List ℕ) : Type 0 where
+  pub known : List Tri
+  pub known_is : IsKnownTable diagram.lines choices known
+  pub drawn : IsSystemDrawn diagram.names known choices system (marks_on system trail) picture
+
+-- And it is the system that a text spells.
+pub record IsSystemOn (diagram : NamedDiagram) (choices : List Literal) (system_text : List ℕ) (trail : Option Trail)
+    (picture : List ℕ) : Type 0 where
   pub system : NamedSystem
   pub system_spelled : IsSystemText diagram.names system_text system
-  pub drawn : IsSystemDrawn diagram.names known choices system (marking_of system trail) picture
+  pub under : IsSystemUnder diagram choices system trail picture

@@ -125,13 +125,13 @@ pub enum Fault {
     NotAProduct,
     #[error("Memory")]
     Memory,
-    /// The line `draw` after a script was refused, since the log was full.
+    /// A script left no room in the log for a look at its page.
     #[error("script LogFull")]
     LogFull,
     /// The office of a run had a call that no line of its script made.
     #[error("script Stray")]
     Stray,
-    /// The line `trace` after a script had this answer, which is no trace.
+    /// The line `trace` after a script has this answer, which is no trace.
     #[error(fmt = put_untraced)]
     NoTrace { answer: Vec<u8> },
 }

@@ -6,10 +6,9 @@
 //! A `Family` counts itself (`counted`) and returns the plain game of one product (`projected`). `checked` counts the
 //! family of texts, with its requirements, and `drawn` returns a picture of two texts. `linted` warns of a diagram
 //! without a product, and of features that are in no product or that no guard names. It warns of vertices without moves
-//! or that the game never reaches, and of a start that is no vertex. `redrawn` returns the picture of the page that a
-//! script left, from the text that the script wrote. `Pictured` is a sink that passes answers on with the names of
-//! vertices in pictures. `system_drawn` and `system_redrawn` draw a system in place of its game, and `system_traced`
-//! with the marks of a trace, on the page that `sight_in` reads from a run's text. Each fault of the program is a
+//! or that the game never reaches, and of a start that is no vertex. `page_drawn` returns the picture of a page.
+//! `system_drawn` draws a system alone, and `system_on` on a page, with the marks of a trace if there is one.
+//! `Pictured` is a sink that passes answers on with the names of vertices in pictures. Each fault of the program is a
 //! `Fault`, `line_of` returns the line that reports it, and `explained` lines that say where and why;
 //! `explained_diagram` those on the file of a diagram alone. `Known` is a family with the names that lines of scripts
 //! may give its vertices, and `read_known` returns that of some files. The crate knows no desk: scripts are carried out
@@ -36,6 +35,7 @@ mod limits;
 mod linting;
 mod modelling;
 mod moves;
+mod paged;
 mod pages;
 mod parts;
 mod pictured;
@@ -57,8 +57,8 @@ pub use files::{
 };
 pub use known::{Context, Known, read_known};
 pub use linting::linted;
-pub use pages::{Seen, redrawn, sight_in};
+pub use paged::page_drawn;
 pub use pictured::Pictured;
 pub use sources::{DiagramFile, read_diagram_file};
-pub use systems::{system_drawn, system_redrawn, system_traced};
+pub use systems::{system_drawn, system_on};
 pub use telling::line_of;

@@ -1,23 +1,20 @@
-//! Pictures of a family on the page that a script leaves.
+//! Pages that are read from pictures, to add the names of vertices.
 //!
-//! A run keeps no names of vertices, and writes no picture of a diagram. But its line `draw` shows all parts of a page
-//! that are drawn. So decisions and verdicts are read from that picture. Then it is made once more from them and
-//! compared: if the two differ in a byte nothing is drawn.
+//! A run keeps no names of vertices, but a picture of the game shows all parts of a page that are drawn. So decisions
+//! and verdicts are read from it. Then the picture is made once more from them and compared: it has names only if the
+//! two agree in each byte.
 ghost use Rattle.std.specs.Prelude.{◌≡◌, ◌↔◌, ◌<◌, ◌≤◌, ◌++◌, [], All, IsTrue, length, map, take, IfErr, IfOk, IfSome};
 ghost use Rattle.std.specs.Str.{bytes_eq};
 ghost use Rattle.vpg_diagram.specs.FeatureDiagram.{feature_count};
-ghost use Rattle.vpg_draw.specs.FeatureDrawing.{feature_drawing};
 ghost use Rattle.vpg_draw.specs.GameDrawing.{game_drawing};
-ghost use Rattle.vpg_family.specs.Pages.{sight_of, IsSight, IsNamed, IsGameSeen, IsSightDrawn, IsRedrawn, IsUnseen};
+ghost use Rattle.vpg_family.specs.Pages.{IsSight, IsNamed, IsUnseen};
 ghost use Rattle.vpg_partial.specs.Known.{literal_of};
 ghost use Rattle.vpg_partial.specs.TableLaws.{IsKnownTable};
 
-use crate::drawing::Subject;
 use crate::fault::Fault;
-use crate::files::Texts;
 use std::alloc::{AllocError, Global};
 use vpg_diagram::Diagram;
-use vpg_draw::{draw_features, draw_game};
+use vpg_draw::draw_game;
 use vpg_game::GuardedGame;
 use vpg_guards::Names;
 use vpg_measure::known_under;
@@ -46,11 +43,11 @@ struct Shown {
 /// The shown parts of a page, the features that the decisions make known, and the place where the picture begins in the
 /// written text.
 #[derive(Drop)]
-pub struct Seen {
-    pub decisions: Vec<Decision>,
-    pub verdicts: Vec<Verdict>,
-    pub known: Partial,
-    pub begins: usize,
+struct Seen {
+    decisions: Vec<Decision>,
+    verdicts: Vec<Verdict>,
+    known: Partial,
+    begins: usize,
 }
 
 /// Returns the last picture of a game in a text, and the text after it.
@@ -143,11 +140,7 @@ pub(crate) fn are_below(features: usize, decisions: &[Decision]) -> bool
 }
 
 /// Returns the features that decisions make known, if they don't contradict each other.
-pub(crate) fn known_of(
-    alloc: Global,
-    diagram: &Diagram,
-    decisions: &[Decision],
-) -> Result<Partial, Fault>
+fn known_of(alloc: Global, diagram: &Diagram, decisions: &[Decision]) -> Result<Partial, Fault>
     requires { All (λ d. d.feature < feature_count diagram.now.lines) decisions.now }
     ensures known { IfOk result (IsKnownTable diagram.now.lines (map literal_of decisions.now)) }
     ensures refused { IfErr result IsUnseen }
@@ -176,7 +169,7 @@ pub(crate) fn same(a: &[u8], b: &[u8]) -> bool
 }
 
 /// Returns the picture of the game on a page, with these names of its vertices.
-fn game_shown(
+pub(crate) fn game_shown(
     alloc: Global,
     diagram: &Diagram,
     game: &GuardedGame,
@@ -204,26 +197,6 @@ fn game_shown(
         verdicts,
         &mut picture,
     )?;
-    Ok(picture)
-}
-
-/// Returns the picture of the diagram on a page, from its text.
-fn features_shown(
-    alloc: Global,
-    diagram: &Diagram,
-    known: &Partial,
-    decisions: &[Decision],
-    text: &[u8],
-) -> Result<Vec<u8>, AllocError>
-    requires known { length known.now ≡ feature_count diagram.now.lines }
-    requires decisions { All (λ d. d.feature < feature_count diagram.now.lines) decisions.now }
-    ensures { IfOk result (λ picture. picture.items ≡ feature_drawing diagram.now.names known.now
-        (map literal_of decisions.now) text.now) }
-{
-    let mut picture = Vec::new(alloc);
-    // The diagram has a name for each feature.
-    let _features = diagram.features();
-    draw_features(alloc, text, diagram, known, decisions, &mut picture)?;
     Ok(picture)
 }
 
@@ -256,7 +229,7 @@ fn begin_of(
 
 /// Returns the parts of the page that are drawn, if the written text ends in the picture of its game without names.
 /// `LogFull` comes if it has another end; any other fault is want of memory.
-pub fn sight_in(
+fn sight_in(
     alloc: Global,
     diagram: &Diagram,
     game: &GuardedGame,
@@ -337,91 +310,6 @@ pub(crate) fn with_names(
     let (before, _) = written.split_at(seen.begins);
     match named_behind(alloc, diagram, game, names, &seen, before) {
         Ok(text) => Ok(text),
-        Err(_) => Err(Fault::Memory),
-    }
-}
-
-/// Returns the picture of a game on a page, with the names in its text.
-fn game_seen(
-    alloc: Global,
-    diagram: &Diagram,
-    game: &GuardedGame,
-    seen: &Seen,
-    text: &[u8],
-) -> Result<Vec<u8>, AllocError>
-    requires features { game.now.features ≡ feature_count diagram.now.lines }
-    requires known { length seen.now.known ≡ feature_count diagram.now.lines }
-    requires decisions { All (λ d. d.feature < feature_count diagram.now.lines) seen.now.decisions.items }
-    requires verdicts { length seen.now.verdicts.items ≡ length game.now.vertices }
-    ensures { IfOk result (λ picture. IsGameSeen diagram.now game.now
-        (sight_of seen.now.known (map literal_of seen.now.decisions.items) seen.now.verdicts.items) text.now
-        picture.items) }
-{
-    let names = VertexNames::read(alloc, text)?;
-    let (decisions, verdicts) = (seen.decisions.as_slice(), seen.verdicts.as_slice());
-    match game_shown(
-        alloc,
-        diagram,
-        game,
-        &seen.known,
-        decisions,
-        verdicts,
-        &names,
-    ) {
-        Ok(picture) => Ok(picture),
-        Err(fault) => Err(fault),
-    }
-}
-
-/// Returns the picture of the page with these parts.
-fn sight_drawn(
-    alloc: Global,
-    subject: Subject,
-    diagram: &Diagram,
-    game: &GuardedGame,
-    seen: &Seen,
-    texts: &Texts,
-) -> Result<Vec<u8>, AllocError>
-    requires features { game.now.features ≡ feature_count diagram.now.lines }
-    requires known { length seen.now.known ≡ feature_count diagram.now.lines }
-    requires decisions { All (λ d. d.feature < feature_count diagram.now.lines) seen.now.decisions.items }
-    requires verdicts { length seen.now.verdicts.items ≡ length game.now.vertices }
-    ensures { IfOk result (λ picture. IsSightDrawn subject diagram.now game.now
-        (sight_of seen.now.known (map literal_of seen.now.decisions.items) seen.now.verdicts.items)
-        texts.now.diagram.items texts.now.game.items picture.items) }
-{
-    match subject {
-        Subject::Game => match game_seen(alloc, diagram, game, seen, &texts.game) {
-            Ok(picture) => Ok(picture),
-            Err(fault) => Err(fault),
-        },
-        Subject::Features => {
-            let decisions = seen.decisions.as_slice();
-            features_shown(alloc, diagram, &seen.known, decisions, &texts.diagram)
-        }
-    }
-}
-
-/// Returns the picture of the page that a script left, of a family with these texts, from the text that the script
-/// wrote. Its last answer is the picture of the page's game without names. `LogFull` comes if it is none; any other
-/// fault is want of memory.
-#[tactic(auto, using(crate::proofs::Sights::redrawn))]
-pub fn redrawn(
-    alloc: Global,
-    subject: Subject,
-    diagram: &Diagram,
-    game: &GuardedGame,
-    texts: &Texts,
-    written: &[u8],
-) -> Result<Vec<u8>, Fault>
-    requires { game.now.features ≡ feature_count diagram.now.lines }
-    ensures redrawn { IfOk result (λ picture. IsRedrawn subject diagram.now game.now texts.now.diagram.items
-        texts.now.game.items written.now picture.items) }
-    ensures refused { IfErr result IsUnseen }
-{
-    let seen = sight_in(alloc, diagram, game, written)?;
-    match sight_drawn(alloc, subject, diagram, game, &seen, texts) {
-        Ok(picture) => Ok(picture),
         Err(_) => Err(Fault::Memory),
     }
 }

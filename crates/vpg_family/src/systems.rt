@@ -2,19 +2,16 @@
 ghost use Rattle.std.specs.Prelude.{◌≡◌, ◌<◌, [], All, length, map, IfOk, IfErr};
 ghost use Rattle.vpg_diagram.specs.FeatureDiagram.{feature_count};
 ghost use Rattle.vpg_family.specs.Pictures.{TellsContradiction};
-ghost use Rattle.vpg_family.specs.Systems.{IsDrawnAlone, IsSystemFault, IsSystemDrawn, IsSystemPicture, IsSystemUndrawn, IsSystemRedrawn, IsSystemTraced};
+ghost use Rattle.vpg_family.specs.Systems.{IsDrawnAlone, IsSystemFault, IsSystemDrawn, IsSystemOn, IsSystemPicture, IsSystemUndrawn, IsSystemUnder, marks_on};
 ghost use Rattle.vpg_partial.specs.Known.{literal_of};
 ghost use Rattle.vpg_system.specs.SystemText.{IsTextOf};
-ghost use Rattle.vpg_system_draw.specs.Traced.{marking_of, no_marking};
 
 use crate::drawing::known_alone;
 use crate::family::read_diagram;
 use crate::fault::Fault;
-use crate::files::Texts;
-use crate::pages::{Seen, sight_in};
 use std::alloc::{AllocError, Global};
 use vpg_diagram::Diagram;
-use vpg_game::GuardedGame;
+use vpg_measure::Order;
 use vpg_partial::{Decision, Partial};
 use vpg_system::{System, SystemFault};
 use vpg_system_draw::{Marks, Path, draw_system, reachable};
@@ -65,21 +62,33 @@ fn system_marked(
     Ok(picture)
 }
 
-/// Returns the picture of a system under decisions and the features that they make known.
+/// Returns the marks of a trace, if there is one.
+fn marks_on(alloc: Global, system: &System, path: Option<Path>) -> Result<Marks, AllocError>
+    ensures { IfOk result (λ marks. marks ≡ marks_on system.now path) }
+{
+    match path {
+        Some(path) => Marks::of(alloc, system, path),
+        None => Ok(Marks::none(alloc)),
+    }
+}
+
+/// Returns the picture of a system under decisions and the features that they make known, with the marks of a trace if
+/// there is one.
 fn system_shown(
     alloc: Global,
     diagram: &Diagram,
     system: &System,
     known: &Partial,
     decisions: &[Decision],
+    path: Option<Path>,
 ) -> Result<Vec<u8>, AllocError>
     requires features { system.now.features ≡ feature_count diagram.now.lines }
     requires known { length known.now ≡ feature_count diagram.now.lines }
     requires decisions { All (λ d. d.feature < feature_count diagram.now.lines) decisions.now }
     ensures { IfOk result (λ picture. IsSystemDrawn diagram.now.names known.now (map literal_of decisions.now)
-        system.now no_marking picture.items) }
+        system.now (marks_on system.now path) picture.items) }
 {
-    let marks = Marks::none(alloc);
+    let marks = marks_on(alloc, system, path)?;
     system_marked(alloc, diagram, system, known, decisions, &marks)
 }
 
@@ -93,7 +102,7 @@ fn drawn_alone(alloc: Global, diagram: &Diagram, system: &System) -> Result<Vec<
         Ok(known) => known,
         Err(fault) => return Err(fault),
     };
-    match system_shown(alloc, diagram, system, &known, &[]) {
+    match system_shown(alloc, diagram, system, &known, &[], None) {
         Ok(picture) => Ok(picture),
         Err(_) => Err(Fault::Memory),
     }
@@ -120,67 +129,39 @@ pub fn system_drawn(
     drawn_alone(alloc, &diagram, &system)
 }
 
-/// Returns the picture of the system of a family with these texts on the page that a script left, from the text that
-/// the script wrote. Its last answer is the picture of the page's game without names. `LogFull` comes if it is none.
-pub fn system_redrawn(
+/// Returns the picture of a system on a page, of which this is an order, with the marks of a trace if there is one.
+fn system_under(
     alloc: Global,
-    diagram: &Diagram,
-    game: &GuardedGame,
-    texts: &Texts,
-    written: &[u8],
-) -> Result<Vec<u8>, Fault>
-    requires { game.now.features ≡ feature_count diagram.now.lines }
-    ensures { IfOk result (λ picture. IsSystemRedrawn diagram.now game.now texts.now.system.items written.now
-        picture.items) }
-{
-    let seen = sight_in(alloc, diagram, game, written)?;
-    let system = match read_system(alloc, &texts.system, diagram) {
-        Ok(system) => system,
-        Err(fault) => return Err(fault),
-    };
-    match system_shown(alloc, diagram, &system, &seen.known, &seen.decisions) {
-        Ok(picture) => Ok(picture),
-        Err(_) => Err(Fault::Memory),
-    }
-}
-
-/// Returns the picture of a system with the marks of a trace, under decisions and the features that they make known.
-fn traced_under(
-    alloc: Global,
-    diagram: &Diagram,
+    order: &Order,
     system: &System,
-    known: &Partial,
-    decisions: &[Decision],
-    path: Path,
+    path: Option<Path>,
 ) -> Result<Vec<u8>, AllocError>
-    requires features { system.now.features ≡ feature_count diagram.now.lines }
-    requires known { length known.now ≡ feature_count diagram.now.lines }
-    requires decisions { All (λ d. d.feature < feature_count diagram.now.lines) decisions.now }
-    ensures { IfOk result (λ picture. IsSystemDrawn diagram.now.names known.now (map literal_of decisions.now)
-        system.now (marking_of system.now path) picture.items) }
+    requires { system.now.features ≡ feature_count order.now.diagram.lines }
+    ensures { IfOk result (λ picture. IsSystemUnder order.now.diagram (map literal_of order.now.decisions) system.now
+        path picture.items) }
 {
-    let marks = Marks::of(alloc, system, path)?;
-    system_marked(alloc, diagram, system, known, decisions, &marks)
+    let known = order.games().known();
+    let decisions = order.decisions();
+    system_shown(alloc, order.diagram(), system, known, decisions, path)
 }
 
-/// Returns the picture of the system that a text spells, with the marks of a trace, on the page that was seen.
-pub fn system_traced(
+/// Returns the picture of the system that a text spells, on a page, of which this is an order. It has the marks of a
+/// trace if there is one. Errors: a fault of the system.
+pub fn system_on(
     alloc: Global,
-    diagram: &Diagram,
+    order: &Order,
     system_text: &[u8],
-    seen: &Seen,
-    path: Path,
+    path: Option<Path>,
 ) -> Result<Vec<u8>, Fault>
-    requires known { length seen.now.known ≡ feature_count diagram.now.lines }
-    requires decisions { All (λ d. d.feature < feature_count diagram.now.lines) seen.now.decisions.items }
-    ensures { IfOk result (λ picture. IsSystemTraced diagram.now system_text.now seen.now.known
-        (map literal_of seen.now.decisions.items) path picture.items) }
+    ensures drawn { IfOk result (λ picture. IsSystemOn order.now.diagram (map literal_of order.now.decisions)
+        system_text.now path picture.items) }
+    ensures refused { IfErr result (IsSystemFault order.now.diagram.names system_text.now) }
 {
-    let system = match read_system(alloc, system_text, diagram) {
+    let system = match read_system(alloc, system_text, order.diagram()) {
         Ok(system) => system,
         Err(fault) => return Err(fault),
     };
-    match traced_under(alloc, diagram, &system, &seen.known, &seen.decisions, path) {
+    match system_under(alloc, order, &system, path) {
         Ok(picture) => Ok(picture),
         Err(_) => Err(Fault::Memory),
     }

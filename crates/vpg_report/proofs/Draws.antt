@@ -1,97 +1,116 @@
 -- Pages that scripts leave, drawn.
-use Rattle.std.proofs.Common.{◌≡◌, ℕ, ◌<◌, List, [], All, map, take, Option, Some, Ok, sym, subst}
+use Rattle.std.proofs.Common.{◌≡◌, inr, ℕ, ◌<◌, List, length, map, Option, Some, None, Result, Ok, sym, ap, subst, ◌∙◌}
+use Rattle.std.specs.Prelude.{IfOk}
+use Rattle.std.proofs.lemmas.Result.{IfOk-weaker}
 use Rattle.vpg_diagram.specs.DiagramText.{NamedDiagram}
-use Rattle.vpg_game.specs.Game.{NamedGame}
-use Rattle.vpg_serving.specs.declared.serving.Ending.{Ending}
-use Rattle.vpg_family.specs.Pages.{IsRedrawn}
-use Rattle.vpg_family.specs.Systems.{IsSystemRedrawn}
-use Rattle.vpg_family.specs.declared.drawing.Subject.{Subject}
-use Rattle.vpg_report.specs.Runs.{IsRun}
-use Rattle.vpg_family.specs.declared.known.Context.{Context}
-use Rattle.vpg_guards.specs.declared.tri.Tri.{Tri}
-use Rattle.vpg_partial.specs.Known.{literal_of}
-use Rattle.vpg_partial.specs.declared.decision.Decision.{Decision}
-use Rattle.vpg_checking.specs.Behaviours.{Behaviour}
-use Rattle.vpg_verdict.specs.declared.verdict.Verdict.{Verdict}
+use Rattle.vpg_game.specs.Game.{NamedGame, graph_of}
 use Rattle.vpg_diagram.specs.FeatureDiagram.{feature_count}
-use Rattle.vpg_partial.specs.TableLaws.{AreChoicesOf}
-use Rattle.vpg_family.proofs.Choices.{choices_below}
-use Rattle.vpg_family.specs.Pages.{IsSight}
-use Rattle.vpg_family.specs.Systems.{IsSystemTraced}
+use Rattle.vpg_measure.specs.Orders.{OrderView, IsOrder}
+use Rattle.vpg_texts.specs.Changed.{verdicts_by}
+use Rattle.vpg_trail.specs.Page.{Decision, literal_of}
+use Rattle.vpg_verdict.specs.declared.verdict.Verdict.{Verdict}
+use Rattle.vpg_serving.specs.declared.serving.Ending.{Ending}
+use Rattle.vpg_family.specs.Pages.{IsPageDrawn}
+use Rattle.vpg_family.specs.Systems.{IsSystemFault, IsSystemOn}
+use Rattle.vpg_family.specs.declared.drawing.Subject.{Subject}
+use Rattle.vpg_family.specs.declared.known.Context.{Context}
+use Rattle.vpg_family.specs.declared.fault.Fault.{Fault}
+use Rattle.vpg_script.specs.Calling.{meant}
+use Rattle.vpg_script.specs.Script.{Request, said}
+use Rattle.vpg_script.specs.View.{command_shown, inquiry_shown}
+use Rattle.vpg_script.specs.declared.command.Command.{Command}
+use Rattle.vpg_script.specs.declared.command.Command.TheVariants as asking
+use Rattle.vpg_script.specs.declared.command.Inquiry.{Inquiry}
+use Rattle.vpg_script.specs.declared.command.VertexQuestion.{VertexQuestion}
+use Rattle.vpg_script.specs.declared.command.VertexQuestion.TheVariants as questions
+use Rattle.vpg_checking.specs.Behaviours.{Behaviour}
+use Rattle.vpg_trace.specs.Answering.{Page, page_of}
 use Rattle.vpg_system_draw.specs.Traced.{Trail}
-use Rattle.vpg_steps.specs.Steps.{IsRetold, page_with}
-use Rattle.vpg_report.specs.Draws.{drawing_script, tracing_script, plain, AreWritten, IsDrawnAfter, IsSystemDrawnAfter, IsTraced, IsTracedIn, IsTracedAfter}
+use Rattle.vpg_steps.specs.Steps.{FindsPath}
+use Rattle.vpg_texts.specs.Scene.{Scene, scene_of}
+use Rattle.vpg_answers.specs.Answers.{IsOver, IsWithin}
+use Rattle.vpg_answers.specs.declared.query.Query.{Query}
+use Rattle.vpg_answers.specs.declared.query.Query.TheVariants as queries
+use Rattle.vpg_report.specs.Answers.{answer_limits}
+use Rattle.vpg_report.specs.Requests.{query_of}
+use Rattle.vpg_report.specs.Draws.{tracing_line, AsksTrace, FindsTrail, IsDrawnAfter, IsDrawnOn, IsSystemDrawnAfter, IsSystemUndrawnAfter, IsTracedAfter, IsTracedOn, LineAsksTrace, RequestAsksTrace}
+use Rattle.vpg_report.specs.Left.{IsLeft}
+use Rattle.vpg_report.specs.Run.{Called, called_in}
 
--- devices that hold the script and nothing before the run, and what was written after it
-pub is_written : (diagram : NamedDiagram) (game : NamedGame) (context : Context) (script written : List ℕ) (ending : Ending) (input rest before after : Option (List ℕ))
-    → IsRun plain diagram game context 1 input rest before after (Ok ending)
-    → input ≡ Some (drawing_script script) → before ≡ Some [] → Some written ≡ after → AreWritten diagram game context script ending written
-is_written diagram game context script written ending input rest before after run of_script empty is = (
-  rest,
-  subst (λ (i : Option (List ℕ)). IsRun plain diagram game context 1 i rest (Some []) (Some written) (Ok ending)) of_script
-      (subst (λ (b : Option (List ℕ)). IsRun plain diagram game context 1 input rest b (Some written) (Ok ending)) empty
-      (subst (λ (a : Option (List ℕ)). IsRun plain diagram game context 1 input rest before a (Ok ending)) (sym is) run)),
-)
+module _ (diagram : NamedDiagram) (game : NamedGame) (context : Context) (script : List ℕ) (ending : Ending) (order : OrderView) (is : IsLeft diagram game context script ending (Some order)) where
+  pub drawn : (subject : Subject) (diagram_text game_text picture : List ℕ) → IsDrawnOn subject order.diagram order.game order.decisions order.hopeful order.dual diagram_text game_text picture →
+      IsDrawnAfter subject diagram game context diagram_text game_text script ending picture
+  drawn subject diagram_text game_text picture on =
+      let of = is.2 in
+      (is.0, is.1, coe 0 1 (i. IsDrawnOn subject (of.diagram_is i) (of.game_is i) (of.decisions_are i) (of.hopeful_is i) (of.dual_is i) diagram_text game_text picture) on)
 
-pub drawn : (subject : Subject) (diagram seen : NamedDiagram) (game sighted : NamedGame) (context : Context) (diagram_text game_text script written text picture : List ℕ) (ending : Ending)
-    → AreWritten diagram game context script ending written → IsRedrawn subject seen sighted diagram_text game_text text picture
-    → seen ≡ diagram → sighted ≡ game → text ≡ written → IsDrawnAfter subject diagram game context diagram_text game_text script ending picture
-drawn subject diagram seen game sighted context diagram_text game_text script written text picture ending ran of_page d g w = (
-  written,
-  ran,
-  subst (λ (x : NamedDiagram). IsRedrawn subject x game diagram_text game_text written picture) d
-      (subst (λ (x : NamedGame). IsRedrawn subject seen x diagram_text game_text written picture) g
-      (subst (λ (x : List ℕ). IsRedrawn subject seen sighted diagram_text game_text x picture) w of_page)),
-)
+  pub system_drawn : (system_text picture : List ℕ) → IsSystemOn order.diagram (map literal_of order.decisions) system_text None picture → IsSystemDrawnAfter diagram game context system_text script ending picture
+  system_drawn system_text picture on =
+      let of = is.2 in
+      (is.0, is.1, coe 0 1 (i. IsSystemOn (of.diagram_is i) (map literal_of (of.decisions_are i)) system_text None picture) on)
 
-pub system_drawn : (diagram seen : NamedDiagram) (game sighted : NamedGame) (context : Context) (system_text script written text picture : List ℕ) (ending : Ending)
-    → AreWritten diagram game context script ending written → IsSystemRedrawn seen sighted system_text text picture
-    → seen ≡ diagram → sighted ≡ game → text ≡ written → IsSystemDrawnAfter diagram game context system_text script ending picture
-system_drawn diagram seen game sighted context system_text script written text picture ending ran of_page d g w = (
-  written,
-  ran,
-  subst (λ (x : NamedDiagram). IsSystemRedrawn x game system_text written picture) d
-      (subst (λ (x : NamedGame). IsSystemRedrawn seen x system_text written picture) g
-      (subst (λ (x : List ℕ). IsSystemRedrawn seen sighted system_text x picture) w of_page)),
+  pub undrawn : (system_text : List ℕ) (fault : Fault) → IsSystemFault order.diagram.names system_text fault → IsSystemUndrawnAfter diagram game context system_text script fault
+  undrawn system_text fault on = inr (subst (λ (d : NamedDiagram). IsSystemFault d.names system_text fault) is.2.diagram_is on)
+
+  pub traced_after : (system_text word line picture : List ℕ) → IsTracedOn (called_in order.game order.diagram context) order.diagram order.decisions order.hopeful order.dual system_text line picture → line ≡ tracing_line word →
+      IsTracedAfter diagram game context system_text script word ending picture
+  traced_after system_text word line picture on same =
+      let of = is.2 in
+      (is.0, is.1, coe 0 1 (i. IsTracedOn (called_in (of.game_is i) (of.diagram_is i) context) (of.diagram_is i) (of.decisions_are i) (of.hopeful_is i) (of.dual_is i) system_text (same i) picture) on)
+
+-- a page that is drawn with its verdicts
+pub pictured : (subject : Subject) (diagram : NamedDiagram) (game : NamedGame) (decisions : List Decision) (hopeful dual : List ℕ) (verdicts : List Verdict) (diagram_text game_text picture : List ℕ) →
+    IsPageDrawn subject diagram game (map literal_of decisions) verdicts diagram_text game_text picture → verdicts ≡ verdicts_by (graph_of game) hopeful dual →
+    IsDrawnOn subject diagram game decisions hopeful dual diagram_text game_text picture
+pictured subject diagram game decisions hopeful dual verdicts diagram_text game_text picture is same =
+    subst (λ (v : List Verdict). IsPageDrawn subject diagram game (map literal_of decisions) v diagram_text game_text picture) same is
+
+-- ---- lines that ask for a trace
+
+-- a request asks as it is meant, also where the game and the diagram are copies
+pub request_asks : (context : Context) (game other : NamedGame) (diagram seen : NamedDiagram) (names : List (List ℕ)) (request said : Request) (vertex : ℕ) → other ≡ game → seen ≡ diagram → names ≡ diagram.names →
+    said ≡ meant context.callings names request → AsksTrace context.behaviour (scene_of other seen) said.command vertex → RequestAsksTrace (called_in game diagram context) request vertex
+request_asks context game other diagram seen names request said vertex g d n s is =
+    let same : said ≡ meant context.callings diagram.names request = s ∙ ap (λ (fs : List (List ℕ)). meant context.callings fs request) n in
+    coe 0 1 (k. AsksTrace context.behaviour (scene_of (g k) (d k)) (same k).command vertex) is
+
+-- and a line by its request
+pub line_asks : {E : Type 0} (called : Called) (line : List ℕ) (request : Request) (found : Result ℕ E) → said line ≡ Ok (Some request) → IfOk found (RequestAsksTrace called request) → IfOk found (LineAsksTrace called line)
+line_asks called line request found says asks = IfOk-weaker found (RequestAsksTrace called request) (LineAsksTrace called line) (λ vertex is. (request, (says, is))) asks
+
+-- a command that asks for a trace, as a query
+pub trace_asked : (behaviour : Option Behaviour) (scene : Scene) (command : Command) (inquiry : Inquiry) (query : Query) (question : VertexQuestion) (vertex : ℕ) → command ≡ asking.Ask inquiry → query_of behaviour scene (inquiry_shown inquiry) ≡ Ok query →
+    query ≡ queries.OfVertex question vertex → question ≡ questions.Trace → AsksTrace behaviour scene (command_shown command) vertex
+trace_asked behaviour scene command inquiry query question vertex of said is what =
+    subst (λ (c : Command). AsksTrace behaviour scene (command_shown c) vertex) (sym of)
+    (subst (λ (q : Query). query_of behaviour scene (inquiry_shown inquiry) ≡ Ok q) (is ∙ ap (λ (q : VertexQuestion). queries.OfVertex q vertex) what) said)
+
+pub trace_within : (behaviour : Option Behaviour) (vertices features : ℕ) (query : Query) (question : VertexQuestion) (vertex : ℕ) → query ≡ queries.OfVertex question vertex → question ≡ questions.Trace →
+    IsWithin behaviour vertices features query → (vertex < vertices) × IsOver features behaviour
+trace_within behaviour vertices features query question vertex is what within =
+    subst (λ (q : Query). IsWithin behaviour vertices features q) (is ∙ ap (λ (q : VertexQuestion). queries.OfVertex q vertex) what) within
+
+-- of copies of an order's game and diagram
+pub within_copies : (order : OrderView) (game : NamedGame) (diagram : NamedDiagram) (behaviour : Option Behaviour) (vertex : ℕ) → IsOrder order → game ≡ order.game → diagram ≡ order.diagram →
+    (vertex < length game.vertices) × IsOver (length diagram.names) behaviour → (vertex < length order.game.vertices) × IsOver (feature_count order.diagram.lines) behaviour
+within_copies order game diagram behaviour vertex is g d within = (
+  subst (λ (x : NamedGame). vertex < length x.vertices) g within.0,
+  subst (λ (n : ℕ). IsOver n behaviour) is.diagram.each_named (subst (λ (x : NamedDiagram). IsOver (length x.names) behaviour) d within.1),
 )
 
 -- ---- traces
 
-pub choices_of : (diagram again : NamedDiagram) (decisions copied : List Decision) → All (λ d. d.feature < feature_count diagram.lines) decisions → again ≡ diagram → copied ≡ decisions
-    → AreChoicesOf again.lines (map literal_of copied)
-choices_of diagram again decisions copied below same all =
-    subst (λ (x : NamedDiagram). AreChoicesOf x.lines (map literal_of copied)) (sym same)
-    (subst (λ (ds : List Decision). AreChoicesOf diagram.lines (map literal_of ds)) (sym all) (choices_below diagram.lines decisions below))
+-- a system over the diagram's features is one over the game's
+pub system_over : (order : OrderView) (behaviour : Option Behaviour) (made : Behaviour) → IsOrder order → behaviour ≡ Some made → IsOver (feature_count order.diagram.lines) behaviour → made.features ≡ order.game.features
+system_over order behaviour made is some over = subst (λ (b : Option Behaviour). IsOver (feature_count order.diagram.lines) b) some over ∙ sym is.features
 
-pub retold_of : (game other : NamedGame) (diagram again : NamedDiagram) (decisions copied : List Decision) (behaviour : Behaviour) (told : List ℕ) (trail : Trail)
-    → IsRetold (page_with other again copied) behaviour told trail → other ≡ game → again ≡ diagram → copied ≡ decisions → IsRetold (page_with game diagram decisions) behaviour told trail
-retold_of game other diagram again decisions copied behaviour told trail is g d ds =
-    subst (λ (x : NamedGame). IsRetold (page_with x diagram decisions) behaviour told trail) g
-    (subst (λ (x : NamedDiagram). IsRetold (page_with other x decisions) behaviour told trail) d
-    (subst (λ (x : List Decision). IsRetold (page_with other again x) behaviour told trail) ds is))
+pub trail_found : (behaviour : Option Behaviour) (made : Behaviour) (page : Page) (vertex : ℕ) (found : Option Trail) (trail : Trail) → behaviour ≡ Some made → found ≡ Some trail → FindsPath page made answer_limits vertex found →
+    FindsTrail behaviour page vertex trail
+trail_found behaviour made page vertex found trail some is finds =
+    subst (λ (b : Option Behaviour). FindsTrail b page vertex trail) (sym some) (subst (λ (f : Option Trail). FindsPath page made answer_limits vertex f) is finds)
 
-pub traced : (diagram seen drawn : NamedDiagram) (game sighted : NamedGame) (behaviour : Behaviour) (system_text written told picture : List ℕ) (begins : ℕ) (known : List Tri) (decisions shown : List Decision) (verdicts : List Verdict) (trail : Trail)
-    → IsSight seen sighted written begins known decisions verdicts → IsRetold (page_with game diagram shown) behaviour told trail → IsSystemTraced drawn system_text known (map literal_of decisions) trail picture
-    → seen ≡ diagram → sighted ≡ game → drawn ≡ diagram → shown ≡ decisions → told ≡ take begins written → IsTraced diagram game behaviour system_text written picture
-traced diagram seen drawn game sighted behaviour system_text written told picture begins known decisions shown verdicts trail sight retold is d g same ds before =
-    let own = subst (λ (x : NamedDiagram). IsSight x game written begins known decisions verdicts) d (subst (λ (x : NamedGame). IsSight seen x written begins known decisions verdicts) g sight) in
-    record {
-      decisions = decisions;
-      known = known;
-      verdicts = verdicts;
-      known_is = own.known_is;
-      told = take begins written;
-      written_is = own.written_is;
-      trail = trail;
-      retold = subst (λ (t : List ℕ). IsRetold (page_with game diagram decisions) behaviour t trail) before (subst (λ (x : List Decision). IsRetold (page_with game diagram x) behaviour told trail) ds retold);
-      drawn = subst (λ (x : NamedDiagram). IsSystemTraced x system_text known (map literal_of decisions) trail picture) same is;
-    }
-
-pub traced_after : (diagram : NamedDiagram) (game : NamedGame) (context : Context) (behaviour : Behaviour) (system_text script word lines given written text picture : List ℕ) (ending : Ending)
-    → AreWritten diagram game context given ending written → IsTraced diagram game behaviour system_text text picture → given ≡ lines → lines ≡ tracing_script script word → text ≡ written
-    → context.behaviour ≡ Some behaviour → IsTracedAfter diagram game context system_text script word ending picture
-traced_after diagram game context behaviour system_text script word lines given written text picture ending ran of_page same are w made = (
-  written,
-  subst (λ (s : List ℕ). AreWritten diagram game context s ending written) are (subst (λ (s : List ℕ). AreWritten diagram game context s ending written) same ran),
-  subst (λ (b : Option Behaviour). IsTracedIn diagram game b system_text written picture) (sym made) (subst (λ (x : List ℕ). IsTraced diagram game behaviour system_text x picture) w of_page),
-)
+-- the page of an order with the marks of a path
+pub traced : (order : OrderView) (context : Context) (system_text line picture : List ℕ) (vertex : ℕ) (trail : Trail) → LineAsksTrace (called_in order.game order.diagram context) line vertex →
+    FindsTrail context.behaviour (page_of order) vertex trail → IsSystemOn order.diagram (map literal_of order.decisions) system_text (Some trail) picture →
+    IsTracedOn (called_in order.game order.diagram context) order.diagram order.decisions order.hopeful order.dual system_text line picture
+traced order context system_text line picture vertex trail asks finds on = record { vertex = vertex; asked = asks; trail = trail; found = finds; drawn = on }

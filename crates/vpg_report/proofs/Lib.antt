@@ -24,6 +24,7 @@ pub mod LeastHarvests
 pub mod OneText
 pub mod OneRun
 pub mod Results
+pub mod Left
 pub mod Draws
 pub mod Exports
 pub mod RunEnds

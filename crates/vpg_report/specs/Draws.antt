@@ -1,84 +1,101 @@
--- The picture of a family on the page that a script leaves.
-use Rattle.std.specs.Prelude.{◌≡◌, ℕ, false, List, [], ◌++◌, map, Option, Some, None, Ok, codes}
-use Rattle.vpg_guards.specs.declared.tri.Tri.{Tri}
+-- The pictures of a family on the page that a script leaves. This project's own.
+use Rattle.std.specs.Prelude.{◌≡◌, ◌⊎◌, ℕ, List, ◌++◌, map, Option, Some, None, Ok, codes}
 use Rattle.vpg_diagram.specs.DiagramText.{NamedDiagram}
-use Rattle.vpg_game.specs.Game.{NamedGame}
-use Rattle.vpg_partial.specs.Known.{literal_of}
-use Rattle.vpg_partial.specs.TableLaws.{IsKnownTable}
-use Rattle.vpg_partial.specs.declared.decision.Decision.{Decision}
+use Rattle.vpg_game.specs.Game.{NamedGame, graph_of}
+use Rattle.vpg_trail.specs.Page.{Hopeful, Dual, Decision, literal_of, decisions_of}
 use Rattle.vpg_checking.specs.Behaviours.{Behaviour}
-use Rattle.vpg_verdict.specs.declared.verdict.Verdict.{Verdict}
+use Rattle.vpg_trace.specs.Answering.{Page}
 use Rattle.vpg_system_draw.specs.Traced.{Trail}
-use Rattle.vpg_steps.specs.Steps.{IsRetold, page_with}
-use Rattle.vpg_serving.specs.declared.framing.Form.TheVariants.{Plain}
-use Rattle.vpg_serving.specs.declared.serving.Manner.{Manner}
+use Rattle.vpg_steps.specs.Steps.{FindsPath}
+use Rattle.vpg_script.specs.Calling.{meant}
+use Rattle.vpg_script.specs.Script as commands
+use Rattle.vpg_script.specs.Script.{Request, said}
+use Rattle.vpg_script.specs.declared.command.VertexQuestion.TheVariants as questions
 use Rattle.vpg_serving.specs.declared.serving.Ending.{Ending}
-use Rattle.vpg_family.specs.Pages.{IsRedrawn, sight_drawing, sight_of}
-use Rattle.vpg_family.specs.Systems.{IsSystemRedrawn, IsSystemTraced}
+use Rattle.vpg_family.specs.Pages.{IsPageDrawn}
+use Rattle.vpg_family.specs.Systems.{IsSystemFault, IsSystemOn}
 use Rattle.vpg_family.specs.declared.drawing.Subject.{Subject}
-use Rattle.vpg_report.specs.Runs.{IsRun}
+use Rattle.vpg_family.specs.declared.fault.Fault.{Fault}
 use Rattle.vpg_family.specs.declared.known.Context.{Context}
+use Rattle.vpg_texts.specs.Changed.{verdicts_by}
+use Rattle.vpg_texts.specs.Scene.{Scene}
+use Rattle.vpg_answers.specs.Answers.{page_in}
+use Rattle.vpg_answers.specs.declared.query.Query.TheVariants as queries
+use Rattle.vpg_report.specs.Answers.{answer_limits}
+use Rattle.vpg_report.specs.Left.{LeavesBook, IsUnleft, table_left}
+use Rattle.vpg_report.specs.Line.{Between}
+use Rattle.vpg_report.specs.Requests.{query_of}
+use Rattle.vpg_report.specs.Run.{Called, called_in}
 
--- a script with a line `draw` at its end
-abbrev pub drawing_script : List ℕ → List ℕ
-drawing_script script = script ++ codes "\ndraw\n"
+-- the page with these decisions is drawn, with the verdicts by these tables
+abbrev pub IsDrawnOn : Subject → NamedDiagram → NamedGame → List Decision → (hopeful dual : List ℕ) →
+    (diagram_text game_text picture : List ℕ) → Type 0
+IsDrawnOn subject diagram game decisions hopeful dual diagram_text game_text picture =
+    IsPageDrawn subject diagram game (map literal_of decisions) (verdicts_by (graph_of game) hopeful dual) diagram_text
+    game_text picture
 
--- each line is answered with its text, and a fault ends the script
-abbrev pub plain : Manner
-plain = record { is_strict = false; goes_on = false; form = Plain }
-
--- an office on the family, in this context, writes this for the script's lines and a last line `draw`, by one lifter
-abbrev pub AreWritten : NamedDiagram → NamedGame → Context → (script : List ℕ) → Ending → (written : List ℕ) →
-    Type 0
-AreWritten diagram game context script ending written =
-    (rest : Option (List ℕ)) ×
-    IsRun plain diagram game context 1 (Some (drawing_script script)) rest (Some []) (Some written) (Ok ending)
-
--- The written text ends in the picture of the game on a page, and this page is drawn.
+-- The page that the script leaves is drawn.
 abbrev pub IsDrawnAfter : Subject → NamedDiagram → NamedGame → Context →
     (diagram_text game_text script : List ℕ) → Ending → (picture : List ℕ) → Type 0
 IsDrawnAfter subject diagram game context diagram_text game_text script ending picture =
-    (written : List ℕ) × AreWritten diagram game context script ending written ×
-    IsRedrawn subject diagram game diagram_text game_text written picture
+    (left : Between) × LeavesBook diagram game context script ending left ×
+    IsDrawnOn subject diagram game (decisions_of left.book.present) (table_left game left Hopeful)
+    (table_left game left Dual) diagram_text game_text picture
 
--- The written text ends in the picture of the game on a page, and on this page the system that a text spells is drawn.
+-- On the page that the script leaves the system that a text spells is drawn.
 abbrev pub IsSystemDrawnAfter : NamedDiagram → NamedGame → Context → (system_text script : List ℕ) → Ending →
     (picture : List ℕ) → Type 0
 IsSystemDrawnAfter diagram game context system_text script ending picture =
-    (written : List ℕ) × AreWritten diagram game context script ending written ×
-    IsSystemRedrawn diagram game system_text written picture
+    (left : Between) × LeavesBook diagram game context script ending left ×
+    IsSystemOn diagram (map literal_of (decisions_of left.book.present)) system_text None picture
+
+-- Why no system is drawn: there is no page, or the text is no system.
+abbrev pub IsSystemUndrawnAfter : NamedDiagram → NamedGame → Context → (system_text script : List ℕ) → Fault → Type 0
+IsSystemUndrawnAfter diagram game context system_text script fault =
+    IsUnleft diagram game context script fault ⊎ IsSystemFault diagram.names system_text fault
 
 -- ---- traces
 
--- a script with a line `trace` at its end, for the vertex that this word names
-abbrev pub tracing_script : (script word : List ℕ) → List ℕ
-tracing_script script word = script ++ codes "\ntrace " ++ word
+-- the line `trace` for the vertex that this word names
+abbrev pub tracing_line : (word : List ℕ) → List ℕ
+tracing_line word = codes "trace " ++ word
 
--- The written text ends in a trace on a page, and then the picture of the game on it. The trace is the walk along moves
--- that win in each product left, in the game that was made of this. On this page the system that a text spells is
--- drawn, with the marks of the walk.
-pub record IsTraced (diagram : NamedDiagram) (game : NamedGame) (behaviour : Behaviour)
-    (system_text written picture : List ℕ) : Type 0 where
-  pub decisions : List Decision
-  pub known : List Tri
-  pub verdicts : List Verdict
-  pub known_is : IsKnownTable diagram.lines (map literal_of decisions) known
-  pub told : List ℕ
-  pub written_is : written ≡ told ++ sight_drawing diagram game (sight_of known (map literal_of decisions) verdicts) []
+-- the command asks for the trace of the vertex at this place
+abbrev pub AsksTrace : Option Behaviour → Scene → commands.Command → ℕ → Type 0
+AsksTrace behaviour scene (commands.Ask inquiry) vertex =
+    query_of behaviour scene inquiry ≡ Ok (queries.OfVertex questions.Trace vertex)
+AsksTrace behaviour scene command vertex = ⊥
+
+-- so does the request, as it is meant
+abbrev pub RequestAsksTrace : Called → Request → ℕ → Type 0
+RequestAsksTrace called request vertex =
+    AsksTrace called.behaviour called.scene (meant called.callings called.scene.names request).command vertex
+
+-- and so does the line
+abbrev pub LineAsksTrace : Called → (line : List ℕ) → ℕ → Type 0
+LineAsksTrace called line vertex =
+    (request : Request) × ((said line ≡ Ok (Some request)) × RequestAsksTrace called request vertex)
+
+-- the path of the trace of a page's verdict at the vertex, if the game was made of a system
+abbrev pub FindsTrail : Option Behaviour → Page → ℕ → Trail → Type 0
+FindsTrail None page vertex trail = ⊥
+FindsTrail (Some behaviour) page vertex trail = FindsPath page behaviour answer_limits vertex (Some trail)
+
+-- The line asks for the trace of a vertex. On the page with these decisions and tables the system that a text spells is
+-- drawn, with the marks of the path of this trace.
+pub record IsTracedOn (called : Called) (diagram : NamedDiagram) (decisions : List Decision) (hopeful dual : List ℕ)
+    (system_text line picture : List ℕ) : Type 0 where
+  pub vertex : ℕ
+  pub asked : LineAsksTrace called line vertex
   pub trail : Trail
-  pub retold : IsRetold (page_with game diagram decisions) behaviour told trail
-  pub drawn : IsSystemTraced diagram system_text known (map literal_of decisions) trail picture
+  pub found : FindsTrail called.behaviour (page_in called.scene decisions hopeful dual) vertex trail
+  pub drawn : IsSystemOn diagram (map literal_of decisions) system_text (Some trail) picture
 
--- As `IsTraced`, if the game was made of a system.
-abbrev pub IsTracedIn : NamedDiagram → NamedGame → Option Behaviour → (system_text written picture : List ℕ) → Type 0
-IsTracedIn diagram game None system_text written picture = ⊥
-IsTracedIn diagram game (Some behaviour) system_text written picture =
-    IsTraced diagram game behaviour system_text written picture
-
--- The text that is written for the script, a line `trace` and a line `draw` ends in both answers, and the system is
--- drawn on their page, with the marks of the trace.
+-- On the page that the script leaves the system that a text spells is drawn, with the marks of the trace for which a
+-- line `trace` asks there.
 abbrev pub IsTracedAfter : NamedDiagram → NamedGame → Context → (system_text script word : List ℕ) → Ending →
     (picture : List ℕ) → Type 0
 IsTracedAfter diagram game context system_text script word ending picture =
-    (written : List ℕ) × AreWritten diagram game context (tracing_script script word) ending written ×
-    IsTracedIn diagram game context.behaviour system_text written picture
+    (left : Between) × LeavesBook diagram game context script ending left ×
+    IsTracedOn (called_in game diagram context) diagram (decisions_of left.book.present)
+    (table_left game left Hopeful) (table_left game left Dual) system_text (tracing_line word) picture

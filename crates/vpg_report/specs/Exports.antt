@@ -6,7 +6,7 @@ use Rattle.vpg_diagram.specs.DiagramText.{NamedDiagram}
 use Rattle.vpg_game.specs.Game.{NamedGame}
 use Rattle.vpg_serving.specs.declared.serving.Ending.{Ending}
 use Rattle.vpg_family.specs.declared.known.Context.{Context}
-use Rattle.vpg_report.specs.Draws.{plain}
+use Rattle.vpg_report.specs.Left.{plain}
 use Rattle.vpg_report.specs.Runs.{IsRun}
 
 -- a script with the lines at its end whose answers tell of a configuration in this form

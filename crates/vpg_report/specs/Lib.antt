@@ -14,6 +14,7 @@ pub mod Output
 pub mod Results
 pub mod Run
 pub mod Settling
+pub mod Left
 pub mod Draws
 pub mod Exports
 pub mod Ends

@@ -218,6 +218,7 @@ impl<L: Terms> Client<L> {
             (λ order. IsLogged L.limit self.old label book.Order
             (book.Ordered order.decisions order.hopeful order.dual) self.new) }
         ensures ours { IfOk result (λ order. IsOrderOf self.old.desk order) }
+        ensures of { IfOk result (λ order. (order.game ≡ L.game) × (order.diagram ≡ L.diagram)) }
         ensures order { IfOk result IsOrder }
         ensures fault { IfErr result (Tells L.limit never_refused self.old label book.Order self.new) }
     {

@@ -533,6 +533,7 @@ impl<L: Terms> Engine<L> {
             (λ order. IsLogged L.limit self.old.client session book.Order
             (book.Ordered order.decisions order.hopeful order.dual) self.new.client) }
         ensures ours { IfOk result (λ order. IsOrderOf self.old.client.desk order) }
+        ensures of { IfOk result (λ order. (order.game ≡ L.game) × (order.diagram ≡ L.diagram)) }
         ensures order { IfOk result IsOrder }
         ensures fault { IfErr result
             (Tells L.limit never_refused self.old.client session book.Order self.new.client) }

@@ -31,8 +31,9 @@
 //! `specs/Answers` and `specs/Line`. `specs/Made` defines how harvests were made, and `specs/Engine` how an engine
 //! serves a line. Over these stand `specs/Requests`, `specs/Server` and `specs/Run`, with questions about the page;
 //! `specs/Output` defines a run's result. `specs/Runs` defines the text that a run on a family reads and writes, and
-//! how its end is reported. `specs/Winners` defines who wins by the text, `specs/Draws` which page is drawn,
-//! `specs/Exports` which page is exported, and `specs/Ends` the program's exit status. All are this project's own.
+//! how its end is reported. `specs/Winners` defines who wins by the text, `specs/Left` which page a script leaves, and
+//! `specs/Draws` how it is drawn. `specs/Exports` defines which page is exported, and `specs/Ends` the program's exit
+//! status. All are this project's own.
 #![tactic(auto)]
 
 mod answering;
@@ -48,6 +49,7 @@ mod exporting;
 mod fault;
 mod held;
 pub mod laws;
+mod leaving;
 mod lines;
 mod running;
 mod runs;

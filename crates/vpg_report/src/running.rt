@@ -15,7 +15,7 @@ use vpg_script::{Sink, Source};
 use vpg_serving::{Ending, Manner, RunFault};
 
 /// Returns the fault that reports a refused opening. A conflict names the root.
-fn not_opened(alloc: Global, diagram: &Diagram, fault: OpenFault) -> Fault
+pub(crate) fn not_opened(alloc: Global, diagram: &Diagram, fault: OpenFault) -> Fault
     requires root { (f : ℕ) → fault ≡ OpenFault.Conflict f → f ≡ 0 }
     ensures { TellsOpening diagram.now.names fault result }
 {

@@ -162,7 +162,7 @@ pub fn run_called<T: Threads + Wait + Sync, R: Source, W: Sink>(
 }
 
 /// Ends an engine, and its office whatever calls its log has.
-fn end_engine<L: Terms, R: Wait>(rt: &R, engine: Engine<L>) {
+pub(crate) fn end_engine<L: Terms, R: Wait>(rt: &R, engine: Engine<L>) {
     if let Err(others) = engine.end(rt) {
         let _further = others.end(rt);
     }

@@ -16,7 +16,7 @@ use Rattle.vpg_serving.specs.Framing.{framed, frames, json_line}
 use Rattle.vpg_serving.specs.declared.framing.Form.{Form}
 use Rattle.vpg_serving.specs.declared.framing.Form.TheVariants as forms
 use Rattle.vpg_serving.specs.Output.{Machine, Speaks, Answered, ReadKnown, Wrote, NextKnown, FaultyKnown, ScriptOutcome, text_of}
-use Rattle.vpg_serving.specs.Manners.{fault_answer, Answers, AnsweredEach, WroteEach, Went, MannerOutcome}
+use Rattle.vpg_serving.specs.Manners.{fault_answer, Answers, AnsweredEach, WroteEach, Went, Leaves, MannerOutcome}
 use Rattle.vpg_serving.specs.Results.{ending_of, PutOutcome, FaultOutcome, LineOutcome, TooLongOutcome, TakenKnown, NextOutcome}
 use Rattle.vpg_script.specs.declared.command.LineFault.{LineFault}
 use Rattle.vpg_script.specs.declared.command.LineFault.TheVariants as faults
@@ -255,15 +255,14 @@ went_more manner serves old mid new input a b before w after lines answers numbe
     }
 
 -- the answer to the next line ends a strict script
-pub refused_there : {S : Type 0} (manner : Manner) (serves : Machine S) (old mid new : S) (input a b left before w after : Option (List ℕ)) (lines : List (List ℕ)) (answers : List Answer) (number : ℕ) (tone : Tone)
+pub refused_left : {S : Type 0} (manner : Manner) (serves : Machine S) (old mid new : S) (input a b left before w after : Option (List ℕ)) (lines : List (List ℕ)) (answers : List Answer) (number : ℕ) (tone : Tone)
     → Went manner serves old mid input a before w lines answers → number ≡ length lines + 1 → NextOutcome manner number serves mid new a b left w after (Ok (Some tone))
-    → (is_refused tone && manner.is_strict) ≡ true → MannerOutcome manner serves old input left before after (Ok (endings.Refused number))
-refused_there manner serves old mid new input a b left before w after lines answers number tone so counted (line, one, (taken, given, is, appends)) both =
+    → (is_refused tone && manner.is_strict) ≡ true → Leaves manner serves old new input before after (endings.Refused number)
+refused_left manner serves old mid new input a b left before w after lines answers number tone so counted (line, one, (taken, given, is, appends)) both =
     let so_both = both_true (is_refused tone) manner.is_strict both in (
       lines ++ line ∷ [],
       answers,
       one,
-      new,
       b,
       (
         wrote_each_more manner serves old mid new input a b before w after lines answers number line one so.wrote counted taken given appends,
@@ -273,6 +272,12 @@ refused_there manner serves old mid new input a b left before w after lines answ
         omega (arith, counted, length-append lines (line ∷ [])),
       ),
     )
+
+pub refused_there : {S : Type 0} (manner : Manner) (serves : Machine S) (old mid new : S) (input a b left before w after : Option (List ℕ)) (lines : List (List ℕ)) (answers : List Answer) (number : ℕ) (tone : Tone)
+    → Went manner serves old mid input a before w lines answers → number ≡ length lines + 1 → NextOutcome manner number serves mid new a b left w after (Ok (Some tone))
+    → (is_refused tone && manner.is_strict) ≡ true → MannerOutcome manner serves old input left before after (Ok (endings.Refused number))
+refused_there manner serves old mid new input a b left before w after lines answers number tone so counted next both =
+    (new, refused_left manner serves old mid new input a b left before w after lines answers number tone so counted next both)
 
 module _ {S : Type 0} (manner : Manner) (serves : Machine S) (old mid : S) (input a before w : Option (List ℕ)) (lines : List (List ℕ)) (answers : List Answer) (went : Went manner serves old mid input a before w lines answers) where
   after_that : (after : Option (List ℕ)) → after ≡ w → Went manner serves old mid input a before after lines answers
@@ -284,10 +289,20 @@ module _ {S : Type 0} (manner : Manner) (serves : Machine S) (old mid : S) (inpu
       record { wrote = record { read = read_kept input a b lines so.wrote.read kept; answered = so.wrote.answered; written = so.wrote.written }; unrefused = so.unrefused }
 
   -- the script is at its end
+  pub left_at_end : (new : S) (b left after : Option (List ℕ)) (number : ℕ) (failed : Bool) → failed ≡ list_any is_failure answers →
+      NextOutcome manner number serves mid new a b left w after (Ok None) → Leaves manner serves old new input before after (ending_of failed)
+  left_at_end new b left after number failed is so = go failed is
+    where
+      there : Went manner serves old new input a before after lines answers
+      there = subst (λ (s : S). Went manner serves old s input a before after lines answers) (sym so.1) (after_that after so.2)
+
+      go : (fails : Bool) → fails ≡ list_any is_failure answers → Leaves manner serves old new input before after (ending_of fails)
+      go true same = (lines, answers, a, (there, so.0, sym same))
+      go false same = (lines, answers, a, (there, so.0, sym same))
+
   pub at_end : (new : S) (b left after : Option (List ℕ)) (number : ℕ) (failed : Bool) → failed ≡ list_any is_failure answers →
       NextOutcome manner number serves mid new a b left w after (Ok None) → MannerOutcome manner serves old input left before after (Ok (ending_of failed))
-  at_end new b left after number true failed so = (lines, answers, mid, a, (after_that after so.2, so.0, sym failed))
-  at_end new b left after number false failed so = (lines, answers, mid, a, (after_that after so.2, so.0, sym failed))
+  at_end new b left after number failed is so = (new, left_at_end new b left after number failed is so)
 
   -- the script stops
   pub stopped : (new : S) (b left after : Option (List ℕ)) (number : ℕ) (stop : RunFault) → number ≡ length lines + 1 →
@@ -332,11 +347,11 @@ as_before (Err fault) = Err fault
 
 pub plain_outcome : {S : Type 0} (manner : Manner) (serves : Machine S) (old : S) (input left before after : Option (List ℕ)) (result : Result Ending RunFault) → manner.is_strict ≡ false → manner.goes_on ≡ false → manner.form ≡ forms.Plain
     → MannerOutcome manner serves old input left before after result → ScriptOutcome serves old input left before after (as_before result)
-plain_outcome manner serves old input left before after (Ok endings.Whole) lax off plain (lines, answers, new, rest, (went, empty, fine)) =
+plain_outcome manner serves old input left before after (Ok endings.Whole) lax off plain (new, (lines, answers, rest, (went, empty, fine))) =
     (lines, new, rest, (plainly manner serves old new input rest before after lines answers off plain went, empty))
-plain_outcome manner serves old input left before after (Ok endings.Failed) lax off plain (lines, answers, new, rest, (went, empty, fails)) =
+plain_outcome manner serves old input left before after (Ok endings.Failed) lax off plain (new, (lines, answers, rest, (went, empty, fails))) =
     (lines, new, rest, (plainly manner serves old new input rest before after lines answers off plain went, empty))
-plain_outcome manner serves old input left before after (Ok (endings.Refused n)) lax off plain (lines, answers, last, new, rest, (wrote, strict, none, refused, counted)) = absurd (cc (lax, strict))
+plain_outcome manner serves old input left before after (Ok (endings.Refused n)) lax off plain (new, (lines, answers, last, rest, (wrote, strict, none, refused, counted))) = absurd (cc (lax, strict))
 plain_outcome manner serves old input left before after (Err (stops.Line n fault)) lax off plain (lines, answers, new, rest, (went, faulty, ends_there, counted)) =
     (lines, new, rest, (plainly manner serves old new input rest before after lines answers off plain went, faulty, counted))
 plain_outcome manner serves old input left before after (Err stops.Read) lax off plain (lines, answers, new, held, (went, unended)) =

@@ -61,24 +61,31 @@ pub record Went {S : Type 0} (manner : Manner) (serves : Machine S) (old new : S
   pub wrote : WroteEach manner serves old new input rest before after lines answers
   pub unrefused : manner.is_strict ≡ true → list_any is_refusal answers ≡ false
 
--- the result of a script that is answered in a manner, with the texts read and written
-abbrev pub MannerOutcome : {S : Type 0} → Manner → Machine S → S → Option (List ℕ) → Option (List ℕ) →
-    Option (List ℕ) → Option (List ℕ) → Result Ending RunFault → Type 0
+-- A script with this ending leaves this state, with the text read, and the texts written before and after it.
+abbrev pub Leaves : {S : Type 0} → Manner → Machine S → (old new : S) → (input before after : Option (List ℕ)) →
+    Ending → Type 0
 -- all lines were answered, and no assertion failed
-MannerOutcome {S} manner serves old input left before after (Ok endings.Whole) =
-    (lines : List (List ℕ)) × (answers : List Answer) × (new : S) × (rest : Option (List ℕ)) ×
+Leaves manner serves old new input before after endings.Whole =
+    (lines : List (List ℕ)) × (answers : List Answer) × (rest : Option (List ℕ)) ×
     (Went manner serves old new input rest before after lines answers × IsEmptyKnown rest ×
     (list_any is_failure answers ≡ false))
 -- all lines were answered, and an assertion failed
-MannerOutcome {S} manner serves old input left before after (Ok endings.Failed) =
-    (lines : List (List ℕ)) × (answers : List Answer) × (new : S) × (rest : Option (List ℕ)) ×
+Leaves manner serves old new input before after endings.Failed =
+    (lines : List (List ℕ)) × (answers : List Answer) × (rest : Option (List ℕ)) ×
     (Went manner serves old new input rest before after lines answers × IsEmptyKnown rest ×
     (list_any is_failure answers ≡ true))
 -- the script is strict, and n lines were answered, the last of them with the first refusal
-MannerOutcome {S} manner serves old input left before after (Ok (endings.Refused n)) =
-    (lines : List (List ℕ)) × (answers : List Answer) × (last : Answer) × (new : S) × (rest : Option (List ℕ)) ×
+Leaves manner serves old new input before after (endings.Refused n) =
+    (lines : List (List ℕ)) × (answers : List Answer) × (last : Answer) × (rest : Option (List ℕ)) ×
     (WroteEach manner serves old new input rest before after lines (answers ++ last ∷ []) ×
     (manner.is_strict ≡ true) × (list_any is_refusal answers ≡ false) × (is_refusal last ≡ true) × (n ≡ length lines))
+
+-- the result of a script that is answered in a manner, with the texts read and written
+abbrev pub MannerOutcome : {S : Type 0} → Manner → Machine S → S → Option (List ℕ) → Option (List ℕ) →
+    Option (List ℕ) → Option (List ℕ) → Result Ending RunFault → Type 0
+-- it came to this ending, and left some state
+MannerOutcome {S} manner serves old input left before after (Ok ending) =
+    (new : S) × Leaves manner serves old new input before after ending
 -- the script ends at a fault: the lines before it were answered, and line n has the fault
 MannerOutcome {S} manner serves old input left before after (Err (stops.Line n fault)) =
     (lines : List (List ℕ)) × (answers : List Answer) × (new : S) × (rest : Option (List ℕ)) ×

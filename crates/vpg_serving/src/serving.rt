@@ -5,7 +5,7 @@ ghost use Rattle.vpg_script.specs.View.{request_shown};
 ghost use Rattle.vpg_serving.specs.Answer.{Gives, is_failed, is_refused};
 ghost use Rattle.vpg_serving.specs.Results.{UnlessReaderFails, UnlessWriterFails, ending_of};
 ghost use Rattle.vpg_serving.specs.Output.{Machine, ScriptOutcome};
-ghost use Rattle.vpg_serving.specs.Manners.{MannerOutcome};
+ghost use Rattle.vpg_serving.specs.Manners.{Leaves, MannerOutcome};
 
 use crate::answering::answer_next;
 use crate::fault::RunFault;
@@ -139,6 +139,9 @@ pub fn answer_script_as<T: Threads + Wait + Sync, V: Server, R: Source, W: Sink>
     // The answers to the lines that were read are written, and the result is their end.
     ensures output { MannerOutcome manner (V.answering (V.scene server.old) lifters) (V.state server.old)
         (R.remaining reader.old) (R.remaining reader.new) (W.contents writer.old) (W.contents writer.new) result }
+    // A script that came to an ending leaves the server in the state after its answers.
+    ensures left { IfOk result (Leaves manner (V.answering (V.scene server.old) lifters) (V.state server.old)
+        (V.state server.new) (R.remaining reader.old) (W.contents writer.old) (W.contents writer.new)) }
     // Read and Write are returned only if the device failed, or the reads were used up.
     ensures read { IsErrOf result RunFault.Read → (R.has_failed reader.new ≡ true) ⊎
         (R.calls reader.new ≡ 16777216) }

@@ -1,38 +1,29 @@
--- Paths of walks, and texts that end in them.
-use Rattle.std.proofs.Common.{◌≡◌, ℕ, Bool, List, [], ◌++◌, length, take, Option, refl, ap, subst, ◌∙◌}
-use Rattle.std.specs.Prelude.{Result, Ok, Err, IfOk, Some, None, IfSome}
+-- Paths of walks, and that of the trace of a verdict.
+use Rattle.std.proofs.Common.{◌≡◌, ℕ, Bool, List, Option, inl, inr, refl, ap, ◌∙◌}
+use Rattle.std.specs.Prelude.{Result, Ok, Err, IfOk, None}
 use Rattle.vpg_guards.specs.declared.tri.Tri.{Tri}
-use Rattle.vpg_diagram.specs.DiagramText.{NamedDiagram}
-use Rattle.vpg_game.specs.Game.{NamedGame, graph_of}
+use Rattle.vpg_game.specs.Game.{graph_of}
 use Rattle.vpg_hope.specs.Games.{Game}
 use Rattle.vpg_partial.specs.TableLaws.{IsKnownTable}
-use Rattle.vpg_partial.specs.declared.decision.Decision.{Decision}
 use Rattle.vpg_parts.specs.declared.part.Part.{Part}
 use Rattle.vpg_model.specs.Departures.{Departure}
 use Rattle.vpg_checking.specs.Behaviours.{Behaviour}
-use Rattle.vpg_measure.specs.Orders.{OrderView, other_table}
+use Rattle.vpg_measure.specs.Orders.{OrderView}
 use Rattle.vpg_verdict.specs.declared.which.Which.{Which}
+use Rattle.vpg_verdict.specs.declared.which.Which.TheVariants.{Hopeful, Dual}
 use Rattle.vpg_why.specs.Explained.{choices}
 use Rattle.vpg_why.specs.Moves.{AreWinning}
-use Rattle.vpg_trace.specs.Answering.{TellsWalk, family_on, head_line, identifier_of, page_of, walk_along, walk_text}
-use Rattle.vpg_trace.specs.Texts.{trace_text}
-use Rattle.vpg_trace.specs.Walks.{IsWalkFrom, Walked, is_left, walk_from}
+use Rattle.vpg_why.specs.declared.question.Limits.{Limits}
+use Rattle.vpg_trace.specs.Answering.{HasVerdict, page_of, walk_along, walk_text}
+use Rattle.vpg_trace.specs.Walks.{IsWalkFrom, walk_from}
 use Rattle.vpg_trace.specs.declared.walking.Visit.{Visit}
 use Rattle.vpg_system_draw.specs.Traced.{Trail}
 use Rattle.vpg_system_draw.specs.declared.marks.Step.{Step}
-use Rattle.vpg_steps.specs.Steps.{IsRetold, IsRetoldAlong, page_with, trail_of, trail_over}
-
-pub always_ok : {T E : Type 0} (r : Result T E) (P : Type 0) → P → IfOk r (λ _. P)
-always_ok (Ok t) P p = p
-always_ok (Err e) P p = tt
+use Rattle.vpg_steps.specs.Steps.{FindsPath, FindsWon, IsPathOf, trail_of, trail_over}
 
 pub ok_to : {T E : Type 0} (P Q : T → Type 0) (r : Result T E) → ((t : T) → P t → Q t) → IfOk r P → IfOk r Q
 ok_to P Q (Ok t) f p = f t p
 ok_to P Q (Err e) f p = tt
-
-pub some_to : {T : Type 0} (P Q : T → Type 0) (o : Option T) → ((t : T) → P t → Q t) → IfSome o P → IfSome o Q
-some_to P Q (Some t) f p = f t p
-some_to P Q None f p = tt
 
 -- ---- paths
 
@@ -51,61 +42,26 @@ trail_told behaviour game arena moves vertex visits seen is_cut values known sta
     let made : seen ≡ (walk_from game moves vertex).visits = seen_are ∙ (is.made ∙ ap (λ (a : Game). (walk_from a moves vertex).visits) arena_is) in
     λ i. trail_over (values_are i) (states_are i) (sets_are i) (parts_are i) (pairs_are i) (made i)
 
--- ---- texts
+-- ---- the trace of a verdict
 
--- a text that ends in the walk that was written
-module _ (order : OrderView) (behaviour : Behaviour) (mover : Which) (vertex : ℕ) (moves : List (Option ℕ)) (known : List Tri) where
-  abbrev walked : Walked
-  walked = walk_along (page_of order) known mover vertex moves
-
-  abbrev lines : List ℕ
-  lines = trace_text (family_on (page_of order) known behaviour) walked.visits (is_left walked.waiting)
-
-  pub retold_along : (identifier : ℕ) (text told end earlier first none : List ℕ) (path : Trail) → IsKnownTable order.diagram.lines (choices order.decisions) known →
-      identifier ≡ identifier_of (page_of order) vertex → none ≡ [] → first ≡ none ++ head_line (other_table mover) identifier → told ≡ first ++ lines → end ≡ told → text ≡ earlier ++ end →
-      path ≡ trail_of known behaviour walked.visits → IsRetoldAlong (page_of order) behaviour mover vertex moves text path
-  retold_along identifier text told end earlier first none path is_known same empty first_is told_is end_is text_is path_is = record {
-    known = known;
-    is_known = is_known;
-    earlier = earlier;
-    text_is = text_is ∙ ap (λ (t : List ℕ). earlier ++ t) (end_is ∙ (told_is ∙ ap (λ (t : List ℕ). t ++ lines) head_is));
-    trail_is = path_is;
+module _ (order : OrderView) (behaviour : Behaviour) (mover : Which) (vertex : ℕ) where
+  -- the moves win, and the path is that of the walk along them
+  pub path_is : (moves : List (Option ℕ)) (known : List Tri) (path : Trail) → AreWinning (graph_of order.game) order.diagram.lines (choices order.decisions) mover vertex moves →
+      IsKnownTable order.diagram.lines (choices order.decisions) known → path ≡ trail_of known behaviour (walk_along (page_of order) known mover vertex moves).visits →
+      IsPathOf (page_of order) behaviour mover vertex path
+  path_is moves known path win is_known made = record {
+    text = walk_text (page_of order) known behaviour mover vertex moves;
+    walk = record { moves = moves; win = win; known = known; is_known = is_known; text_is = refl };
+    trail_is = made;
   }
-    where
-      head_is : first ≡ head_line (other_table mover) (identifier_of (page_of order) vertex)
-      head_is = first_is ∙ (ap (λ (t : List ℕ). t ++ head_line (other_table mover) identifier) empty ∙ ap (λ (n : ℕ). head_line (other_table mover) n) same)
 
--- and these moves win
-pub retold : (order : OrderView) (behaviour : Behaviour) (mover : Which) (vertex : ℕ) (moves items : List (Option ℕ)) (text : List ℕ) (path : Trail) → moves ≡ items →
-    AreWinning (graph_of order.game) order.diagram.lines (choices order.decisions) mover vertex items → IsRetoldAlong (page_of order) behaviour mover vertex moves text path →
-    IsRetold (page_of order) behaviour text path
-retold order behaviour mover vertex moves items text path same win along =
-    let it = subst (λ (ms : List (Option ℕ)). IsRetoldAlong (page_of order) behaviour mover vertex ms text path) same along in
-    record {
-      mover = mover;
-      vertex = vertex;
-      told = walk_text (page_of order) it.known behaviour mover vertex items;
-      walk = record { moves = items; win = win; known = it.known; is_known = it.is_known; text_is = refl };
-      earlier = it.earlier;
-      text_is = it.text_is;
-      trail_is = it.trail_is;
-    }
+module _ (order : OrderView) (behaviour : Behaviour) (limits : Limits) (vertex : ℕ) (found : Option Trail) where
+  pub path_hopeless : HasVerdict (page_of order) Hopeful vertex → FindsWon (page_of order) behaviour limits Dual vertex found → FindsPath (page_of order) behaviour limits vertex found
+  path_hopeless high won = inl (high, won)
 
--- the page of an order without its tables
-without_tables : (order : OrderView) (behaviour : Behaviour) (text : List ℕ) (path : Trail) → IsRetold (page_of order) behaviour text path → IsRetold (page_with order.game order.diagram order.decisions) behaviour text path
-without_tables order behaviour text path is = record {
-  mover = is.mover;
-  vertex = is.vertex;
-  told = is.told;
-  walk = record { moves = is.walk.moves; win = is.walk.win; known = is.walk.known; is_known = is.walk.is_known; text_is = is.walk.text_is };
-  earlier = is.earlier;
-  text_is = is.text_is;
-  trail_is = is.trail_is;
-}
+  pub path_sure : ¬ (HasVerdict (page_of order) Hopeful vertex) → HasVerdict (page_of order) Dual vertex → FindsWon (page_of order) behaviour limits Hopeful vertex found →
+      FindsPath (page_of order) behaviour limits vertex found
+  path_sure low high won = inr (inl (low, high, won))
 
-pub retold_on : (order : OrderView) (game : NamedGame) (diagram : NamedDiagram) (decisions : List Decision) (behaviour : Behaviour) (text : List ℕ) (path : Trail) →
-    order.game ≡ game → order.diagram ≡ diagram → order.decisions ≡ decisions → IsRetold (page_of order) behaviour text path → IsRetold (page_with game diagram decisions) behaviour text path
-retold_on order game diagram decisions behaviour text path of_game of_diagram of_decisions is =
-    subst (λ (g : NamedGame). IsRetold (page_with g diagram decisions) behaviour text path) of_game
-    (subst (λ (d : NamedDiagram). IsRetold (page_with order.game d decisions) behaviour text path) of_diagram
-    (subst (λ (ds : List Decision). IsRetold (page_with order.game order.diagram ds) behaviour text path) of_decisions (without_tables order behaviour text path is)))
+  pub path_neither : ¬ (HasVerdict (page_of order) Hopeful vertex) → ¬ (HasVerdict (page_of order) Dual vertex) → found ≡ None → FindsPath (page_of order) behaviour limits vertex found
+  path_neither low also none = inr (inr (low, also, none))

@@ -1,10 +1,6 @@
--- The path of a walk through the system, and texts that end in a walk. This project's own.
-use Rattle.std.specs.Prelude.{◌≡◌, ℕ, zero, suc, Bool, Option, Some, None, List, [], ◌∷◌, ◌++◌, length}
+-- The path of a walk through the system, and that of the trace of a verdict. This project's own.
+use Rattle.std.specs.Prelude.{◌≡◌, ◌⊎◌, ℕ, zero, suc, Bool, Option, Some, None, List, [], ◌∷◌, ◌++◌, length}
 use Rattle.vpg_guards.specs.declared.tri.Tri.{Tri}
-use Rattle.vpg_diagram.specs.DiagramText.{NamedDiagram}
-use Rattle.vpg_game.specs.Game.{NamedGame, graph_of, vertex_ids}
-use Rattle.vpg_partial.specs.TableLaws.{IsKnownTable}
-use Rattle.vpg_partial.specs.declared.decision.Decision.{Decision}
 use Rattle.vpg_parts.specs.declared.part.Part.{Part}
 use Rattle.vpg_parts.specs.declared.part.Part.TheVariants.{True, False, And, Or, SomeStep, EveryStep, Fixpoint, Variable}
 use Rattle.vpg_parts.specs.Parts.{resolved_part}
@@ -12,8 +8,9 @@ use Rattle.vpg_model.specs.Departures.{Departure}
 use Rattle.vpg_model.specs.Pairs.{pair_at}
 use Rattle.vpg_checking.specs.Behaviours.{Behaviour}
 use Rattle.vpg_verdict.specs.declared.which.Which.{Which}
-use Rattle.vpg_why.specs.Explained.{choices}
-use Rattle.vpg_trace.specs.Answering.{Page, TellsWalk, walk_along, walk_text}
+use Rattle.vpg_verdict.specs.declared.which.Which.TheVariants.{Hopeful, Dual}
+use Rattle.vpg_why.specs.declared.question.Limits.{Limits}
+use Rattle.vpg_trace.specs.Answering.{HasVerdict, IsTooShort, Page, TellsWalk, walk_along}
 use Rattle.vpg_trace.specs.Texts.{state_of, step_from}
 use Rattle.vpg_trace.specs.Walks.{visit_at, visit_before}
 use Rattle.vpg_trace.specs.declared.taking.Taken.{Taken}
@@ -94,34 +91,23 @@ abbrev pub trail_of : List Tri → Behaviour → List Visit → Trail
 trail_of known behaviour visits =
     trail_over known behaviour.states behaviour.sets behaviour.parts behaviour.pairs visits
 
--- a page without its tables: these say who wins, and not how
-abbrev pub page_with : NamedGame → NamedDiagram → List Decision → Page
-page_with game diagram decisions = record {
-  game = graph_of game;
-  identifiers = vertex_ids game.vertices;
-  features = diagram.names;
-  lines = diagram.lines;
-  decisions = decisions;
-  hopeful = [];
-  dual = [];
-}
-
--- The text ends in a trace on the page: the walk along moves that win in each product left. The path is that of this
--- walk.
-pub record IsRetold (page : Page) (behaviour : Behaviour) (text : List ℕ) (trail : Trail) : Type 0 where
-  pub mover : Which
-  pub vertex : ℕ
-  pub told : List ℕ
-  pub walk : TellsWalk page behaviour mover vertex told
-  pub earlier : List ℕ
-  pub text_is : text ≡ earlier ++ told
+-- The moves of a player win in each product left. The path is that of the walk along them, which an answer to `trace V`
+-- writes.
+pub record IsPathOf (page : Page) (behaviour : Behaviour) (mover : Which) (vertex : ℕ) (trail : Trail) : Type 0 where
+  pub text : List ℕ
+  pub walk : TellsWalk page behaviour mover vertex text
   pub trail_is : trail ≡ trail_of walk.known behaviour (walk_along page walk.known mover vertex walk.moves).visits
 
--- The text ends in the walk along these moves of a player, and the path is that of this walk.
-pub record IsRetoldAlong (page : Page) (behaviour : Behaviour) (mover : Which) (vertex : ℕ) (moves : List (Option ℕ))
-    (text : List ℕ) (trail : Trail) : Type 0 where
-  pub known : List Tri
-  pub is_known : IsKnownTable page.lines (choices page.decisions) known
-  pub earlier : List ℕ
-  pub text_is : text ≡ earlier ++ walk_text page known behaviour mover vertex moves
-  pub trail_is : trail ≡ trail_of known behaviour (walk_along page known mover vertex moves).visits
+-- The path of a walk along moves of the player that win; or the limits leave no room to find them.
+abbrev pub FindsWon : Page → Behaviour → Limits → (mover : Which) → (vertex : ℕ) → Option Trail → Type 0
+FindsWon page behaviour limits mover vertex (Some trail) = IsPathOf page behaviour mover vertex trail
+FindsWon page behaviour limits mover vertex None = IsTooShort page limits mover
+
+-- If the vertex is hopeless on the page, the path is along Odd's moves; if it is sure, along Even's. Otherwise there is
+-- none.
+abbrev pub FindsPath : Page → Behaviour → Limits → (vertex : ℕ) → Option Trail → Type 0
+FindsPath page behaviour limits vertex found =
+    (HasVerdict page Hopeful vertex × FindsWon page behaviour limits Dual vertex found)
+    ⊎ (¬ (HasVerdict page Hopeful vertex) × HasVerdict page Dual vertex
+    × FindsWon page behaviour limits Hopeful vertex found)
+    ⊎ (¬ (HasVerdict page Hopeful vertex) × ¬ (HasVerdict page Dual vertex) × (found ≡ None))

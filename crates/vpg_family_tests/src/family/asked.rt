@@ -4,13 +4,11 @@ ghost use Rattle.std.specs.Prelude.{◌≡◌};
 ghost use Rattle.vpg_diagram.specs.FeatureDiagram.{feature_count};
 
 use super::PATHS;
-use super::rows::{Row, SYSTEM, TABLES, row_of};
+use super::rows::{Row, TABLES, row_of};
 use crate::said::Said;
 use std::alloc::{AllocError, Global};
 use std::test::*;
-use vpg_family::{
-    Family, Fault, Pictured, Subject, Texts, drawn, linted, redrawn, system_drawn, system_redrawn,
-};
+use vpg_family::{Family, Fault, Pictured, Subject, Texts, drawn, linted, system_drawn};
 use vpg_names::VertexNames;
 use vpg_script::{Device, Sink};
 use vpg_terminal::named_text;
@@ -35,50 +33,16 @@ fn projected(alloc: Global, family: &Family, features: &str) -> Result<Vec<u8>, 
 fn texts(alloc: Global, row: &Row<'_>) -> Result<Texts, AllocError> {
     let diagram = Vec::from_slice(alloc, row.diagram.as_bytes())?;
     let game = Vec::from_slice(alloc, row.game.as_bytes())?;
-    let system = Vec::from_slice(alloc, SYSTEM.as_bytes())?;
     Ok(Texts {
         diagram,
         model: Vec::new(alloc),
         game,
         entries: Vec::new(alloc),
         vertices: Vec::new(alloc),
-        system,
+        system: Vec::new(alloc),
         requirements: Vec::new(alloc),
         behaviour: None,
     })
-}
-
-/// Returns the picture of the page that a script left.
-fn page(alloc: Global, family: &Family, row: &Row<'_>, subject: Subject) -> Result<Vec<u8>, Fault>
-    requires { (arc_value family.now.game).features ≡ feature_count (arc_value family.now.diagram).lines }
-{
-    match texts(alloc, row) {
-        Ok(texts) => redrawn(
-            alloc,
-            subject,
-            &family.diagram,
-            &family.game,
-            &texts,
-            row.text.as_bytes(),
-        ),
-        Err(_) => Err(Fault::Memory),
-    }
-}
-
-/// Returns the picture of the system on the page that a script left.
-fn system_page(alloc: Global, family: &Family, row: &Row<'_>) -> Result<Vec<u8>, Fault>
-    requires { (arc_value family.now.game).features ≡ feature_count (arc_value family.now.diagram).lines }
-{
-    match texts(alloc, row) {
-        Ok(texts) => system_redrawn(
-            alloc,
-            &family.diagram,
-            &family.game,
-            &texts,
-            row.text.as_bytes(),
-        ),
-        Err(_) => Err(Fault::Memory),
-    }
 }
 
 /// Returns the text that is passed on for an answer.
@@ -130,9 +94,6 @@ fn of_family(alloc: Global, family: &Family, row: &Row<'_>) -> Result<Vec<u8>, F
     match row.asked {
         "check" => kept(family.counted(alloc)),
         "project" => projected(alloc, family, row.text),
-        "redraw" => page(alloc, family, row, Subject::Game),
-        "redraw-features" => page(alloc, family, row, Subject::Features),
-        "redraw-system" => system_page(alloc, family, row),
         _ => with_names(alloc, family, row),
     }
 }

@@ -13,7 +13,7 @@ const HERE: &str = "0 1 0 1[f],0 \"he\\re\"; 1 2 1 0[g],1;";
 const DOOR: &str = "0 1 0 1[f],0 \"door\topen\"; 1 2 1 0[g],1; 12 0 1 0 \"+f or fewer\";";
 
 /// A system of three states: transitions that look alike between the same two, and actions as mCRL2 writes them.
-pub(super) const SYSTEM: &str = "des (0, 7, 3)
+const SYSTEM: &str = "des (0, 7, 3)
 (0, \"send(\"a\") [f]\", 1)
 (0, \"tau\", 0)
 (0, \"log(\"\\\") [f]\", 1)
@@ -36,10 +36,8 @@ const WIDEST: &str = "\
 /// A family, a question about it, and the text on standard output, or else on standard error.
 #[derive(Drop)]
 pub(super) struct Row<'t> {
-    /// A word. `project` takes the words of a text with one blank between them, `redraw` the text that a script wrote,
-    /// `pass-on` and `name` an answer; `draw` and `redraw` are about the game, with `-features` about the diagram, and
-    /// with `-system` about a system: `draw-system` about the one that stands in place of the game, `redraw-system`
-    /// about the one above.
+    /// A word. `project` takes the words of a text with one blank between them, `pass-on` and `name` an answer. `draw`
+    /// is about the game, with `-features` about the diagram, and with `-system` about the system in place of the game.
     pub(super) asked: &'t str,
     pub(super) text: &'t str,
     pub(super) diagram: &'t str,
@@ -85,9 +83,7 @@ pub(super) fn row_of(writing: &str) -> Row<'_> {
 
 /// The rows, each with a `§` after it. The parts of a row stand beside `¦`: a remark, the question, the texts of the
 /// diagram and of the game or their names, its text, and the answer.
-pub(super) static TABLES: [&str; 8] = [
-    REFUSED, DONE, PICTURES, SYSTEMS, PAGES, PASSED, NAMED, WARNED,
-];
+pub(super) static TABLES: [&str; 7] = [REFUSED, DONE, PICTURES, SYSTEMS, PASSED, NAMED, WARNED];
 
 /// Families that are refused, and words that name no product.
 const REFUSED: &str = "\
@@ -168,104 +164,10 @@ const SYSTEMS: &str = "\
   2 -> 2 [label=\"never [!r]\", style=dotted, color=gray70, fontcolor=gray50];
 }
 §\
-Without f nothing leads from the first state to the others.¦redraw-system¦DIAGRAM¦HERE¦done 1
-digraph game {
-  graph [label=\"decisions -f\", labelloc=t, rankdir=LR];
-  node [style=filled];
-  0 [shape=diamond, label=\"0 : 1\", fillcolor=mistyrose, color=firebrick];
-  1 [shape=box, label=\"1 : 2\", fillcolor=white, color=gray40];
-  0 -> 1 [label=\"f\", style=dotted, color=gray70, fontcolor=gray50];
-  0 -> 0 [style=solid];
-  1 -> 0 [label=\"g\", style=dashed, color=steelblue, fontcolor=steelblue];
-  1 -> 1 [style=solid];
-}
-¦digraph system {
-  graph [label=\"decisions -f\", labelloc=t, rankdir=LR];
-  node [shape=circle, style=filled];
-  0 [penwidth=3, fillcolor=white, color=gray40];
-  1 [fillcolor=gray92, color=gray70, fontcolor=gray60];
-  2 [fillcolor=gray92, color=gray70, fontcolor=gray60];
-  0 -> 0 [label=\"tau\", style=solid];
-  1 -> 0 [label=\"a&amp;b [r]\\nback\", style=solid];
-  1 -> 2 [label=\"stop [f & g | !f]\", style=solid];
-  0 -> 1 [label=\"send(\\\"a\\\") [f]\\nlog(\\\"\\\\\\\") [f]\", style=dotted, color=gray70, fontcolor=gray50];
-  2 -> 2 [label=\"never [!r]\", style=dotted, color=gray70, fontcolor=gray50];
-}
-§\
-¦redraw-system¦DIAGRAM¦HERE¦done 1\n¦vpgdesk: script LogFull\n§\
 ¦draw-system¦root¦¦¦vpgdesk: diagram Syntax 1\n§\
 ¦draw-system¦DIAGRAM¦des (0, 1, 1)\n¦¦vpgdesk: system WrongCount 1\n§\
 ¦draw-system¦NONE¦des (0, 0, 0)\n¦¦vpgdesk: system NoState 1\n§\
 ¦draw-system¦NONE¦des (0, 0, 1)\n¦¦vpgdesk: Conflict r\n§\
-";
-
-/// Pictures of pages that scripts left, from the texts that the scripts wrote.
-const PAGES: &str = "\
-The last picture counts.¦redraw¦DIAGRAM¦HERE¦done 1
-digraph game {
-  graph [label=\"decisions +g\", labelloc=t, rankdir=LR];
-}
-digraph game {
-  graph [label=\"decisions +g -f\", labelloc=t, rankdir=LR];
-  node [style=filled];
-  0 [shape=diamond, label=\"0 : 1\", fillcolor=mistyrose, color=firebrick];
-  1 [shape=box, label=\"1 : 2\", fillcolor=honeydew, color=darkgreen];
-  0 -> 1 [label=\"f\", style=dotted, color=gray70, fontcolor=gray50];
-  0 -> 0 [style=solid];
-  1 -> 0 [label=\"g\", style=solid];
-  1 -> 1 [style=solid];
-}
-¦digraph game {
-  graph [label=\"decisions +g -f\", labelloc=t, rankdir=LR];
-  node [style=filled];
-  0 [shape=diamond, label=\"0 : 1\\nhe\\\\re\", fillcolor=mistyrose, color=firebrick];
-  1 [shape=box, label=\"1 : 2\", fillcolor=honeydew, color=darkgreen];
-  0 -> 1 [label=\"f\", style=dotted, color=gray70, fontcolor=gray50];
-  0 -> 0 [style=solid];
-  1 -> 0 [label=\"g\", style=solid];
-  1 -> 1 [style=solid];
-}
-§\
-¦redraw-features¦DIAGRAM¦HERE¦digraph game {
-  graph [label=\"decisions -g\", labelloc=t, rankdir=LR];
-  node [style=filled];
-  0 [shape=diamond, label=\"0 : 1\", fillcolor=mistyrose, color=firebrick];
-  1 [shape=box, label=\"1 : 2\", fillcolor=white, color=gray40];
-  0 -> 1 [label=\"f\", style=dashed, color=steelblue, fontcolor=steelblue];
-  0 -> 0 [style=solid];
-  1 -> 0 [label=\"g\", style=dotted, color=gray70, fontcolor=gray50];
-  1 -> 1 [style=solid];
-}
-¦digraph features {
-  graph [label=\"decisions -g\", labelloc=t];
-  node [shape=box, style=filled, height=0.3];
-  \"r\" [fillcolor=honeydew, color=darkgreen];
-  \"f\" [fillcolor=white, style=\"filled,dashed\"];
-  \"g\" [fillcolor=gray92, fontcolor=gray60];
-  \"r\" -> \"f\" [arrowhead=odot];
-  \"r\" -> \"g\" [arrowhead=odot];
-}
-§\
-A decision that the guards of the picture do not show.¦redraw¦DIAGRAM¦HERE¦digraph game {
-  graph [label=\"decisions\", labelloc=t, rankdir=LR];
-  node [style=filled];
-  0 [shape=diamond, label=\"0 : 1\", fillcolor=white, color=gray40];
-  1 [shape=box, label=\"1 : 2\", fillcolor=white, color=gray40];
-  0 -> 1 [label=\"f\", style=dashed, color=steelblue, fontcolor=steelblue];
-  0 -> 0 [style=solid];
-  1 -> 0 [label=\"g\", style=solid];
-  1 -> 1 [style=solid];
-}
-¦vpgdesk: script LogFull\n§\
-¦redraw¦DIAGRAM¦HERE¦done 1\nrefused LogFull\n¦vpgdesk: script LogFull\n§\
-¦redraw-features¦DIAGRAM¦HERE¦¦vpgdesk: script LogFull\n§\
-The decisions contradict each other.¦redraw¦DIAGRAM¦HERE¦digraph game {
-  graph [label=\"decisions +f -f\", labelloc=t, rankdir=LR];
-
-
-
-¦vpgdesk: script LogFull
-§\
 ";
 
 /// Answers that are passed on, with the names of vertices in pictures.

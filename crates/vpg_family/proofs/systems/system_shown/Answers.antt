@@ -7,5 +7,5 @@ use Rattle.vpg_family.proofs.systems.system_shown.Goals as goal
 
 pub returns : goal.returns
 returns c =
-    subst (λ (m : Marking). IfOk c.system_marked.result (λ picture. IsSystemDrawn c.args.diagram.now.names c.args.known.now (map literal_of c.args.decisions.now) c.args.system.now m picture.items)) c.none-marks.ensures
+    subst (λ (m : Marking). IfOk c.system_marked.result (λ picture. IsSystemDrawn c.args.diagram.now.names c.args.known.now (map literal_of c.args.decisions.now) c.args.system.now m picture.items)) c.in_ok-marks.ensures
     c.system_marked.ensures

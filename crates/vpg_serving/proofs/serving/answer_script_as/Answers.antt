@@ -3,11 +3,12 @@ use Rattle.std.proofs.lemmas.Grind.{common_steps}
 use Rattle.std.specs.Prelude.{◌<◌, ◌||◌, ◌&&◌, OnSome, vec_len}
 use Rattle.vpg_script.specs.Lines.{lines_left}
 use Rattle.std.specs.Io.KnownBytes.{prepend_known}
-use Rattle.vpg_serving.specs.Manners.{Went}
+use Rattle.vpg_serving.specs.Manners.{MannerOutcome, Went}
 use Rattle.vpg_serving.specs.Answer.{is_failed, is_refused}
 use Rattle.vpg_serving.specs.Results.{NextOutcome}
+use Rattle.vpg_serving.specs.declared.serving.Ending.{Ending}
 use Rattle.vpg_serving.specs.declared.tone.Tone.{Tone}
-use Rattle.vpg_serving.proofs.MannerLemmas.{went_nothing, went_more, failed_more, refused_there, stopped}
+use Rattle.vpg_serving.proofs.MannerLemmas.{at_end, went_nothing, went_more, failed_more, refused_left, refused_there, stopped}
 use Rattle.vpg_serving.proofs.serving.answer_script_as.Goals as goal
 
 pub lines-init : goal.lines-init
@@ -50,6 +51,23 @@ returns-then-last-clause-output g c =
     let outcome = subst (λ (o : Option Tone). NextOutcome c.args.manner c.lines.number serves mid new a b left w after (Ok o)) c.in-Ok-Some.field-0-is
     (subst (λ (s : g.V.Server.Scene). NextOutcome c.args.manner c.lines.number (g.V.Server.answering s c.args.lifters) mid new a b left w after (Ok c.in-Ok-Some.field-0)) c.lines.invariant.same c.in-Ok-Some.ensures.outcome) in
     refused_there c.args.manner (g.V.Server.answering (g.V.Server.scene first) c.args.lifters) (g.V.Server.state first) mid new (g.R.Source.remaining c.args.reader.now) a b left
+    (g.W.Sink.contents c.args.writer.now) w after so.0 so.1 c.lines.number c.in-Ok-Some.tone so.2.0 so.2.1 outcome (sym c.is_last-last.ensures ∙ c.if-last.true)
+
+pub returns-then-last-clause-left : goal.returns-then-last-clause-left
+returns-then-last-clause-left g c =
+    let so = c.lines.invariant.went in
+    let first = c.args.server.now in
+    let a = prepend_known c.lines.held.items (g.R.Source.remaining c.lines.reader) in
+    let b = prepend_known c.answer_next.new.held.items (g.R.Source.remaining c.answer_next.new.reader) in
+    let left = g.R.Source.remaining c.answer_next.new.reader in
+    let w = g.W.Sink.contents c.lines.writer in
+    let after = g.W.Sink.contents c.answer_next.new.writer in
+    let mid = g.V.Server.state c.lines.server in
+    let new = g.V.Server.state c.answer_next.new.server in
+    let serves = g.V.Server.answering (g.V.Server.scene first) c.args.lifters in
+    let outcome = subst (λ (o : Option Tone). NextOutcome c.args.manner c.lines.number serves mid new a b left w after (Ok o)) c.in-Ok-Some.field-0-is
+    (subst (λ (s : g.V.Server.Scene). NextOutcome c.args.manner c.lines.number (g.V.Server.answering s c.args.lifters) mid new a b left w after (Ok c.in-Ok-Some.field-0)) c.lines.invariant.same c.in-Ok-Some.ensures.outcome) in
+    refused_left c.args.manner (g.V.Server.answering (g.V.Server.scene first) c.args.lifters) (g.V.Server.state first) mid new (g.R.Source.remaining c.args.reader.now) a b left
     (g.W.Sink.contents c.args.writer.now) w after so.0 so.1 c.lines.number c.in-Ok-Some.tone so.2.0 so.2.1 outcome (sym c.is_last-last.ensures ∙ c.if-last.true)
 
 pub returns-in-Err-clause-output : goal.returns-in-Err-clause-output
@@ -123,3 +141,20 @@ returns-in-Err-clause-writable g c = grind (arith, common_steps)
 
 pub returns-then-last-clause-readable : goal.returns-then-last-clause-readable
 returns-then-last-clause-readable g c = grind (arith, common_steps)
+
+pub returns-in-Ok-None-clause-output : goal.returns-in-Ok-None-clause-output
+returns-in-Ok-None-clause-output g c =
+    let so = c.lines.invariant.went in
+    let first = c.args.server.now in
+    let a = prepend_known c.lines.held.items (g.R.Source.remaining c.lines.reader) in
+    let b = prepend_known c.answer_next.new.held.items (g.R.Source.remaining c.answer_next.new.reader) in
+    let left = g.R.Source.remaining c.answer_next.new.reader in
+    let w = g.W.Sink.contents c.lines.writer in
+    let after = g.W.Sink.contents c.answer_next.new.writer in
+    let mid = g.V.Server.state c.lines.server in
+    let new = g.V.Server.state c.answer_next.new.server in
+    let serves = g.V.Server.answering (g.V.Server.scene first) c.args.lifters in
+    let outcome = subst (λ (o : Option Tone). NextOutcome c.args.manner c.lines.number serves mid new a b left w after (Ok o)) c.in-Ok-None.field-0-is
+    (subst (λ (s : g.V.Server.Scene). NextOutcome c.args.manner c.lines.number (g.V.Server.answering s c.args.lifters) mid new a b left w after (Ok c.in-Ok-None.field-0)) c.lines.invariant.same c.in-Ok-None.ensures.outcome) in
+    subst (λ (e : Ending). MannerOutcome c.args.manner serves (g.V.Server.state first) (g.R.Source.remaining c.args.reader.now) left (g.W.Sink.contents c.args.writer.now) after (Ok e)) (sym c.ending_of.ensures)
+    (at_end c.args.manner serves (g.V.Server.state first) mid (g.R.Source.remaining c.args.reader.now) a (g.W.Sink.contents c.args.writer.now) w so.0 so.1 so.2.0 new b left after c.lines.number c.lines.failed so.2.2 outcome)

@@ -29,6 +29,9 @@ pub returns-clause-ours : goal.returns-clause-ours
 returns-clause-ours g c =
     coe 0 1 (k. IsOrderOf (c.self.view_is k).desk c.in-Ok-looked.order) (IfOk-at_ok (λ r. IsOf g.L.Terms.game g.L.Terms.diagram r) c.in-Ok-looked.ensures.made c.order-answer.ensures.ours)
 
+pub returns-clause-of : goal.returns-clause-of
+returns-clause-of g c = IfOk-at_ok (λ r. IsOf g.L.Terms.game g.L.Terms.diagram r) c.in-Ok-looked.ensures.made c.order-answer.ensures.ours
+
 pub returns-in-Err-looked-clause-fault : goal.returns-in-Err-looked-clause-fault
 returns-in-Err-looked-clause-fault g c =
     let game = g.L.Terms.game in
