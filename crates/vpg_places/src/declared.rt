@@ -37,8 +37,9 @@ fn declare<'t>(
         return Ok(());
     };
     let first = first_child(&form);
+    let more = matches!(form.rest, Some(Part::Child));
     for (place, word) in rest.iter().enumerate() {
-        if place >= first && (form.rest.is_some() || place < form.parts.len()) {
+        if place >= first && (more || place < form.parts.len()) {
             declared.push(Declared {
                 at: line.from.saturating_add(word.at),
                 name: word.bytes,
