@@ -58,8 +58,8 @@ pub(crate) struct Offered {
     prospect: Prospect,
 }
 
-/// What the offers of a line have left of its looks and trials, and what they have found: of products in which Even
-/// wins from the vertex, and of those in which Odd does.
+/// The looks and trials that the offers of a line have left, and their findings: of products in which Even wins from
+/// the vertex, and of those in which Odd does.
 #[derive(Drop)]
 pub(crate) struct Shared {
     pub(crate) looks: u64,

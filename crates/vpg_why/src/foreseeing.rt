@@ -1,4 +1,4 @@
-//! What one more decision would bring at a vertex: the verdicts, and who wins in some product that is left.
+//! The verdicts of a vertex after one more decision, and who wins in some product that is left then.
 ghost use Rattle.std.specs.Prelude.{◌≡◌, ◌≢◌, ◌<◌, ◌≤◌, ◌++◌, ◌∷◌, [], List, length, IfOk};
 ghost use Rattle.std.specs.List.{list_any};
 ghost use Rattle.vpg_diagram.specs.Clauses.{is_true_in};
@@ -23,7 +23,7 @@ use vpg_diagram::Literal;
 use vpg_measure::Order;
 use vpg_verdict::Which;
 
-/// What the searches of a line found for one aim.
+/// The findings of a line's searches for one aim.
 #[derive(Drop)]
 pub struct Findings {
     /// Products that are left and meet it.
@@ -32,7 +32,7 @@ pub struct Findings {
     pub forced: Vec<Literal>,
 }
 
-/// What one more decision would bring for one table.
+/// The outcome of one more decision for one table.
 #[derive(Clone, Copy)]
 pub struct Side {
     /// Whether the vertex would be hopeless, for the hopeful table, or sure, for the dual one.
@@ -42,7 +42,7 @@ pub struct Side {
     pub met: Shown,
 }
 
-/// What one more decision would bring at a vertex.
+/// The outcome of one more decision at a vertex.
 #[derive(Clone, Copy)]
 pub enum Foresight {
     /// It contradicts the others.
