@@ -187,7 +187,7 @@ BUILT_IN = (b"parity 1; 0 1 0 1[f],0; 1 2 1 0[g],1;", b"root r\noptional r f\nop
 RICH = (
     b'parity 9; start 1;\n1 1 0 2[a & !(b | c)],3 "one";\n2 4 1 1[!a],3[d],3[!d & true];\n3 3 0 3[(a | b) & (c | d)],1;\n9 0 1;\n',
     b"root r\nmandatory r a\noptional r b\nalternative b: c d\nor a: e f g\ngroup r 1 2: h i j\nrequires c e\nexcludes d h\n",
-    b"2: select b\nsettle 3\nharvest\n64: exclude c\ncommit 1\nlift dual 9\nkeep 1\nplan\ncount\ndraw\nchanged\nforced\nempty\nnumber\nknown b\nshow 3 1\nassert 1 possible sure\nassert 1 won\nassert full\nwhy 1\nwhy b\nwhy +a\nexample 1\ncounterexample 0\nlost 1\nwon 0\noffer 3\nneeds 1\nrepair 1\nspoil 3\nplan 1\ndraw 3\ntrace 3\nwinners 3\ndecide 1\nproducts\nretract b\nsettle\nshow\n",
+    b"2: select b\nsettle 3\nharvest\n64: exclude c\ncommit 1\nlift dual 9\nkeep 1\nplan\ncount\ndraw\nchanged\nforced\nempty\nnumber\nknown b\nshow 3 1\nassert 1 possible sure\nassert 1 won\nassert full\nwhy 1\nwhy b\nwhy +a\nexample 1\ncounterexample 0\nlost 1\nwon 0\noffer 3\nneeds 1\nrepair 1\nspoil 3\nplan 1\ndraw 3\ntrace 3\nwinners 3\ndecide 1\nproducts\nretract b\nreset\nundo\nsettle\nshow\n",
 )
 
 
@@ -218,7 +218,7 @@ def random_family(rng):
 TOKENS = re.compile(rb"[A-Za-z0-9_]+|[^A-Za-z0-9_]")
 DICTIONARY = (
     b"0 1 2 7 00 01 64 65 4096 65535 65536 65537 4294967295 4294967296 1000000000 1000000001 18446744073709551615 18446744073709551616 4611686018427387904 -1 +1 1.5 0x10 "
-    b"parity start root mandatory optional alternative or group requires excludes true false select exclude retract undo redo keep forget lift harvest commit settle show trail "
+    b"parity start root mandatory optional alternative or group requires excludes true false select exclude retract reset undo redo keep forget lift harvest commit settle show trail "
     b"products plan count draw changed forced empty known assert hopeless possible sure unsure mixed full settled why "
     b"number example counterexample lost won offer needs repair spoil trace winners decide help goals quit hopeful dual "
     b"r f g a b 1: 65: 0: : ; , [ ] ( ) "

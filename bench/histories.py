@@ -15,7 +15,7 @@ import tempfile
 
 import families
 
-LINES = ["settle"] * 4 + ["select f", "exclude f", "select g", "exclude g", "retract f", "retract g"]
+LINES = ["settle"] * 4 + ["select f", "exclude f", "select g", "exclude g", "retract f", "retract g", "reset"]
 LINES += ["undo", "undo", "redo", "harvest", "commit 1", "settle 7"]
 SIZES = [64, 150, 400, 1000, 3000]
 

@@ -4,11 +4,11 @@
     replay.py VPG_PLAY [CALLS] [SEED]      runs VPG_PLAY on families until there were so many calls (100,000)
     replay.py --check OUTPUT GAME DIAGRAM  compares the calls of one run; `--check OUTPUT` those of the stored one
 
-In a run 1 to 63 sessions, each in a thread of its own, decide, retract, undo, redo, keep, forget, take orders, raise
-them by one lifter or several, commit, look, read by watches, and hand tokens, harvests and fronts on to one another.
-Each tells its calls, with their answers and their places in the log. Here the calls of all are put in the order of
-these places, one for each place, and made again, one after another, on a book that copies whole pages. It has to give
-each answer, refusals and their numbers too. Beside that:
+In a run 1 to 63 sessions, each in a thread of its own, decide, retract, reset, undo, redo, keep, forget, take orders,
+raise them by one lifter or several, commit, look, read by watches, and hand tokens, harvests and fronts on to one
+another. Each tells its calls, with their answers and their places in the log. Here the calls of all are put in the
+order of these places, one for each place, and made again, one after another, on a book that copies whole pages. It has
+to give each answer, refusals and their numbers too. Beside that:
 
 - A session's calls stand behind its front, and fronts that meet become the longer one. A call with a front that has
   not the session's last call is refused as doubled.
@@ -35,7 +35,7 @@ import oracle  # noqa: E402
 TOP = os.path.join(os.path.dirname(os.path.abspath(__file__)), "..")
 EXAMPLES = os.path.join(TOP, "examples")
 STORED = os.path.join(TOP, "crates", "vpg_play", "src", "main.rt")
-CHANGES = ("select", "exclude", "retract", "undo", "redo", "commit")
+CHANGES = ("select", "exclude", "retract", "reset", "undo", "redo", "commit")
 SPENDS = ("undo", "redo", "keep", "forget")
 
 
@@ -154,15 +154,24 @@ class Book:
     def retract(self, session, feature):
         if all(decided != feature for _, decided, _, _, _ in self.page.decided):
             return "refused NotDecided"
+        return self.change(session, self.kept(lambda decided: decided == feature))
+
+    def reset(self, session):
+        if not self.page.decided:
+            return "refused NotDecided"
+        return self.change(session, self.kept(lambda decided: True))
+
+    def kept(self, is_retracted):
+        """The entries that stay once the decisions on such features are retracted."""
         kept, tables = [], [[0] * len(self.family.game), [0] * len(self.family.game)]
         for entry in self.page.entries:
             if entry[0] == "decide":
-                kept += [entry] if entry[1] != feature else []
-            elif all(assumed != feature for assumed, _ in entry[4]):
+                kept += [] if is_retracted(entry[1]) else [entry]
+            elif not any(is_retracted(assumed) for assumed, _ in entry[4]):
                 table, vertex = tables[entry[0] == "dual"], entry[1]
                 kept.append((entry[0], vertex, table[vertex], entry[3], entry[4]))
                 table[vertex] = entry[3]
-        return self.change(session, kept)
+        return kept
 
     def undo(self, serial):
         if serial not in [past for past, _ in self.past]:
@@ -220,6 +229,8 @@ class Book:
             return 2, self.decide(session, int(rest[0]), word == "select")
         if word == "retract":
             return 2, self.retract(session, int(rest[0]))
+        if word == "reset":
+            return 1, self.reset(session)
         if word in SPENDS:
             held = self.undos if word in ("undo", "keep") else self.redos
             if int(rest[0]) not in held:

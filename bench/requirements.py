@@ -448,7 +448,7 @@ def asserted(family, script):
             true = {"hopeless": holding == 0, "possible": holding > 0, "sure": holding == len(left)}
             true["unsure"] = not true["sure"]
             yield words, holding, len(left), [word for word in words[2:] if not true[word]]
-        elif words[:1] and words[0] in ("select", "exclude", "retract", "undo", "redo", "keep", "forget"):
+        elif words[:1] and words[0] in ("select", "exclude", "retract", "reset", "undo", "redo", "keep", "forget"):
             desk.carry_out(words)
 
 

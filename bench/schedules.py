@@ -50,7 +50,7 @@ class Script:
         for session, words in calls:
             self.call(session, words)
         self.lines += SHOWN
-        changes = [words for _, words in calls if words.split()[0] in ("select", "exclude", "retract", "redo")]
+        changes = [words for _, words in calls if words.split()[0] in ("select", "exclude", "retract", "reset", "redo")]
         self.lines += ["undo"] * (1 + len(changes))
         self.lines.append("trail")
 

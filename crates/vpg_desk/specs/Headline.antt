@@ -114,7 +114,7 @@ settled_of session b = record { session = session; call = Settled; reply = IsSet
 
 -- The laws of a legal history with lawful harvests only.
 pub record Headline (setting : Setting) (history : List Event) : Type 0 where
-  -- each accepted undo of serial s leaves the page just before the last accepted decide, retract or redo of s
+  -- each accepted undo of serial s leaves the page just before the last accepted decide, retract, reset or redo of s
   pub undo : (front rest : List Event) (session s : ℕ) → history ≡ front ++ undo_of session s ∷ rest →
       (before : List Event) ×
       (IsBeforeLast (gives_undo s) before front ×

@@ -15,7 +15,7 @@ use vpg_trail::{Entry, Trail, kept_after, place_of};
 
 /// Whether a retraction returns to the newest past page, and that page is known to be settled: both have the present
 /// entries up to the place, and none after them.
-fn gives_back(past: &[Cut], place: usize, kept: &[Entry]) -> bool
+pub(crate) fn gives_back(past: &[Cut], place: usize, kept: &[Entry]) -> bool
     ensures { IsTrue result ↔ GivesBack (cuts_of past.now) (notes_of past.now) place (map entry_of kept.now) }
 {
     match past.last() {
@@ -28,7 +28,7 @@ fn gives_back(past: &[Cut], place: usize, kept: &[Entry]) -> bool
 
 /// Puts the suffix in place of the entries from a place on; its lifts stand. Keeps the page before it under the serial.
 /// `was` says whether that page was known to be settled.
-fn cut_out(
+pub(crate) fn cut_out(
     past: &mut Vec<Cut>,
     trail: &mut Trail,
     serial: u64,

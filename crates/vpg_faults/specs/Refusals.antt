@@ -6,6 +6,8 @@ use Rattle.vpg_faults.specs.declared.fault.DecideFault.{DecideFault}
 use Rattle.vpg_faults.specs.declared.fault.DecideFault.TheVariants.{UnknownFeature as IsUnknown, AlreadyDecided as IsDecided, Conflict as HasConflict, TooManyChanges as IsTooMany, Memory}
 use Rattle.vpg_faults.specs.declared.fault.RetractFault.{RetractFault}
 use Rattle.vpg_faults.specs.declared.fault.RetractFault.TheVariants.{UnknownFeature as RetractUnknown, NotDecided as IsUndecided, TooManyChanges as RetractTooMany, Memory as RetractMemory}
+use Rattle.vpg_faults.specs.declared.fault.ResetFault.{ResetFault}
+use Rattle.vpg_faults.specs.declared.fault.ResetFault.TheVariants.{NotDecided as IsNoneDecided, TooManyChanges as ResetTooMany, Memory as ResetMemory}
 use Rattle.vpg_faults.specs.declared.fault.UndoFault.{UndoFault}
 use Rattle.vpg_faults.specs.declared.fault.UndoFault.TheVariants.{Sealed as IsSealed, NotNewest as IsNotNewest, Memory as UndoMemory}
 use Rattle.vpg_faults.specs.declared.fault.RedoFault.{RedoFault}
@@ -27,6 +29,12 @@ retract_refusal RetractUnknown = Some UnknownFeature
 retract_refusal IsUndecided = Some NotDecided
 retract_refusal RetractTooMany = Some TooManyChanges
 retract_refusal RetractMemory = None
+
+-- of a fault of reset
+abbrev pub reset_refusal : ResetFault → Option Refusal
+reset_refusal IsNoneDecided = Some NotDecided
+reset_refusal ResetTooMany = Some TooManyChanges
+reset_refusal ResetMemory = None
 
 -- of a fault of undo
 abbrev pub undo_refusal : UndoFault → Option Refusal

@@ -51,6 +51,19 @@ pub enum RetractFault {
     Memory,
 }
 
+/// Why the decisions aren't taken back. `Memory` comes last, and only if a growth was refused.
+#[derive(Clone, Copy, Debug, PartialEq, Eq, Error)]
+pub enum ResetFault {
+    /// The present page has no decision.
+    #[error("NotDecided")]
+    NotDecided,
+    /// The desk has made 1,048,576 changes.
+    #[error("TooManyChanges")]
+    TooManyChanges,
+    #[error("Memory")]
+    Memory,
+}
+
 /// Why a change isn't undone. `Memory` comes last, and only if a growth was refused.
 #[derive(Clone, Copy, Debug, PartialEq, Eq, Error)]
 pub enum UndoFault {
@@ -131,6 +144,17 @@ impl From<AllocError> for RetractFault {
 
     fn from(_: AllocError) -> RetractFault {
         RetractFault::Memory
+    }
+}
+
+impl From<AllocError> for ResetFault {
+    ghost use Rattle.std.specs.Prelude.{◌≡◌};
+    ghost use Rattle.vpg_faults.specs.declared.fault.ResetFault.TheVariants.{Memory};
+
+    ghost from_gives = { λ _ fault. fault ≡ Memory };
+
+    fn from(_: AllocError) -> ResetFault {
+        ResetFault::Memory
     }
 }
 

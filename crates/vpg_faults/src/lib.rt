@@ -10,6 +10,8 @@ mod fault;
 mod refusal;
 mod returned;
 
-pub use fault::{CommitFault, DecideFault, OpenFault, RedoFault, RetractFault, UndoFault};
+pub use fault::{
+    CommitFault, DecideFault, OpenFault, RedoFault, ResetFault, RetractFault, UndoFault,
+};
 pub use refusal::{Never, Refusal, Refuses};
 pub use returned::Returned;

@@ -1,7 +1,7 @@
 //! The reasons why a desk refuses a call.
-ghost use Rattle.vpg_faults.specs.Refusals.{commit_refusal, decide_refusal, never_refused, redo_refusal, retract_refusal, undo_refusal};
+ghost use Rattle.vpg_faults.specs.Refusals.{commit_refusal, decide_refusal, never_refused, redo_refusal, reset_refusal, retract_refusal, undo_refusal};
 
-use crate::fault::{CommitFault, DecideFault, RedoFault, RetractFault, UndoFault};
+use crate::fault::{CommitFault, DecideFault, RedoFault, ResetFault, RetractFault, UndoFault};
 use thiserror::Error;
 
 /// Why a desk refuses a call. A call's own fault has those that it can meet, and `Memory`.
@@ -15,7 +15,7 @@ pub enum Refusal {
     Conflict { feature: u16 },
     /// The desk has made 1,048,576 changes.
     TooManyChanges,
-    /// No decision of the present page is on the feature.
+    /// No decision of the present page is on the feature, or there is none at all.
     NotDecided,
     /// The past has no page of this serial.
     Sealed,
@@ -67,6 +67,18 @@ impl Refuses for RetractFault {
             RetractFault::NotDecided => Some(Refusal::NotDecided),
             RetractFault::TooManyChanges => Some(Refusal::TooManyChanges),
             RetractFault::Memory => None,
+        }
+    }
+}
+
+impl Refuses for ResetFault {
+    ghost refusal_of = { reset_refusal };
+
+    fn refusal(&self) -> Option<Refusal> {
+        match *self {
+            ResetFault::NotDecided => Some(Refusal::NotDecided),
+            ResetFault::TooManyChanges => Some(Refusal::TooManyChanges),
+            ResetFault::Memory => None,
         }
     }
 }

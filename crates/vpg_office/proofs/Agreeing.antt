@@ -3,7 +3,7 @@ use Rattle.std.proofs.Common.{◌≡◌, ℕ, zero, suc, ◌+◌, ◌-◌, ◌<�
 use Rattle.std.proofs.lemmas.List.Filters.{length-filter_both}
 use Rattle.vpg_trail.specs.Page.{Which, Entry, Decided, Lifted, same_table, value_at, assumes, before_decision, after_decision, reset, reset_all, kept_after, retracted}
 use Rattle.vpg_trail.proofs.PageLemmas.{value_at-append}
-use Rattle.vpg_desk.specs.Book.{Family, Book, Kept, Call, Decide, Retract, Undo, Redo, Keep, Forget, Order, Commit, Settled, Verdict, Page, Reply, Changed, Undone as UndoneIs, Redone as RedoneIs, Answers, IsReply, Refuses, after, next, is_refusal, in_front_of, refuses_undo, refuses_redo, serials_of, undone, undone_to, redone, redone_to}
+use Rattle.vpg_desk.specs.Book.{Family, Book, Kept, Call, Decide, Retract, Reset, Undo, Redo, Keep, Forget, Order, Commit, Settled, Verdict, Page, Reply, Changed, Undone as UndoneIs, Redone as RedoneIs, Answers, IsReply, Refuses, after, next, is_refusal, in_front_of, refuses_undo, refuses_redo, serials_of, undone, undone_to, redone, redone_to}
 use Rattle.vpg_office.specs.Story.{call_of, reply_of}
 use Rattle.vpg_office.specs.Told.{AgreeOnTops, AreAlike, Leads, NearestAgree, only_appends}
 use Rattle.vpg_office.specs.declared.alike.Alike.{Alike}
@@ -91,6 +91,7 @@ module _ (family : Family) (b : Book) (session : ℕ) where
   answered : (call : Call) (reply : Reply) → Refuses family b call None → Answers family b call reply → Follows family b reply (next family b session call reply)
   answered (Decide f v) reply refuses told = subst (λ (r : Reply). Follows family b r (next family b session (Decide f v) r)) (sym told) refl
   answered (Retract f) reply refuses told = subst (λ (r : Reply). Follows family b r (next family b session (Retract f) r)) (sym told) refl
+  answered Reset reply refuses told = subst (λ (r : Reply). Follows family b r (next family b session Reset r)) (sym told) refl
   answered (Undo s) reply refuses told =
       subst (λ (r : Reply). Follows family b r (next family b session (Undo s) r)) (sym told) (undoes b s b.past refl (sym refuses))
   answered (Redo s) reply refuses told =
@@ -259,15 +260,16 @@ module _ (family : Family) (old new : Book) (answer : Answer) {asked : SessionCa
       go session false e = retracted_agrees family f old.present e
 
 -- the other calls only append entries
-pub appends_else : (asked : SessionCall) → ((f : ℕ) → asked ≡ ask.Retract f → ⊥) → ((s : ℕ) → asked ≡ ask.Undo s → ⊥) → ((s : ℕ) → asked ≡ ask.Redo s → ⊥) → only_appends asked ≡ true
-appends_else (ask.Decide f value) retract undo redo = refl
-appends_else (ask.Retract f) retract undo redo = absurd (retract f refl)
-appends_else (ask.Undo s) retract undo redo = absurd (undo s refl)
-appends_else (ask.Redo s) retract undo redo = absurd (redo s refl)
-appends_else (ask.Keep s) retract undo redo = refl
-appends_else (ask.Forget s) retract undo redo = refl
-appends_else ask.Order retract undo redo = refl
-appends_else (ask.Commit harvest) retract undo redo = refl
-appends_else ask.Settled retract undo redo = refl
-appends_else (ask.Verdict v) retract undo redo = refl
-appends_else ask.Page retract undo redo = refl
+pub appends_else : (asked : SessionCall) → ((f : ℕ) → asked ≡ ask.Retract f → ⊥) → (asked ≡ ask.Reset → ⊥) → ((s : ℕ) → asked ≡ ask.Undo s → ⊥) → ((s : ℕ) → asked ≡ ask.Redo s → ⊥) → only_appends asked ≡ true
+appends_else (ask.Decide f value) retract resets undo redo = refl
+appends_else (ask.Retract f) retract resets undo redo = absurd (retract f refl)
+appends_else ask.Reset retract resets undo redo = absurd (resets refl)
+appends_else (ask.Undo s) retract resets undo redo = absurd (undo s refl)
+appends_else (ask.Redo s) retract resets undo redo = absurd (redo s refl)
+appends_else (ask.Keep s) retract resets undo redo = refl
+appends_else (ask.Forget s) retract resets undo redo = refl
+appends_else ask.Order retract resets undo redo = refl
+appends_else (ask.Commit harvest) retract resets undo redo = refl
+appends_else ask.Settled retract resets undo redo = refl
+appends_else (ask.Verdict v) retract resets undo redo = refl
+appends_else ask.Page retract resets undo redo = refl

@@ -94,6 +94,7 @@ quiet_agrees family old new tail is quiet = λ which v. sym (
 puts : (family : Family) (book : Book) (session : ℕ) (asked : SessionCall) (answer : Answer) → only_appends asked ≡ true → (tail : List Entry) × ((after family book session (call_of asked answer)).present ≡ book.present ++ tail)
 puts family book session (ask.Decide f value) answer is = (decision book session f value ∷ [], refl)
 puts family book session (ask.Retract f) answer is = absurd (false≢true is)
+puts family book session ask.Reset answer is = absurd (false≢true is)
 puts family book session (ask.Undo s) answer is = absurd (false≢true is)
 puts family book session (ask.Redo s) answer is = absurd (false≢true is)
 puts family book session (ask.Keep s) answer is = ([], sym (append-nil book.present))

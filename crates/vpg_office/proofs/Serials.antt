@@ -4,7 +4,7 @@ use Rattle.std.specs.List.{list_any}
 use Rattle.std.specs.Prelude.{IsFalse}
 use Rattle.std.proofs.lemmas.Bool.{or_parts, or_from}
 use Rattle.vpg_trail.specs.Page.{Entry as Step}
-use Rattle.vpg_desk.specs.Book.{Family, Book, Kept, Call, Decide, Retract, Undo, Redo, Keep, Forget, Order, Commit, Settled, Verdict, Page, Reply, Changed, Undone as UndoneIs, Redone as RedoneIs, Answers, IsReply, Refuses, next, refuses_undo, refuses_redo, serials_of, undone, redone}
+use Rattle.vpg_desk.specs.Book.{Family, Book, Kept, Call, Decide, Retract, Reset, Undo, Redo, Keep, Forget, Order, Commit, Settled, Verdict, Page, Reply, Changed, Undone as UndoneIs, Redone as RedoneIs, Answers, IsReply, Refuses, next, refuses_undo, refuses_redo, serials_of, undone, redone}
 use Rattle.vpg_desk.specs.History.{Event, IsBeforeLast}
 use Rattle.vpg_desk.proofs.Serials.{IsOrdered, Falls, Rises, newest_of, below_high, undo_newest, redo_nearest}
 use Rattle.vpg_desk.proofs.UndoRedo.{last_is_one}
@@ -69,6 +69,7 @@ module _ (family : Family) (b : Book) (session : ℕ) (o : IsOrdered b) where
   answered : (call : Call) (reply : Reply) → Refuses family b call None → Answers family b call reply → TokenFits call reply
   answered (Decide f v) reply refuses told = subst (TokenFits (Decide f v)) (sym told) ((omega arith, omega arith), max_next b.changes)
   answered (Retract f) reply refuses told = subst (TokenFits (Retract f)) (sym told) ((omega arith, omega arith), max_next b.changes)
+  answered Reset reply refuses told = subst (TokenFits Reset) (sym told) ((omega arith, omega arith), max_next b.changes)
   answered (Undo t) reply refuses told =
       let h = newest_fits b.past b.future (b.changes + 1) t (sym refuses) o.falls o.rises in
       subst (TokenFits (Undo t)) (sym told) ((h.0, omega (arith, h.1)), undone_changes b b.past ∙ max_low t b.changes (omega (arith, h.1)))

@@ -10,7 +10,7 @@ use Rattle.vpg_office.specs.Story.{call_of, reply_of}
 use Rattle.vpg_office.specs.declared.alike.Alike.{Alike}
 use Rattle.vpg_office.specs.declared.asked.Answer.{Answer}
 use Rattle.vpg_office.specs.declared.asked.SessionCall.{SessionCall}
-use Rattle.vpg_office.specs.declared.asked.SessionCall.TheVariants.{Retract, Undo, Redo}
+use Rattle.vpg_office.specs.declared.asked.SessionCall.TheVariants.{Retract, Reset, Undo, Redo}
 
 -- the verdict of each vertex
 pub record AreVerdictsOf (desk : DeskState) (verdicts : List Said) : Type 0 where
@@ -20,6 +20,7 @@ pub record AreVerdictsOf (desk : DeskState) (verdicts : List Said) : Type 0 wher
 -- the desk only appends entries to its page for this call, or leaves it
 abbrev pub only_appends : SessionCall → Bool
 only_appends (Retract f) = false
+only_appends Reset = false
 only_appends (Undo serial) = false
 only_appends (Redo serial) = false
 only_appends _ = true

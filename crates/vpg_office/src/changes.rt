@@ -4,7 +4,7 @@ use crate::calls::{Call, Issued, Made, issue_token};
 use crate::purse::Purse;
 use crate::terms::Terms;
 use std::alloc::Global;
-use vpg_desk::{DecideFault, Desk, RetractFault};
+use vpg_desk::{DecideFault, Desk, ResetFault, RetractFault};
 use vpg_faults::Returned;
 
 /// Decides a feature in or out.
@@ -79,6 +79,45 @@ impl<L: Terms> Call<L> for RetractCall {
         session: u32,
     ) -> Result<Made<Issued<L, vpg_desk::Undo>>, Returned<Option<RetractFault>, RetractCall>> {
         match desk.retract(self.alloc, session, self.feature) {
+            Ok(token) => Ok(issue_token(purse, token)),
+            Err(fault) => Err(Returned {
+                fault: Some(fault),
+                value: self,
+            }),
+        }
+    }
+}
+
+/// Retracts every decision.
+#[derive(Drop)]
+pub struct ResetCall {
+    pub(crate) alloc: Global,
+}
+
+impl<L: Terms> Call<L> for ResetCall {
+    ghost use Rattle.std.specs.Prelude.{◌≡◌, ⊤};
+    ghost use Rattle.vpg_office.specs.declared.asked.Answer.TheVariants as answer;
+    ghost use Rattle.vpg_office.specs.declared.asked.SessionCall.TheVariants as ask;
+
+    type Given = Issued<L, vpg_desk::Undo>;
+
+    type Refused = ResetFault;
+
+    ghost asks = { λ c. ask.Reset };
+
+    ghost answers = { λ g. answer.Changed g.token };
+
+    ghost Takes = { λ c. ⊤ };
+
+    ghost Gives = { λ c b g. (g.share.amount ≡ 1) × (g.share.parts ≡ 1) };
+
+    fn carry_out(
+        self,
+        desk: &mut Desk,
+        purse: &mut Purse<L>,
+        session: u32,
+    ) -> Result<Made<Issued<L, vpg_desk::Undo>>, Returned<Option<ResetFault>, ResetCall>> {
+        match desk.reset(self.alloc, session) {
             Ok(token) => Ok(issue_token(purse, token)),
             Err(fault) => Err(Returned {
                 fault: Some(fault),

@@ -206,8 +206,8 @@ impl<L: Terms> Shared<Row, L, Log<L>> {
     }
 
     /// Returns a watch of the sheets that the office publishes. There is one sheet from the opening, and one for each
-    /// accepted decide, retract, undo, redo and commit, if memory allows it. Its first read returns the sheet that is
-    /// shown now or a later one. It takes no memory; the one refusal is that there are 64 watches.
+    /// accepted decide, retract, reset, undo, redo and commit, if memory allows it. Its first read returns the sheet
+    /// that is shown now or a later one. It takes no memory; the one refusal is that there are 64 watches.
     pub fn watch<R: Wait>(&self, rt: &R) -> Result<Watch<Front<L>>, NoPlace>
         ensures history { IfOk result (IsHistory (family_between L.game L.diagram)) }
     {

@@ -100,8 +100,8 @@ fn one_raises_to_top(desk: &Desk, entries: &[Entry]) -> bool
 }
 
 /// Whether a call left the verdicts. The page before it had `before` entries, and `alike` is about that page. Entries
-/// that it appended may raise no value to the top. A retraction may remove nothing but its decision. An undo or a redo
-/// has to return to a page that is known to have these verdicts.
+/// that it appended may raise no value to the top. A retraction may remove nothing but its decision. A reset
+/// counts as a change of them. An undo or a redo has to return to a page that is known to have these verdicts.
 fn verdicts_stay(desk: &Desk, alike: Alike, asked: &SessionCall, before: usize) -> bool
     requires { IsTrue (only_appends asked.now) → before ≤ length desk.now.book.present }
     ensures { IsTrue result → (old : Book) (answer : Answer) →
@@ -111,6 +111,7 @@ fn verdicts_stay(desk: &Desk, alike: Alike, asked: &SessionCall, before: usize) 
 {
     match asked {
         SessionCall::Retract { .. } => desk.entries().len() + 1 == before,
+        SessionCall::Reset => false,
         SessionCall::Undo { .. } => alike.past > 0,
         SessionCall::Redo { .. } => alike.future > 0,
         _ => {

@@ -12,7 +12,7 @@ ghost use Rattle.vpg_desk.specs.History.{Event, book_after, page_after};
 ghost use Rattle.vpg_desk.specs.Lawful.{PageIsBelow};
 ghost use Rattle.vpg_desk.specs.Setting.{IsSetting};
 ghost use Rattle.vpg_desk.specs.State.{IsReached, setting_between};
-ghost use Rattle.vpg_faults.specs.Refusals.{decide_refusal, redo_refusal, retract_refusal, undo_refusal};
+ghost use Rattle.vpg_faults.specs.Refusals.{decide_refusal, redo_refusal, reset_refusal, retract_refusal, undo_refusal};
 ghost use Rattle.vpg_office.specs.Faults.{Begins, CommitTells, Tells, logged};
 ghost use Rattle.vpg_faults.specs.Refusals.{never_refused};
 ghost use Rattle.vpg_office.specs.Fronts.{Extends, GoesBackTo, family_between};
@@ -22,7 +22,7 @@ ghost use Rattle.vpg_office.specs.Story.{IsOf};
 
 use crate::asked::SessionCall;
 use crate::calls::Call;
-use crate::changes::{DecideCall, RetractCall};
+use crate::changes::{DecideCall, ResetCall, RetractCall};
 use crate::commits::CommitCall;
 use crate::fault::Fault;
 use crate::front::{Front, Own};
@@ -37,7 +37,7 @@ use std::marker::Model;
 use std::snapshot::Snapshot;
 use std::sync::ledger::Share;
 use std::sync::{Arc, MutexGuard, Wait};
-use vpg_desk::{CommitFault, DecideFault, RedoFault, RetractFault, UndoFault};
+use vpg_desk::{CommitFault, DecideFault, RedoFault, ResetFault, RetractFault, UndoFault};
 use vpg_faults::{Never, Returned};
 use vpg_measure::{Harvest, Order, PageGames};
 use vpg_trail::Page;
@@ -147,6 +147,32 @@ impl<L: Terms> Session<L> {
     {
         let asked = SessionCall::Retract { feature };
         let call = RetractCall { alloc, feature };
+        match self.make(rt, office, front, None, asked, call, Some(alloc)) {
+            Ok(issued) => Ok(Undo::of(issued, front)),
+            Err(back) => Err(back.into_fault()),
+        }
+    }
+
+    /// Retracts every decision, as `Desk::reset`.
+    pub fn reset<R: Wait>(
+        &mut self,
+        rt: &R,
+        alloc: Global,
+        office: &Office<L>,
+        front: &mut Front<L>,
+    ) -> Result<Undo<L>, Fault<L, ResetFault>>
+        ensures done { IfOk result
+            (λ t. Extends (family_between L.game L.diagram) front.old self.old.number book.Reset
+            (book.Changed t.serial) front.new × (t.history ≡ front.new)) }
+        ensures fault { IfErr result
+            (Tells (family_between L.game L.diagram) L.limit reset_refusal
+            book.Reset self.old.number front.old front.new) }
+        ensures same { self.new.number ≡ self.old.number }
+        ensures counted { OnOk result (self.new.calls ≡ self.old.calls + 1) }
+        ensures fault_counted { IfErr result (λ fault. self.new.calls ≡ self.old.calls + logged fault) }
+    {
+        let asked = SessionCall::Reset;
+        let call = ResetCall { alloc };
         match self.make(rt, office, front, None, asked, call, Some(alloc)) {
             Ok(issued) => Ok(Undo::of(issued, front)),
             Err(back) => Err(back.into_fault()),

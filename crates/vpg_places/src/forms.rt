@@ -252,7 +252,7 @@ pub static LINES: [Form; 9] = [
 ];
 
 /// The commands of scripts.
-pub static COMMANDS: [Form; 35] = [
+pub static COMMANDS: [Form; 36] = [
     Form {
         word: "select",
         written: "select F",
@@ -271,6 +271,13 @@ pub static COMMANDS: [Form; 35] = [
         word: "retract",
         written: "retract F",
         parts: &[Part::Feature],
+        optional: 0,
+        rest: None,
+    },
+    Form {
+        word: "reset",
+        written: "reset",
+        parts: &[],
         optional: 0,
         rest: None,
     },

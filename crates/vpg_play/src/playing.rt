@@ -100,9 +100,10 @@ fn let_go(_harvest: Harvest) {}
 
 /// Returns a random change.
 fn change_by(dice: &mut Dice) -> Change {
-    match dice.below(8) {
-        0 | 1 => Change::Retract,
-        2 | 3 | 4 => Change::Select,
+    match dice.below(16) {
+        0 => Change::Reset,
+        1 | 2 | 3 => Change::Retract,
+        4 | 5 | 6 | 7 | 8 | 9 => Change::Select,
         _ => Change::Exclude,
     }
 }

@@ -28,12 +28,13 @@ pub(crate) enum Token<L: Terms> {
     Undone(Redo<L>),
 }
 
-/// A change of one feature.
+/// A change of one feature, or of all.
 #[derive(Clone, Copy)]
 pub(crate) enum Change {
     Select,
     Exclude,
     Retract,
+    Reset,
 }
 
 /// Returns the token of a change.
@@ -91,6 +92,22 @@ fn retract<L: Terms, R: Wait>(
     token
 }
 
+/// Retracts every feature, and returns the token of that.
+fn reset<L: Terms, R: Wait>(
+    rt: &R,
+    alloc: Global,
+    office: &Office<L>,
+    seat: &mut Seat<L>,
+    notes: &mut Notes,
+) -> Token<L> {
+    let Seat { session, front } = seat;
+    notes.begin(session.number(), "reset");
+    let answer = session.reset(rt, alloc, office, front);
+    let token = changed(notes, answer);
+    notes.end(front.len());
+    token
+}
+
 /// Changes a feature, and returns the token of that.
 pub(crate) fn make_change<L: Terms, R: Wait>(
     rt: &R,
@@ -105,6 +122,7 @@ pub(crate) fn make_change<L: Terms, R: Wait>(
         Change::Select => decide(rt, alloc, office, seat, notes, feature, true),
         Change::Exclude => decide(rt, alloc, office, seat, notes, feature, false),
         Change::Retract => retract(rt, alloc, office, seat, notes, feature),
+        Change::Reset => reset(rt, alloc, office, seat, notes),
     }
 }
 

@@ -3,11 +3,12 @@ use Rattle.std.proofs.Common.{◌≡◌, ℕ, ◌+◌, ◌<◌, Bool, List, ◌+
 use Rattle.std.specs.Prelude.{codes, slice_get, IfSome}
 use Rattle.std.proofs.lemmas.Option.{slice_get_within}
 use Rattle.vpg_features.specs.Names.{index_of}
-use Rattle.vpg_desk.specs.Book.{Family, Book, Decide, Retract, Changed, Refused, RefusesDecide, IsReply}
+use Rattle.vpg_desk.specs.Book.{Family, Book, Decide, Retract, Reset, Changed, Refused, RefusesDecide, IsReply}
 use Rattle.vpg_faults.specs.declared.refusal.Refusal.{Refusal}
 use Rattle.vpg_faults.specs.declared.refusal.Refusal.TheVariants.{Conflict}
-use Rattle.vpg_faults.specs.Refusals.{decide_refusal, retract_refusal}
+use Rattle.vpg_faults.specs.Refusals.{decide_refusal, reset_refusal, retract_refusal}
 use Rattle.vpg_faults.specs.declared.fault.DecideFault.{DecideFault}
+use Rattle.vpg_faults.specs.declared.fault.ResetFault.{ResetFault}
 use Rattle.vpg_faults.specs.declared.fault.RetractFault.{RetractFault}
 use Rattle.vpg_desk.specs.Desk.{family_of}
 use Rattle.vpg_desk.specs.State.{setting_of}
@@ -63,6 +64,19 @@ module _ (old : EngineState) (session : ℕ) (name : List ℕ) where
         AnswersTo old (record { label = session; command = script.Retract name }) tone before after new
     retract_refused fault names tells held names_are told =
         unanswered limit limit_is session retract_refusal old new (script.Retract name) (Retract f) fault names before after (ap (λ (x : Option ℕ). call_or NoFeature Retract x) found) tells held names_are told
+
+-- a reset needs no feature
+module _ (old : EngineState) (session limit : ℕ) (limit_is : limit ≡ room) (new : EngineState) (before after : List ℕ) where
+  pub reset_done : {tone : Tone} (s : ℕ) → IsLogged limit old.client session Reset (Changed s) new.client → new.held ≡ after_change old.held s → IsGiven (done (numbered (codes "done") s)) tone before after →
+      AnswersTo old (record { label = session; command = script.Reset }) tone before after new
+  reset_done s logged held appended =
+      asked limit limit_is session old new script.Reset Reset (Changed s) (done (numbered (codes "done") s)) before after refl logged (refl, refl, held) appended
+
+  pub reset_refused : {tone : Tone} (fault : ClientFault ResetFault) (names : List (List ℕ)) → Tells limit reset_refusal old.client session Reset new.client fault →
+      UnlessStray fault (new.held ≡ old.held) → names ≡ new.client.desk.diagram.names → TellsFault names reset_refusal fault tone before after →
+      AnswersTo old (record { label = session; command = script.Reset }) tone before after new
+  reset_refused fault names tells held names_are told =
+      unanswered limit limit_is session reset_refusal old new script.Reset Reset fault names before after refl tells held names_are told
 
 -- a conflict names the feature itself
 pub conflict_is_own : (family : Family) (book : Book) (f g : ℕ) (value : Bool) → IsReply family book (Decide f value) (Refused (Conflict g)) → g ≡ f

@@ -4,7 +4,7 @@ use Rattle.std.specs.Prelude.{IfSome, slice_set}
 use Rattle.std.specs.List.{AllByRecursion}
 use Rattle.vpg_features.specs.Names.{index_of}
 use Rattle.vpg_trail.specs.Page.{Which, Entry}
-use Rattle.vpg_desk.specs.Book.{Family, Book, Harvest, next, Call, Decide, Retract, Undo, Redo, Keep, Forget, Order, Commit, Settled, Page, Reply, Changed, Undone, Redone, Spent, Ordered, Added, IsSettled, VerdictIs, PageIs, Refused}
+use Rattle.vpg_desk.specs.Book.{Family, Book, Harvest, next, Call, Decide, Retract, Reset, Undo, Redo, Keep, Forget, Order, Commit, Settled, Page, Reply, Changed, Undone, Redone, Spent, Ordered, Added, IsSettled, VerdictIs, PageIs, Refused}
 use Rattle.vpg_desk.specs.History.{Event, IsLegalFrom, book_after}
 use Rattle.vpg_desk.specs.Desk.{family_of}
 use Rattle.vpg_desk.specs.Lawful.{IsLawful, HandsIn, AllHandIn}
@@ -152,6 +152,7 @@ module _ (behaviour : Option Behaviour) (scene : Scene) (held : Held) where
     continues made label (script.Select name) reply calls answer new so = tells_changed L held all reply calls answer new so
     continues made label (script.Exclude name) reply calls answer new so = tells_changed L held all reply calls answer new so
     continues made label (script.Retract name) reply calls answer new so = tells_changed L held all reply calls answer new so
+    continues made label script.Reset reply calls answer new so = tells_changed L held all reply calls answer new so
     continues made label (script.Undo s) reply calls answer new so = tells_undone L held all reply calls answer new so
     continues made label (script.Redo s) reply calls answer new so = tells_redone L held all reply calls answer new so
     continues made label (script.Keep s) reply calls answer new so = tells_spent L (after_keep held s) all _ reply calls answer new so
@@ -185,6 +186,7 @@ module _ (behaviour : Option Behaviour) (scene : Scene) (held : Held) where
     serves made label (script.Select name) = begins_or made label (script.Select name) NoFeature (λ f. Decide f Bool.true) (index_of scene.names name) (λ _ _. tt)
     serves made label (script.Exclude name) = begins_or made label (script.Exclude name) NoFeature (λ f. Decide f Bool.false) (index_of scene.names name) (λ _ _. tt)
     serves made label (script.Retract name) = begins_or made label (script.Retract name) NoFeature Retract (index_of scene.names name) (λ _ _. tt)
+    serves made label script.Reset = begins made label script.Reset Reset tt
     serves made label (script.Undo s) = begins_or made label (script.Undo s) NoToken Undo (undo_meant held.undos s) (λ _ _. tt)
     serves made label (script.Redo s) = begins_or made label (script.Redo s) NoToken Redo (redo_meant held.redos s) (λ _ _. tt)
     serves made label (script.Keep s) = begins_or made label (script.Keep s) NoToken Keep (undo_meant held.undos (Some s)) (λ _ _. tt)

@@ -9,7 +9,7 @@ use Rattle.vpg_measure.specs.Lifts.{raised}
 use Rattle.vpg_measure.specs.Orders.{other_table}
 use Rattle.vpg_measure.specs.TwoGames.{levels_for, arena_for}
 use Rattle.vpg_trail.specs.Page.{Which, Hopeful, Dual, Decision, Entry, literal_of, decisions_of, choices_of, table_of}
-use Rattle.vpg_desk.specs.Book.{Family, Book, Harvest, IsSettledPage, raises_of, next, Call, Decide, Retract, Undo, Redo, Keep, Forget, Order, Commit, Settled, Page, Reply, Changed, Undone, Redone, Spent, Ordered, Added, IsSettled, VerdictIs, PageIs, Refused, first_missing, outdated_at, refuses_commit, IsReply}
+use Rattle.vpg_desk.specs.Book.{Family, Book, Harvest, IsSettledPage, raises_of, next, Call, Decide, Retract, Reset, Undo, Redo, Keep, Forget, Order, Commit, Settled, Page, Reply, Changed, Undone, Redone, Spent, Ordered, Added, IsSettled, VerdictIs, PageIs, Refused, first_missing, outdated_at, refuses_commit, IsReply}
 use Rattle.vpg_faults.specs.declared.refusal.Refusal.{Refusal}
 use Rattle.vpg_faults.specs.declared.refusal.Refusal.TheVariants.{OtherGame}
 use Rattle.vpg_desk.specs.History.{Event, IsLegalFrom, book_after}
@@ -345,6 +345,7 @@ module _ (behaviour : Option Behaviour) (scene : Scene) (held : Held) (Told : An
     serves (script.Select name) is = begins_or (script.Select name) NoFeature (λ f. Decide f true) (index_of scene.names name) (λ f reply told. tells_changed _ reply)
     serves (script.Exclude name) is = begins_or (script.Exclude name) NoFeature (λ f. Decide f false) (index_of scene.names name) (λ f reply told. tells_changed _ reply)
     serves (script.Retract name) is = begins_or (script.Retract name) NoFeature Retract (index_of scene.names name) (λ f reply told. tells_changed _ reply)
+    serves script.Reset is = begins script.Reset Reset (λ reply told. tells_changed _ reply)
     serves (script.Undo s) is = begins_or (script.Undo s) NoToken Undo (undo_meant held.undos s) (λ n reply told. tells_undone _ reply)
     serves (script.Redo s) is = begins_or (script.Redo s) NoToken Redo (redo_meant held.redos s) (λ n reply told. tells_redone _ reply)
     serves (script.Keep s) is = begins_or (script.Keep s) NoToken Keep (undo_meant held.undos (Some s)) (λ n reply told. tells_spent _ _ (after_keep held s) reply)
@@ -366,6 +367,7 @@ settle_is_told behaviour scene held book made label (script.Ask inquiry) = λ an
 settle_is_told behaviour scene held book made label (script.Select name) = tt
 settle_is_told behaviour scene held book made label (script.Exclude name) = tt
 settle_is_told behaviour scene held book made label (script.Retract name) = tt
+settle_is_told behaviour scene held book made label script.Reset = tt
 settle_is_told behaviour scene held book made label (script.Undo s) = tt
 settle_is_told behaviour scene held book made label (script.Redo s) = tt
 settle_is_told behaviour scene held book made label (script.Keep s) = tt

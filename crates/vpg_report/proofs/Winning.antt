@@ -318,6 +318,7 @@ module _ (behaviour : Option Behaviour) (scene : Scene) where
     names (script.Select name) calls answer new legal so = by_page (script.Select name) answer (inr tt)
     names (script.Exclude name) calls answer new legal so = by_page (script.Exclude name) answer (inr tt)
     names (script.Retract name) calls answer new legal so = by_page (script.Retract name) answer (inr tt)
+    names script.Reset calls answer new legal so = by_page script.Reset answer (inr tt)
     names (script.Undo s) calls answer new legal so = by_page (script.Undo s) answer (inr tt)
     names (script.Redo s) calls answer new legal so = by_page (script.Redo s) answer (inr tt)
     names (script.Keep s) calls answer new legal so = by_page (script.Keep s) answer (inr tt)

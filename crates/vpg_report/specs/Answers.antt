@@ -10,7 +10,7 @@ use Rattle.vpg_measure.specs.Lifts.{raised}
 use Rattle.vpg_measure.specs.Orders.{other_table}
 use Rattle.vpg_measure.specs.TwoGames.{levels_for, arena_for}
 use Rattle.vpg_trail.specs.Page.{Which, Hopeful, Dual, Decision, Entry, literal_of, decisions_of, table_of}
-use Rattle.vpg_desk.specs.Book.{Family, Harvest, Call, Decide, Retract, Undo, Redo, Keep, Forget, Order, Commit, Settled, Page, Reply, Changed, Undone, Redone, Spent, Ordered, Added, IsSettled, PageIs, Refused}
+use Rattle.vpg_desk.specs.Book.{Family, Harvest, Call, Decide, Retract, Reset, Undo, Redo, Keep, Forget, Order, Commit, Settled, Page, Reply, Changed, Undone, Redone, Spent, Ordered, Added, IsSettled, PageIs, Refused}
 use Rattle.vpg_faults.specs.declared.refusal.Refusal.{Refusal}
 use Rattle.vpg_faults.specs.declared.refusal.Refusal.TheVariants.{UnknownFeature, AlreadyDecided, Conflict, TooManyChanges, NotDecided, Sealed, NotNewest, Overtaken, NotNext, OtherGame, Outdated}
 use Rattle.vpg_desk.specs.History.{Event}
@@ -100,6 +100,7 @@ abbrev pub first_call : Scene → Held → script.Command → Result Call Own
 first_call scene held (script.Select name) = call_or NoFeature (λ f. Decide f true) (index_of scene.names name)
 first_call scene held (script.Exclude name) = call_or NoFeature (λ f. Decide f false) (index_of scene.names name)
 first_call scene held (script.Retract name) = call_or NoFeature Retract (index_of scene.names name)
+first_call scene held script.Reset = Ok Reset
 first_call scene held (script.Undo s) = call_or NoToken Undo (undo_meant held.undos s)
 first_call scene held (script.Redo s) = call_or NoToken Redo (redo_meant held.redos s)
 first_call scene held (script.Keep s) = call_or NoToken Keep (undo_meant held.undos (Some s))
@@ -286,6 +287,7 @@ abbrev pub Continues : Scene → Held → (made : ℕ) → ℕ → script.Comman
 Continues scene held made label (script.Select name) reply calls answer new = TellsChanged held reply calls answer new
 Continues scene held made label (script.Exclude name) reply calls answer new = TellsChanged held reply calls answer new
 Continues scene held made label (script.Retract name) reply calls answer new = TellsChanged held reply calls answer new
+Continues scene held made label script.Reset reply calls answer new = TellsChanged held reply calls answer new
 Continues scene held made label (script.Undo s) reply calls answer new = TellsUndone held reply calls answer new
 Continues scene held made label (script.Redo s) reply calls answer new = TellsRedone held reply calls answer new
 Continues scene held made label (script.Keep s) reply calls answer new =

@@ -9,7 +9,7 @@ ghost use Rattle.vpg_desk.specs.Book as book;
 ghost use Rattle.vpg_desk.specs.Commit.{IsOrderOf, handed_in};
 ghost use Rattle.vpg_faults.specs.Refusals.{commit_refusal};
 ghost use Rattle.vpg_desk.specs.Desk.{family_of};
-ghost use Rattle.vpg_faults.specs.Refusals.{decide_refusal, redo_refusal, retract_refusal, undo_refusal};
+ghost use Rattle.vpg_faults.specs.Refusals.{decide_refusal, redo_refusal, reset_refusal, retract_refusal, undo_refusal};
 ghost use Rattle.vpg_desk.specs.Headline.{Tells as PageTells};
 ghost use Rattle.vpg_desk.specs.Lawful.{PageIsBelow};
 ghost use Rattle.vpg_desk.specs.Setting.{IsSetting};
@@ -23,7 +23,7 @@ use crate::client::{Client, seat};
 use crate::fault::{ClientFault, Token, follow_answer, follow_returned};
 use std::alloc::Global;
 use std::sync::{Arc, Wait};
-use vpg_desk::{CommitFault, DecideFault, RedoFault, RetractFault, UndoFault};
+use vpg_desk::{CommitFault, DecideFault, RedoFault, ResetFault, RetractFault, UndoFault};
 use vpg_faults::Returned;
 use vpg_measure::{Harvest, Order, PageGames};
 use vpg_office::{Never, Redo, Terms, Undo};
@@ -92,6 +92,31 @@ impl<L: Terms> Client<L> {
             &mut self.front,
             feature,
         );
+        follow_answer(&answer, &mut self.front);
+        answered(answer, calls, &self.front)
+    }
+
+    /// Retracts every decision, as `Desk::reset`. The token stands for the page that was present. If the call strayed,
+    /// the token comes back with the fault.
+    pub fn reset<R: Wait>(
+        &mut self,
+        rt: &R,
+        alloc: Global,
+        label: u32,
+    ) -> Result<Undo<L>, Returned<ClientFault<ResetFault>, Option<Undo<L>>>>
+        ensures accepted { IfOk result
+            (λ undo. IsLogged L.limit self.old label book.Reset (book.Changed undo.serial) self.new) }
+        ensures token { IfOk result (λ undo. page_of self.new.desk undo ≡ self.old.desk.book.present) }
+        ensures fault { IfErr result
+            (λ r. Tells L.limit reset_refusal self.old label book.Reset self.new r.fault) }
+        ensures back { IfErr result (λ r. UnlessStray r.fault (r.value ≡ None)) }
+    {
+        let place = match seat(rt, &self.office, &mut self.sessions, label) {
+            Ok(place) => place,
+            Err(fault) => return Err(Returned { fault, value: None }),
+        };
+        let calls = self.front.len();
+        let answer = self.sessions[place].reset(rt, alloc, &self.office, &mut self.front);
         follow_answer(&answer, &mut self.front);
         answered(answer, calls, &self.front)
     }

@@ -14,7 +14,7 @@ ghost use Rattle.vpg_report.specs.Client.{HasUnknownCall, IsLogged};
 ghost use Rattle.vpg_report.specs.Faults.{IsAstray, Tells};
 ghost use Rattle.vpg_report.specs.Answers.{IsOwn};
 ghost use Rattle.vpg_report.specs.Engine.{AnswersTo, SweepsTo, IsOpenFault, deciding, engine_of};
-ghost use Rattle.vpg_script.specs.Script.{Retract, Undo as Undoes, Redo as Redoes, Keep, Forget, Lift, Harvest as Harvests, Commit, Settle, Look, Changed, Known};
+ghost use Rattle.vpg_script.specs.Script.{Retract, Reset, Undo as Undoes, Redo as Redoes, Keep, Forget, Lift, Harvest as Harvests, Commit, Settle, Look, Changed, Known};
 ghost use Rattle.vpg_script.specs.View.{lookup_shown, request_shown, vertex_shown};
 
 use crate::answering::LIMITS;
@@ -148,6 +148,28 @@ impl<L: Terms> Engine<L> {
         };
         self.undos.reserve(1)?;
         match self.client.retract(rt, alloc, session, feature) {
+            Ok(undo) => hold_undo(&mut self.undos, undo, b"done", out),
+            Err(Returned { fault, value }) => {
+                hold_strayed(&mut self.undos, value);
+                lines::put_fault(self.names(), fault, out)
+            }
+        }
+    }
+
+    /// Retracts every decision.
+    fn reset<R: Wait>(
+        &mut self,
+        rt: &R,
+        alloc: Global,
+        session: u32,
+        out: &mut Vec<u8>,
+    ) -> Result<Tone, ServeFault>
+        ensures answer { IfOk result (λ tone. AnswersTo self.old
+            (record { label = session; command = Reset }) tone out.old.items out.new.items self.new) }
+        ensures strayed { IsErrOf result ServeFault.Stray → IsAstray self.old.client session self.new.client }
+    {
+        self.undos.reserve(1)?;
+        match self.client.reset(rt, alloc, session) {
             Ok(undo) => hold_undo(&mut self.undos, undo, b"done", out),
             Err(Returned { fault, value }) => {
                 hold_strayed(&mut self.undos, value);
@@ -566,6 +588,7 @@ impl<L: Terms> Engine<L> {
             Command::Select(name) => self.decide(rt, alloc, session, *name, true, out),
             Command::Exclude(name) => self.decide(rt, alloc, session, *name, false, out),
             Command::Retract(name) => self.retract(rt, alloc, session, *name, out),
+            Command::Reset => self.reset(rt, alloc, session, out),
             Command::Undo(serial) => self.undo(rt, alloc, session, *serial, out),
             Command::Redo(serial) => self.redo(rt, alloc, session, *serial, out),
             Command::Keep(serial) => self.keep(rt, session, *serial, out),

@@ -47,6 +47,7 @@ none_command features (script.Ask inquiry) = ap (λ (i : script.Inquiry). script
 none_command features (script.Select name) = refl
 none_command features (script.Exclude name) = refl
 none_command features (script.Retract name) = refl
+none_command features script.Reset = refl
 none_command features (script.Undo s) = refl
 none_command features (script.Redo s) = refl
 none_command features (script.Keep s) = refl

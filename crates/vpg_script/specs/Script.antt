@@ -134,6 +134,8 @@ pub data Command : Type 0 where
   Select : (name : List ℕ) → Command
   Exclude : (name : List ℕ) → Command
   Retract : (name : List ℕ) → Command
+  -- takes back all decisions
+  Reset : Command
   Undo : (serial : Option ℕ) → Command
   Redo : (serial : Option ℕ) → Command
   Keep : (serial : ℕ) → Command
@@ -188,6 +190,7 @@ verb_of w =
     if bytes_eq w (codes "select") then Some verbs.Select
     else if bytes_eq w (codes "exclude") then Some verbs.Exclude
     else if bytes_eq w (codes "retract") then Some verbs.Retract
+    else if bytes_eq w (codes "reset") then Some verbs.Reset
     else if bytes_eq w (codes "undo") then Some verbs.Undo
     else if bytes_eq w (codes "redo") then Some verbs.Redo
     else if bytes_eq w (codes "keep") then Some verbs.Keep
@@ -200,6 +203,7 @@ verb_of w =
 
 -- a command without arguments
 abbrev pub bare_command : Verb → Option Command
+bare_command verbs.Reset = Some Reset
 bare_command verbs.Undo = Some (Undo None)
 bare_command verbs.Redo = Some (Redo None)
 bare_command verbs.Harvest = Some Harvest

@@ -49,6 +49,7 @@ abbrev pub command_shown : Command → script.Command
 command_shown (commands.Select f) = script.Select f.now
 command_shown (commands.Exclude f) = script.Exclude f.now
 command_shown (commands.Retract f) = script.Retract f.now
+command_shown commands.Reset = script.Reset
 command_shown (commands.Undo s) = script.Undo s
 command_shown (commands.Redo s) = script.Redo s
 command_shown (commands.Keep s) = script.Keep s

@@ -32,6 +32,7 @@ pub enum Verb {
     Select,
     Exclude,
     Retract,
+    Reset,
     Undo,
     Redo,
     Keep,
@@ -169,6 +170,7 @@ pub enum Command<'t> {
     Select(&'t [u8]),
     Exclude(&'t [u8]),
     Retract(&'t [u8]),
+    Reset,
     Undo(Option<u64>),
     Redo(Option<u64>),
     Keep(u64),
@@ -271,6 +273,8 @@ fn verb_named(word: &[u8]) -> Option<Verb>
         Some(Verb::Exclude)
     } else if same(word, b"retract") {
         Some(Verb::Retract)
+    } else if same(word, b"reset") {
+        Some(Verb::Reset)
     } else if same(word, b"undo") {
         Some(Verb::Undo)
     } else if same(word, b"redo") {
@@ -363,6 +367,7 @@ fn bare_command<'t>(verb: Verb) -> Option<Command<'t>>
     ensures { option_map command_shown result ≡ bare_command verb }
 {
     match verb {
+        Verb::Reset => Some(Command::Reset),
         Verb::Undo => Some(Command::Undo(None)),
         Verb::Redo => Some(Command::Redo(None)),
         Verb::Harvest => Some(Command::Harvest),

@@ -128,6 +128,7 @@ fn meant_command<'t>(
         Command::Select(name) => Ok(Command::Select(*name)),
         Command::Exclude(name) => Ok(Command::Exclude(*name)),
         Command::Retract(name) => Ok(Command::Retract(*name)),
+        Command::Reset => Ok(Command::Reset),
         Command::Undo(serial) => Ok(Command::Undo(*serial)),
         Command::Redo(serial) => Ok(Command::Redo(*serial)),
         Command::Keep(serial) => Ok(Command::Keep(*serial)),

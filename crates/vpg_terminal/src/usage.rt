@@ -26,7 +26,7 @@ Scripts, one command a line (F a feature, S a change's number, V a vertex: its
 identifier, the name of its requirement, or its name in quotes, K a harvest's
 number, N a number):
   select F, exclude F    decide that F is in or out
-  retract F              take that decision back
+  retract F, reset       take that decision back; take all of them back
   undo [S], redo [S]     the latest change, or the change S
   keep S                 give up the right to undo S and all before it
   forget S               give up the right to redo S and all behind it

@@ -10,7 +10,7 @@ use crate::lifting::given::{let_go, small};
 use std::process::Abort;
 use std::sync::Wait;
 use std::test::*;
-use vpg_desk::{CommitFault, DecideFault, RedoFault, RetractFault, UndoFault};
+use vpg_desk::{CommitFault, DecideFault, RedoFault, ResetFault, RetractFault, UndoFault};
 use vpg_measure::{Harvest, Order};
 use vpg_verdict::Which;
 
@@ -44,6 +44,7 @@ pub enum RowCall {
     /// These two give a token, which is held there.
     Decide(At, u16, bool),
     Retract(At, u16),
+    Reset(At),
     /// These spend the token that is held there for another, which is held in its place.
     Undo(At),
     Redo(At),
@@ -133,6 +134,7 @@ pub enum Answer {
     Doubled(usize),
     NotDecided(DecideFault),
     NotRetracted(RetractFault),
+    NotReset(ResetFault),
     NotUndone(UndoFault),
     NotRedone(RedoFault),
     NotCommitted(CommitFault),
@@ -253,6 +255,7 @@ pub fn answered<S: Calls, R: Wait + Abort + AllocGlobal>(
 {
     match call {
         RowCall::Decide(at, ..) | RowCall::Retract(at, _) => hand.changes(rt, office, by, at, call),
+        RowCall::Reset(at) => hand.changes(rt, office, by, at, call),
         RowCall::Undo(at) | RowCall::Redo(at) => turned(rt, office, hand, by, at, call),
         RowCall::Keep(at) | RowCall::Forget(at) => hand.changes(rt, office, by, at, call),
         RowCall::Verdict(vertex) if vertex < 2 => hand.verdict(rt, office, by, vertex),

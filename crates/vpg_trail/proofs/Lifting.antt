@@ -1,9 +1,9 @@
 -- Lifts that stand after the entries before them, and tables with entries taken back.
 use Rattle.std.proofs.Common.{◌≡◌, ℕ, ◌+◌, ◌<◌, ◌≤◌, Bool, true, false, cond, not, List, [], ◌∷◌, ◌++◌, map, filter, length, take, drop, get_or, slice_set, arith, refl, sym, ap, ◌∙◌, subst, append_assoc}
 use Rattle.std.proofs.lemmas.List.{set-set, set-get_or, get_or_default}
-use Rattle.vpg_trail.specs.Page.{Which, Lift as Raise, Entry as Step, Decided, Lifted, same_table, assumes, value_at, table_of, reset, reset_all}
+use Rattle.vpg_trail.specs.Page.{Which, Lift as Raise, Entry as Step, Decided, Lifted, same_table, assumes, is_free, value_at, table_of, reset, reset_all}
 use Rattle.vpg_trail.specs.WellFormed.{LiftStands, LiftsStandAfter}
-use Rattle.vpg_trail.specs.Laws.{WellFormedLiftsStand, LiftsStandInParts, RetractedLiftsStand}
+use Rattle.vpg_trail.specs.Laws.{WellFormedLiftsStand, LiftsStandInParts, RetractedLiftsStand, FreeLiftsStand}
 use Rattle.vpg_trail.specs.declared.entry.Entry.{Entry}
 use Rattle.vpg_trail.specs.declared.entry.Entry.TheVariants.{Decide, Lift}
 use Rattle.vpg_trail.specs.Shown.{entry_of, VertexBelow, before_entry}
@@ -25,30 +25,45 @@ lifts_stand_in_parts before page more = (stand_parts LiftStands before page more
 abbrev IsLowerPage : List Step → List Step → Type 0
 IsLowerPage low high = (table : Which) (v : ℕ) → value_at table v low ≤ value_at table v high
 
-stay_standing : (f : ℕ) (low high later : List Step) → IsLowerPage low high → LiftsStandAfter high later → LiftsStandAfter low (reset_all low (filter (λ e. not (assumes f e)) later))
-stay_standing f low high [] t w = tt
-stay_standing f low high (Decided d ∷ later) t w =
-    (tt, stay_standing f (low ++ Decided d ∷ []) (high ++ Decided d ∷ []) later (λ table v. omega (arith, value_at-append table v low (Decided d ∷ []), value_at-append table v high (Decided d ∷ []), t table v)) w.1)
-stay_standing f low high (Lifted l ∷ later) t w =
-    go (assumes f (Lifted l))
-    (stay_standing f low (high ++ Lifted l ∷ []) later (λ table v. omega (arith, value_at-append table v high (Lifted l ∷ []), t table v)) w.1)
-    (stay_standing f (low ++ reset low (Lifted l) ∷ []) (high ++ Lifted l ∷ []) later (λ table v. omega (arith, value_at-append table v low (reset low (Lifted l) ∷ []), value_at-append table v high (Lifted l ∷ []), t table v)) w.1)
+stay_standing : (keep : Step → Bool) (low high later : List Step) → IsLowerPage low high → LiftsStandAfter high later → LiftsStandAfter low (reset_all low (filter keep later))
+stay_standing keep low high [] t w = tt
+stay_standing keep low high (Decided d ∷ later) t w =
+    go (keep (Decided d))
+    (stay_standing keep low (high ++ Decided d ∷ []) later (λ table v. omega (arith, value_at-append table v high (Decided d ∷ []), t table v)) w.1)
+    (stay_standing keep (low ++ Decided d ∷ []) (high ++ Decided d ∷ []) later (λ table v. omega (arith, value_at-append table v low (Decided d ∷ []), value_at-append table v high (Decided d ∷ []), t table v)) w.1)
   where
-    go : (b : Bool) → LiftsStandAfter low (reset_all low (filter (λ e. not (assumes f e)) later)) →
-        LiftsStandAfter (low ++ reset low (Lifted l) ∷ []) (reset_all (low ++ reset low (Lifted l) ∷ []) (filter (λ e. not (assumes f e)) later)) →
-        LiftsStandAfter low (reset_all low (cond (not b) (Lifted l ∷ filter (λ e. not (assumes f e)) later) (filter (λ e. not (assumes f e)) later)))
-    go true dropped stays = dropped
-    go false dropped stays = ((refl, omega (arith, t l.table l.vertex, w.0.0, w.0.1)), stays)
+    go : (b : Bool) → LiftsStandAfter low (reset_all low (filter keep later)) →
+        LiftsStandAfter (low ++ Decided d ∷ []) (reset_all (low ++ Decided d ∷ []) (filter keep later)) →
+        LiftsStandAfter low (reset_all low (cond b (Decided d ∷ filter keep later) (filter keep later)))
+    go true dropped stays = (tt, stays)
+    go false dropped stays = dropped
+stay_standing keep low high (Lifted l ∷ later) t w =
+    go (keep (Lifted l))
+    (stay_standing keep low (high ++ Lifted l ∷ []) later (λ table v. omega (arith, value_at-append table v high (Lifted l ∷ []), t table v)) w.1)
+    (stay_standing keep (low ++ reset low (Lifted l) ∷ []) (high ++ Lifted l ∷ []) later (λ table v. omega (arith, value_at-append table v low (reset low (Lifted l) ∷ []), value_at-append table v high (Lifted l ∷ []), t table v)) w.1)
+  where
+    go : (b : Bool) → LiftsStandAfter low (reset_all low (filter keep later)) →
+        LiftsStandAfter (low ++ reset low (Lifted l) ∷ []) (reset_all (low ++ reset low (Lifted l) ∷ []) (filter keep later)) →
+        LiftsStandAfter low (reset_all low (cond b (Lifted l ∷ filter keep later) (filter keep later)))
+    go true dropped stays = ((refl, omega (arith, t l.table l.vertex, w.0.0, w.0.1)), stays)
+    go false dropped stays = dropped
+
+-- the entry that is retracted only raises the tables
+standing_without : (keep : Step → Bool) (before later : List Step) (e : Step) → LiftsStandAfter (before ++ e ∷ []) later → LiftsStandAfter before (reset_all before (filter keep later))
+standing_without keep before later e w = stay_standing keep before (before ++ e ∷ []) later (λ table v. omega (arith, value_at-append table v before (e ∷ []))) w
 
 pub retracted_lifts_stand : RetractedLiftsStand
-retracted_lifts_stand f before later e w = stay_standing f before (before ++ e ∷ []) later (λ table v. omega (arith, value_at-append table v before (e ∷ []))) w
+retracted_lifts_stand f before later e w = standing_without (λ x. not (assumes f x)) before later e w
+
+pub free_lifts_stand : FreeLiftsStand
+free_lifts_stand before later e w = standing_without is_free before later e w
 
 -- what stays of the entries behind a place
-pub stays_standing : (f place : ℕ) (entries : List Entry) → place < length entries → LiftsStandAfter [] (map entry_of entries) →
-    LiftsStandAfter (map entry_of (take place entries)) (reset_all (map entry_of (take place entries)) (filter (λ e. not (assumes f e)) (map entry_of (drop (place + 1) entries))))
-stays_standing f place [] h w = absurd (omega arith)
-stays_standing f place (e ∷ entries) h w =
-    retracted_lifts_stand f (map entry_of (take place (e ∷ entries))) (map entry_of (drop (place + 1) (e ∷ entries))) (entry_of x)
+pub stays_standing : (keep : Step → Bool) (place : ℕ) (entries : List Entry) → place < length entries → LiftsStandAfter [] (map entry_of entries) →
+    LiftsStandAfter (map entry_of (take place entries)) (reset_all (map entry_of (take place entries)) (filter keep (map entry_of (drop (place + 1) entries))))
+stays_standing keep place [] h w = absurd (omega arith)
+stays_standing keep place (e ∷ entries) h w =
+    standing_without keep (map entry_of (take place (e ∷ entries))) (map entry_of (drop (place + 1) (e ∷ entries))) (entry_of x)
     (stand_parts LiftStands [] (map entry_of (take place (e ∷ entries))) (entry_of x ∷ map entry_of (drop (place + 1) (e ∷ entries)))
     (subst (LiftsStandAfter []) (split_read (e ∷ entries) place x h (get_or_default (e ∷ entries) place e x h)) w)).1.1
   where

@@ -1,5 +1,5 @@
 -- Tables, retracted suffixes and lifts, one entry more.
-use Rattle.std.proofs.Common.{add-one, lt-ltb, le-ltb, Option, Some, IfSome, option_to_list, All, append-nil, append_assoc, not, filter, ◌≡◌, ◌≤◌, ℕ, ◌+◌, ◌<◌, max, Bool, true, false, cond, ◌==◌, Global, List, [], ◌∷◌, ◌++◌, map, length, take, drop, get_or, slice_index, slice_set, arith, refl, sym, ap, ◌∙◌, subst}
+use Rattle.std.proofs.Common.{add-one, lt-ltb, le-ltb, Option, Some, None, IfSome, option_to_list, All, append-nil, append_assoc, filter, ◌≡◌, ◌≤◌, ℕ, ◌+◌, ◌<◌, max, Bool, true, false, cond, ◌==◌, Global, List, [], ◌∷◌, ◌++◌, map, length, take, drop, get_or, slice_index, slice_set, arith, refl, sym, ap, ◌∙◌, subst}
 use Rattle.std.specs.List.{list_any}
 use Rattle.std.proofs.lemmas.Bool.{cond-true, cond-false}
 use Rattle.std.proofs.lemmas.List.Elements.{filter-append, All-take, All-drop}
@@ -7,8 +7,8 @@ use Rattle.std.proofs.lemmas.List.{map_push, get_or_read, map_more}
 use Rattle.std.specs.declared.sync.Arc.{Arc}
 use Rattle.vpg_verdict.specs.declared.which.Which.{Which}
 use Rattle.vpg_verdict.specs.declared.which.Which.TheVariants.{Hopeful, Dual}
-use Rattle.vpg_trail.specs.Page.{Literal, same_table, Entry as Step, Lift as Raise, Lifted, value_at, table_of, assumes, reset, reset_all, raises, raise_to}
-use Rattle.vpg_trail.specs.Shown.{entry_of, VertexBelow, after_entry, what_stays, with_old, picked}
+use Rattle.vpg_trail.specs.Page.{Literal, Decision, same_table, Entry as Step, Lift as Raise, Decided, Lifted, value_at, table_of, reset, reset_all, raises, raise_to}
+use Rattle.vpg_trail.specs.Shown.{entry_of, VertexBelow, after_entry, keeps, lift_stays, what_stays, with_old, picked}
 use Rattle.vpg_trail.specs.declared.entry.Entry.{Entry}
 use Rattle.vpg_trail.specs.declared.entry.Entry.TheVariants.{Decide, Lift}
 use Rattle.vpg_trail.proofs.PageLemmas.{length-table_of}
@@ -53,15 +53,29 @@ read_below entries i n m x h r all e = subst (λ (k : ℕ). VertexBelow k (entry
 
 -- ---- what stays of an entry
 
-module _ (f : ℕ) (hopeful dual : List ℕ) (t : Which) (v old new : ℕ) (under : Arc (List Literal) Global) (e : Entry) (is : e ≡ Lift t v old new under) where
-  pub none_stays : list_any (λ c. c.feature == f) under.value ≡ true → ◌≡◌ {A = List Step} [] (what_stays f hopeful dual (entry_of e))
-  none_stays a = sym (ap (λ (x : Entry). what_stays f hopeful dual (entry_of x)) is ∙ ap (λ (b : Bool). cond b [] (with_old hopeful dual (entry_of (Lift t v old new under)) ∷ [])) a)
+keeps_lift : (feature : Option ℕ) (l : Raise) → keeps feature (Lifted l) ≡ lift_stays feature l.under
+keeps_lift (Some f) l = refl
+keeps_lift None l = refl
 
-  pub some_stays : (copy : Arc (List Literal) Global) (now : ℕ) → copy.value ≡ under.value → now ≡ slice_index (picked t hopeful dual) v → list_any (λ c. c.feature == f) under.value ≡ false →
-      ◌≡◌ {A = List Step} (Lifted (record { table = t; vertex = v; old = now; new = new; under = copy.value }) ∷ []) (what_stays f hopeful dual (entry_of e))
+module _ (feature : Option ℕ) (hopeful dual : List ℕ) (t : Which) (v old new : ℕ) (under : Arc (List Literal) Global) (e : Entry) (is : e ≡ Lift t v old new under) where
+  told : (b : Bool) → lift_stays feature under.value ≡ b → what_stays feature hopeful dual (entry_of e) ≡ cond b (with_old hopeful dual (entry_of (Lift t v old new under)) ∷ []) []
+  told b a = ap (λ (x : Entry). what_stays feature hopeful dual (entry_of x)) is ∙ ap (λ (b : Bool). cond b (with_old hopeful dual (entry_of (Lift t v old new under)) ∷ []) []) (keeps_lift feature _ ∙ a)
+
+  pub none_stays : lift_stays feature under.value ≡ false → ◌≡◌ {A = List Step} [] (what_stays feature hopeful dual (entry_of e))
+  none_stays a = sym (told false a)
+
+  pub some_stays : (copy : Arc (List Literal) Global) (now : ℕ) → copy.value ≡ under.value → now ≡ slice_index (picked t hopeful dual) v → lift_stays feature under.value ≡ true →
+      ◌≡◌ {A = List Step} (Lifted (record { table = t; vertex = v; old = now; new = new; under = copy.value }) ∷ []) (what_stays feature hopeful dual (entry_of e))
   some_stays copy now same o a =
       (λ i. Lifted (record { table = t; vertex = v; old = o i; new = new; under = same i }) ∷ [])
-      ∙ sym (ap (λ (x : Entry). what_stays f hopeful dual (entry_of x)) is ∙ ap (λ (b : Bool). cond b [] (with_old hopeful dual (entry_of (Lift t v old new under)) ∷ [])) a)
+      ∙ sym (told true a)
+
+-- a decision stays where one feature is retracted
+pub decision_stays : (feature : Option ℕ) (hopeful dual : List ℕ) (d : Decision) (e : Entry) (f : ℕ) → e ≡ Decide d → feature ≡ Some f → ◌≡◌ {A = List Step} (Decided d ∷ []) (what_stays feature hopeful dual (entry_of e))
+decision_stays feature hopeful dual d e f is one = sym (λ i. what_stays (one i) hopeful dual (entry_of (is i)))
+
+pub decision_goes : (feature : Option ℕ) (hopeful dual : List ℕ) (d : Decision) (e : Entry) → e ≡ Decide d → feature ≡ None → ◌≡◌ {A = List Step} [] (what_stays feature hopeful dual (entry_of e))
+decision_goes feature hopeful dual d e is all = sym (λ i. what_stays (all i) hopeful dual (entry_of (is i)))
 
 -- the old value that the tables of the page before give
 pub with_old_is : (page : List Step) (n : ℕ) (e : Entry) → VertexBelow n (entry_of e) → with_old (table_of Hopeful page n) (table_of Dual page n) (entry_of e) ≡ reset page (entry_of e)
@@ -81,30 +95,27 @@ vertex_below e n t v old new under is h = subst (λ (x : Entry). VertexBelow n (
 
 -- ---- one entry more after a retract
 
-abbrev pub keeps : ℕ → Step → Bool
-keeps f e = not (assumes f e)
-
-filter_one : (f : ℕ) (later : List Entry) (i : ℕ) (x : Entry) → i < length later → x ≡ get_or later i x →
+filter_one : (f : Option ℕ) (later : List Entry) (i : ℕ) (x : Entry) → i < length later → x ≡ get_or later i x →
     filter (keeps f) (map entry_of (take (i + 1) later)) ≡ filter (keeps f) (map entry_of (take i later)) ++ cond (keeps f (entry_of x)) (entry_of x ∷ []) []
 filter_one f later i x h r =
     ap (filter (keeps f)) (map_more entry_of later i x h ∙ ap (λ (e : Entry). map entry_of (take i later) ++ entry_of e ∷ []) (sym r))
     ∙ filter-append (keeps f) (map entry_of (take i later)) (entry_of x ∷ [])
 
-module _ (f n : ℕ) (before : List Step) (later kept : List Entry) (hopeful dual : List ℕ) (i : ℕ) (x : Entry) (within : i < length later) (read : x ≡ get_or later i x)
+module _ (f : Option ℕ) (n : ℕ) (before : List Step) (later kept : List Entry) (hopeful dual : List ℕ) (i : ℕ) (x : Entry) (within : i < length later) (read : x ≡ get_or later i x)
     (hopeful_is : hopeful ≡ table_of Hopeful (before ++ map entry_of kept) n) (dual_is : dual ≡ table_of Dual (before ++ map entry_of kept) n)
     (kept_is : map entry_of kept ≡ reset_all before (filter (keeps f) (map entry_of (take i later)))) (vertex : VertexBelow n (entry_of x)) where
   pub kept_none : ◌≡◌ {A = List Step} [] (what_stays f hopeful dual (entry_of x)) → map entry_of kept ≡ reset_all before (filter (keeps f) (map entry_of (take (i + 1) later)))
-  kept_none e = kept_is ∙ ap (reset_all before) (sym (filter_one f later i x within read ∙ go (assumes f (entry_of x)) e))
+  kept_none e = kept_is ∙ ap (reset_all before) (sym (filter_one f later i x within read ∙ go (keeps f (entry_of x)) e))
     where
-      go : (b : Bool) → ◌≡◌ {A = List Step} [] (cond b [] (with_old hopeful dual (entry_of x) ∷ [])) →
-          filter (keeps f) (map entry_of (take i later)) ++ cond (not b) (entry_of x ∷ []) [] ≡ filter (keeps f) (map entry_of (take i later))
-      go true k = append-nil (filter (keeps f) (map entry_of (take i later)))
-      go false k = cc
+      go : (b : Bool) → ◌≡◌ {A = List Step} [] (cond b (with_old hopeful dual (entry_of x) ∷ []) []) →
+          filter (keeps f) (map entry_of (take i later)) ++ cond b (entry_of x ∷ []) [] ≡ filter (keeps f) (map entry_of (take i later))
+      go true k = cc
+      go false k = append-nil (filter (keeps f) (map entry_of (take i later)))
 
   pub kept_some : (stays : Entry) → entry_of stays ∷ [] ≡ what_stays f hopeful dual (entry_of x) → map entry_of (kept ++ stays ∷ []) ≡ reset_all before (filter (keeps f) (map entry_of (take (i + 1) later)))
   kept_some stays e =
       map_push entry_of kept stays
-      ∙ go (assumes f (entry_of x)) e
+      ∙ go (keeps f (entry_of x)) e
       ∙ ap (reset_all before) (sym (filter_one f later i x within read))
     where
       old_is : with_old hopeful dual (entry_of x) ≡ reset (before ++ reset_all before (filter (keeps f) (map entry_of (take i later)))) (entry_of x)
@@ -113,13 +124,13 @@ module _ (f n : ℕ) (before : List Step) (later kept : List Entry) (hopeful dua
           ∙ with_old_is (before ++ map entry_of kept) n x vertex
           ∙ ap (λ (l : List Step). reset (before ++ l) (entry_of x)) kept_is
 
-      go : (b : Bool) → entry_of stays ∷ [] ≡ cond b [] (with_old hopeful dual (entry_of x) ∷ []) →
-          map entry_of kept ++ entry_of stays ∷ [] ≡ reset_all before (filter (keeps f) (map entry_of (take i later)) ++ cond (not b) (entry_of x ∷ []) [])
-      go true k = cc
-      go false k =
+      go : (b : Bool) → entry_of stays ∷ [] ≡ cond b (with_old hopeful dual (entry_of x) ∷ []) [] →
+          map entry_of kept ++ entry_of stays ∷ [] ≡ reset_all before (filter (keeps f) (map entry_of (take i later)) ++ cond b (entry_of x ∷ []) [])
+      go true k =
           (λ j. kept_is j ++ k j)
           ∙ ap (λ (s : Step). reset_all before (filter (keeps f) (map entry_of (take i later))) ++ s ∷ []) old_is
           ∙ sym (reset_one_more before (filter (keeps f) (map entry_of (take i later))) (entry_of x))
+      go false k = cc
 
 pub kept_table : (table : Which) (n : ℕ) (before : List Step) (kept : List Entry) (old new : List ℕ) (stays : Entry) → old ≡ table_of table (before ++ map entry_of kept) n → new ≡ after_entry table old (entry_of stays) → VertexBelow n (entry_of stays) →
     new ≡ table_of table (before ++ map entry_of (kept ++ stays ∷ [])) n

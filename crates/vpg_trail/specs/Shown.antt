@@ -1,8 +1,9 @@
 -- Entries as contracts see them, and tables entry by entry.
-use Rattle.std.specs.Prelude.{ℕ, ◌≡◌, ◌<◌, max, slice_index, slice_set, if◌then◌else◌, List, [], ◌∷◌, All, ⊤}
+use Rattle.std.specs.Prelude.{ℕ, ◌≡◌, ◌<◌, Bool, not, max, slice_index, slice_set, if◌then◌else◌, List, [], ◌∷◌, length, ◌==◌, All, Option, Some, None, ⊤}
+use Rattle.std.specs.List.{list_any}
 use Rattle.vpg_verdict.specs.declared.which.Which.{Which}
 use Rattle.vpg_verdict.specs.declared.which.Which.TheVariants.{Hopeful, Dual}
-use Rattle.vpg_trail.specs.Page.{assumes, same_table, table_of, Entry as Step, Decided, Lifted}
+use Rattle.vpg_trail.specs.Page.{Literal, assumes, is_free, same_table, table_of, Entry as Step, Decided, Lifted}
 use Rattle.vpg_trail.specs.WellFormed.{LiftsStandAfter}
 use Rattle.vpg_trail.specs.declared.entry.Entry.{Entry}
 use Rattle.vpg_trail.specs.declared.entry.Entry.TheVariants.{Decide, Lift}
@@ -40,13 +41,23 @@ abbrev pub picked : Which → List ℕ → List ℕ → List ℕ
 picked Hopeful hopeful dual = hopeful
 picked Dual hopeful dual = dual
 
--- the entry with the old value that the tables give, unless it assumed f
+-- the entry with the old value that the tables give
 abbrev pub with_old : List ℕ → List ℕ → Step → Step
 with_old hopeful dual (Decided d) = Decided d
 with_old hopeful dual (Lifted l) = Lifted (record l { old = slice_index (picked l.table hopeful dual) l.vertex })
 
-abbrev pub what_stays : ℕ → List ℕ → List ℕ → Step → List Step
-what_stays f hopeful dual e = if assumes f e then [] else with_old hopeful dual e ∷ []
+-- a lift that assumed these choices stays once f is retracted, or every decision
+abbrev pub lift_stays : Option ℕ → List Literal → Bool
+lift_stays (Some f) under = not (list_any (λ c. c.feature == f) under)
+lift_stays None under = length under == 0
+
+-- what a retraction keeps: each entry that did not assume f; or, if every decision is retracted, each free lift
+abbrev pub keeps : Option ℕ → Step → Bool
+keeps (Some f) = λ e. not (assumes f e)
+keeps None = is_free
+
+abbrev pub what_stays : Option ℕ → List ℕ → List ℕ → Step → List Step
+what_stays feature hopeful dual e = if keeps feature e then with_old hopeful dual e ∷ [] else []
 
 -- the tables are those of the entries, and each lift's old value is the one that the entries before it give, below its
 -- new one

@@ -1,5 +1,5 @@
 //! Entries: decisions, and lifts with the decisions that they assumed.
-ghost use Rattle.std.specs.Prelude.{◌≡◌, ◌==◌, IfOk};
+ghost use Rattle.std.specs.Prelude.{◌≡◌, ◌==◌, length, IfOk};
 ghost use Rattle.std.specs.List.{list_any};
 
 use std::alloc::AllocError;
@@ -44,6 +44,12 @@ impl Assumed {
         ensures { result.now ≡ self.now }
     {
         self.literals.as_slice()
+    }
+
+    pub fn is_empty(&self) -> bool
+        ensures { result ≡ (length self.now == 0) }
+    {
+        self.literals.is_empty()
     }
 
     /// Whether a literal is on this feature.

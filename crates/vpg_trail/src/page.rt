@@ -1,6 +1,6 @@
 //! The decisions that the entries of a page give, and a page by itself.
-ghost use Rattle.std.specs.Prelude.{◌≡◌, ◌+◌, ◌<◌, length, map, take, drop, is_some, IfOk, IfSome};
-ghost use Rattle.vpg_trail.specs.Page.{decisions_of, decision_on, has_decided, before_decision, after_decision};
+ghost use Rattle.std.specs.Prelude.{◌≡◌, ◌+◌, ◌<◌, [], ◌∷◌, length, map, take, drop, is_some, IfOk, IfSome, IfNone};
+ghost use Rattle.vpg_trail.specs.Page.{Decided, Decision as Chosen, decisions_of, decision_on, has_decided, before_decision, after_decision};
 
 use crate::entry::Entry;
 use std::alloc::{AllocError, Global};
@@ -159,6 +159,23 @@ pub fn place_of(entries: &[Entry], feature: u16) -> Option<usize>
             if decision.feature == feature {
                 return Some(place);
             }
+        }
+    }
+    None
+}
+
+/// Returns the place of the first decision.
+pub fn first_decision(entries: &[Entry]) -> Option<usize>
+    ensures none { IfNone result (decisions_of (map entry_of entries.now) ≡ []) }
+    ensures place { IfSome result (λ place. place < length entries.now) }
+    ensures before { IfSome result (λ place. decisions_of (map entry_of (take place entries.now)) ≡ []) }
+    ensures decision { IfSome result
+        (λ place. (d : Chosen) × (map entry_of (drop place entries.now)
+        ≡ Decided d ∷ map entry_of (drop (place + 1) entries.now))) }
+{
+    for i in 0..entries.len() {
+        if let Entry::Decide(_) = &entries[i] {
+            return Some(i);
         }
     }
     None

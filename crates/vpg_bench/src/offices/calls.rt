@@ -32,6 +32,7 @@ pub(crate) enum HeldToken<L: Terms> {
 pub(crate) enum OfficeCall {
     Decide(u16, bool),
     Retract(u16),
+    Reset,
     Undo,
     Redo,
     Keep,
@@ -65,6 +66,7 @@ impl OfficeCall {
             self,
             OfficeCall::Decide(..)
                 | OfficeCall::Retract(_)
+                | OfficeCall::Reset
                 | OfficeCall::Undo
                 | OfficeCall::Redo
                 | OfficeCall::Keep
@@ -155,6 +157,7 @@ pub(crate) fn made<L: Terms, R: Wait>(
             OfficeCall::Retract(feature) => changed(session.retract(
                 rt, alloc, office, front, feature,
             )),
+            OfficeCall::Reset => changed(session.reset(rt, alloc, office, front)),
             _ => (HeldToken::Nothing, End::Otherwise),
         },
         HeldToken::Undo(token) => match call {

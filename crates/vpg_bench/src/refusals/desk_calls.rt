@@ -6,8 +6,8 @@ use crate::refusals::{done_if, memory_if, told_of};
 use std::alloc::Global;
 use std::sync::{Arc, Wait};
 use vpg_desk::{
-    CommitFault, CommitRefused, DecideFault, Desk, OpenFault, RedoFault, RedoRefused, RetractFault,
-    TokensOut, Undo, UndoFault, UndoRefused,
+    CommitFault, CommitRefused, DecideFault, Desk, OpenFault, RedoFault, RedoRefused, ResetFault,
+    RetractFault, TokensOut, Undo, UndoFault, UndoRefused,
 };
 use vpg_diagram::Diagram;
 use vpg_game::GuardedGame;
@@ -27,6 +27,7 @@ enum DeskCall {
     /// Decides a feature; the token is held.
     Decide(u16, bool),
     Retract(u16),
+    Reset,
     /// Undoes or redoes the change of the token that is held.
     Undo,
     Redo,
@@ -62,6 +63,12 @@ const CALLS: &[(Option<&'static str>, DeskCall)] = &[
     (None, DeskCall::Decide(G, true)),
     (None, DeskCall::Undo),
     (Some("Redo::serial, Desk::forget"), DeskCall::Forget(3)),
+    (None, DeskCall::Decide(G, true)),
+    (None, DeskCall::Keep),
+    (Some("Desk::reset"), DeskCall::Reset),
+    (Some("Desk::undo of a reset"), DeskCall::Undo),
+    (Some("Desk::redo of a reset"), DeskCall::Redo),
+    (None, DeskCall::Keep),
     (None, DeskCall::Decide(G, true)),
     (Some("Desk::settled, verdict, tokens"), DeskCall::Tell),
 ];
@@ -116,6 +123,16 @@ fn retract<R: Wait>(
             End::Done
         }
         Err(fault) => memory_if(fault == RetractFault::Memory),
+    }
+}
+
+fn reset<R: Wait>(rt: &R, alloc: Global, desk: &mut Desk, held: &mut Holdings) -> End {
+    match desk.reset(alloc, 1) {
+        Ok(token) => {
+            keep(rt, desk, held.undo.replace(token));
+            End::Done
+        }
+        Err(fault) => memory_if(fault == ResetFault::Memory),
     }
 }
 
@@ -212,6 +229,7 @@ fn made<R: Wait>(
         DeskCall::Open => open(alloc, desk, held),
         DeskCall::Decide(feature, value) => decide(rt, alloc, desk, held, feature, value),
         DeskCall::Retract(feature) => retract(rt, alloc, desk, held, feature),
+        DeskCall::Reset => reset(rt, alloc, desk, held),
         DeskCall::Undo => undo(rt, alloc, desk, held),
         DeskCall::Redo => redo(rt, alloc, desk, held),
         DeskCall::Keep => {
@@ -264,7 +282,7 @@ fn try_each<R: Wait>(rt: &R, heap: &mut Heap, report: &mut Report, calling: &mut
     }
 }
 
-/// Whether a desk with one token out, of serial 4, stays open, and closes once the token is spent.
+/// Whether a desk with one token out, of serial 6, stays open, and closes once the token is spent.
 fn closes<R: Wait>(rt: &R, desk: Desk, token: Undo) -> bool {
     wait_for_token(rt, &desk);
     match desk.close() {
@@ -275,7 +293,7 @@ fn closes<R: Wait>(rt: &R, desk: Desk, token: Undo) -> bool {
 
 fn closes_then<R: Wait>(rt: &R, desk: Desk, token: Undo) -> bool {
     let mut desk = desk;
-    let told = token.serial() == 4 && desk.tokens() == 1;
+    let told = token.serial() == 6 && desk.tokens() == 1;
     keep(rt, &mut desk, Some(token));
     let none_out = desk.tokens() == 0;
     desk.close().is_ok() && told && none_out

@@ -119,6 +119,7 @@ const LINES: &[Line] = &[
         BACK,
         OfficeCall::Redo,
     ),
+    ("Session::reset", false, LIFTED, OfficeCall::Reset),
     ("Session::order", false, DECIDED, OfficeCall::Order),
     ("Session::commit", false, ORDERED, OfficeCall::Commit),
     ("Session::settled", false, LIFTED, OfficeCall::Settled),

@@ -289,7 +289,7 @@ static CHANGES: [Row; 11] = [
     },
 ];
 
-static HARVESTS: [Row; 9] = [
+static HARVESTS: [Row; 10] = [
     Row {
         diagram: DIAGRAM,
         game: GAME,
@@ -350,6 +350,19 @@ static HARVESTS: [Row; 9] = [
             done 1 / harvest 1 / done 2 / added 1 / added 2 / done 3 / exclude f 1 / hopeful 0 0 2 -f / dual 1 0 1 -f \
             / entries 3 / undone 3 / exclude f 1 / select g 2 / hopeful 0 0 1 -f +g / hopeful 0 1 2 -f / dual 1 0 1 -f \
             / entries 5",
+    },
+    Row {
+        diagram: DIAGRAM,
+        game: GAME,
+        script: "\
+            reset / harvest / exclude f / 2: select g / commit 1 / lift hopeful 0 / trail / 3: reset / trail / reset \
+            / undo / trail / redo / show",
+        answers: "\
+            refused NotDecided / harvest 1 / done 1 / done 2 / added 2 / added 1 / exclude f 1 / select g 2 \
+            / hopeful 0 0 1 / dual 1 0 1 / hopeful 0 1 2 -f +g / entries 5 / done 3 / hopeful 0 0 1 / dual 1 0 1 \
+            / entries 2 / refused NotDecided / undone 3 / exclude f 1 / select g 2 / hopeful 0 0 1 / dual 1 0 1 \
+            / hopeful 0 1 2 -f +g / entries 5 / redone 3 / decisions / full no / settled yes / 0 1 0 possible unsure \
+            / 1 0 1 possible unsure",
     },
 ];
 

@@ -1,7 +1,7 @@
 //! Worked calls on desks, as tables: each row is a call and its answer.
 
 use crate::calls::Answer::{
-    Added, AnyToken, Done, Forgotten, Has, Is, Kept, NotCommitted, NotDecided, NotRedone,
+    Added, AnyToken, Done, Forgotten, Has, Is, Kept, NotCommitted, NotDecided, NotRedone, NotReset,
     NotRetracted, Says, Sizes, Token,
 };
 use crate::calls::At::{First, Second, Third};
@@ -20,7 +20,7 @@ use std::sync::{Arc, Wait};
 use std::test::*;
 use vpg_desk::{
     CommitFault, CommitRefused, DecideFault, Desk, OpenFault, Redo, RedoFault, RedoRefused,
-    RetractFault, TokensOut, Undo,
+    ResetFault, RetractFault, TokensOut, Undo,
 };
 use vpg_diagram::Diagram;
 use vpg_game::GuardedGame;
@@ -83,6 +83,10 @@ fn made<R: Abort + AllocGlobal>(
         RowCall::Retract(_, feature) => match desk.retract(rt.alloc(), session, feature) {
             Ok(token) => undo_of(token),
             Err(fault) => (DeskToken::Nothing, NotRetracted(fault)),
+        },
+        RowCall::Reset(_) => match desk.reset(rt.alloc(), session) {
+            Ok(token) => undo_of(token),
+            Err(fault) => (DeskToken::Nothing, NotReset(fault)),
         },
         _ => (DeskToken::Nothing, Answer::NoCall),
     }
@@ -455,6 +459,35 @@ const RETRACT: &[Part] = &[(
     ],
 )];
 
+/// A reset takes back both decisions as one change, and keeps the lift that assumed none. It is undone and redone.
+const RESET: &[Part] = &[(
+    1,
+    &[
+        (One, RowCall::Reset(First), NotReset(ResetFault::NotDecided)),
+        (One, RowCall::Lift(0), Done),
+        (One, RowCall::Decide(First, F, false), Token(1)),
+        (One, RowCall::Commit, Added(1)),
+        (Two, RowCall::Decide(Second, G, true), Token(2)),
+        (One, RowCall::Order, Done),
+        (One, RowCall::Commit, Added(3)),
+        (One, RowCall::Verdict(0), Says(true, false)),
+        (Two, RowCall::Reset(Third), Token(3)),
+        (
+            One,
+            RowCall::Page("0 decided / hopeful 0 0 1 / 1 0 / 0 0 / "),
+            Is(true),
+        ),
+        (One, RowCall::Undo(Third), Token(3)),
+        (One, RowCall::Verdict(0), Says(true, false)),
+        (One, RowCall::Redo(Third), Token(3)),
+        (One, RowCall::Verdict(0), Says(false, false)),
+        (One, RowCall::Keep(Third), Kept),
+        (One, RowCall::Reset(Third), NotReset(ResetFault::NotDecided)),
+        (One, RowCall::Keep(Second), Kept),
+        (One, RowCall::Keep(First), Kept),
+    ],
+)];
+
 /// A harvest comes late: its decision was retracted. Once it stands again, much later, the harvest is taken.
 const COME_LATE: &[Part] = &[
     (
@@ -552,6 +585,7 @@ const RUNS: &[(&str, &[Part])] = &[
     ("an overtaken token is spent first", FORGET_FIRST),
     ("pages come back", TURN),
     ("a retraction drops what was assumed", RETRACT),
+    ("a reset takes back all decisions", RESET),
     ("a harvest comes late", COME_LATE),
     ("a board's harvest is taken", TAKE_FROM_BOARD),
     ("harvests of others come back", HAND_IN_OTHERS),

@@ -1,18 +1,19 @@
 //! Calls of one or two sessions in one thread: their changes, and their refusals.
 
 use crate::calls::Answer::{
-    Added, Done, Forgotten, Has, Is, Kept, NotCommitted, NotDecided, NotRedone, NotRetracted,
-    NotUndone, Says, Token,
+    Added, Done, Forgotten, Has, Is, Kept, NotCommitted, NotDecided, NotRedone, NotReset,
+    NotRetracted, NotUndone, Says, Token,
 };
 use crate::calls::At::{First, Second, Third};
 use crate::calls::By::{One, Two};
 use crate::calls::RowCall::{
-    Calls, Commit, Decide, Forget, Keep, Lift, Order, Page, Redo, Retract, Settled, Undo, Verdict,
+    Calls, Commit, Decide, Forget, Keep, Lift, Order, Page, Redo, Reset, Retract, Settled, Undo,
+    Verdict,
 };
 use crate::calls::Step;
 use crate::given::{F, G};
 use crate::offices::steps::Day;
-use vpg_desk::{CommitFault, DecideFault, RedoFault, RetractFault, UndoFault};
+use vpg_desk::{CommitFault, DecideFault, RedoFault, ResetFault, RetractFault, UndoFault};
 
 /// One session lifts an opened office's page and looks at it.
 const SETTLE: &[Step] = &[
@@ -109,6 +110,25 @@ const TURN: &[Step] = &[
 const LIFTED: &str =
     "2 decided / select f 1 by 1 / select g 2 by 2 / hopeful 0 0 1 +f +g / dual 0 0 2 +f +g \
     / dual 1 0 2 +f +g / 1 0 / 2 2 / ";
+
+/// A reset takes back the decisions of both sessions, and its undo brings them back with their lifts.
+const RESET_AND_UNDO: &[Step] = &[
+    (Two, Reset(First), NotReset(ResetFault::NotDecided)),
+    (One, Decide(First, F, true), Token(1)),
+    (Two, Decide(Second, G, true), Token(2)),
+    (One, Order, Done),
+    (One, Commit, Added(3)),
+    (Two, Reset(Third), Token(3)),
+    (One, Page("0 decided / 0 0 / 0 0 / "), Is(true)),
+    (One, Verdict(0), Says(false, false)),
+    (Two, Undo(Third), Token(3)),
+    (One, Verdict(0), Says(false, true)),
+    (One, Page(LIFTED), Is(true)),
+    (Two, Forget(Third), Forgotten),
+    (Two, Keep(Second), Kept),
+    (One, Keep(First), Kept),
+    (One, Calls, Has(14)),
+];
 
 /// A retraction drops the lifts that assumed the decision, and its undo brings them back.
 const RETRACT_AND_UNDO: &[Step] = &[
@@ -218,6 +238,14 @@ pub const DAYS: &[Day] = &[
         calls: 16,
         before: &[],
         steps: RETRACT_AND_UNDO,
+        closes: true,
+    },
+    Day {
+        name: "a reset is undone",
+        room: 20,
+        calls: 14,
+        before: &[],
+        steps: RESET_AND_UNDO,
         closes: true,
     },
     Day {

@@ -174,6 +174,10 @@ fn changed<L: Terms, R: Wait + Abort + AllocGlobal>(
                     ),
                 }
             }
+            RowCall::Reset(_) => match session.reset(rt, alloc, office, front) {
+                Ok(token) => undo_of(token),
+                Err(fault) => (OfficeToken::Nothing, Answer::NotReset(refusal(rt, fault))),
+            },
             _ => (OfficeToken::Nothing, Answer::NoCall),
         },
         held => spent(rt, office, seat, held, call),

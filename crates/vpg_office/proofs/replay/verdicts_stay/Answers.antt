@@ -21,5 +21,5 @@ returns-in_default c = λ t old answer leads size near.
     let new = c.args.desk.now.book in
     let quiet : list_any (λ e. raises_to_top family (entry_of e)) (drop c.args.before c.entries-in_default.result.now) ≡ false =
     cc (c.one_raises_to_top.ensures, c.split_at.ensures.back, not-true c.one_raises_to_top.result t) in
-    put_agrees family old new c.args.asked.now answer (appends_else c.args.asked.now c.in_default.not-Retract c.in_default.not-Undo c.in_default.not-Redo) leads
+    put_agrees family old new c.args.asked.now answer (appends_else c.args.asked.now c.in_default.not-Retract c.in_default.not-Reset c.in_default.not-Undo c.in_default.not-Redo) leads
     (subst (λ n. list_any (raises_to_top family) (drop n new.present) ≡ false) (sym size) (none_of_last family c.args.before c.entries-in_default.result.now new.present c.entries-in_default.ensures quiet))

@@ -20,7 +20,7 @@ use Rattle.vpg_desk.specs.declared.cuts.Cut.{Cut}
 use Rattle.vpg_desk.proofs.Unchanged.{still_desk, on_err}
 use Rattle.vpg_desk.proofs.Shared.{held_at, features_at, limit_at}
 use Rattle.vpg_desk.proofs.Decided.{limits}
-use Rattle.vpg_desk.proofs.Retracted.{retract_unknown, retract_not_decided, retract_too_many, retracted_parts, retract_accepted, retracted_consistent, retracted_step, retracted_desk}
+use Rattle.vpg_desk.proofs.Retracted.{retract_unknown, retract_not_decided, retract_too_many, retracted_parts, retract_accepted, left_consistent, left_step, left_desk}
 use Rattle.vpg_desk.proofs.desk.Desk.retract.Goals as goal
 use Rattle.vpg_desk.proofs.desk.Desk.retract.Goals.{After-features, After-vertices, After-deref-4}
 
@@ -57,7 +57,7 @@ left c stays =
 pub games_of_page-requires-clause-consistent : goal.games_of_page-requires-clause-consistent
 games_of_page-requires-clause-consistent c =
     coe 0 1 (k. HasConflict (setting_between (sym c.deref-2.ensures k) (sym c.deref-3.ensures k)) (choices_of (sym (shown (goal.at.games_of_page-requires-clause-consistent c).After-deref-4 c.in_ok-kept.ensures.kept) k)) → ⊥)
-    (retracted_consistent c.self.inside c.self.invariant c.args.feature (accepted (goal.at.games_of_page-requires-clause-consistent c).After-vertices))
+    (left_consistent c.self.inside c.self.invariant (Retract c.args.feature) (retracted c.args.feature c.self.inside.trail.entries) (accepted (goal.at.games_of_page-requires-clause-consistent c).After-vertices) (λ s. refl) tt)
 
 pub cut_out-requires-clause-lifts : goal.cut_out-requires-clause-lifts
 cut_out-requires-clause-lifts c =
@@ -73,7 +73,7 @@ overflow_add-self c = omega (arith, (limits c.self.inside c.self.invariant).0, (
 pub invariant_of-self-2 : goal.invariant_of-self-2
 invariant_of-self-2 c =
     let at = (goal.at.invariant_of-self-2 c).After-deref-4 in
-    retracted_desk c.self.inside c.self.invariant c.args.feature (accepted (goal.at.invariant_of-self-2 c).After-vertices) c.args.session c.in-Some.place (map entry_of c.in_ok-kept.kept.items) c.in_ok-games.games c.cut_out.new.past c.cut_out.new.trail c.clear.new.self
+    left_desk c.self.inside c.self.invariant (Retract c.args.feature) (retracted c.args.feature c.self.inside.trail.entries) (accepted (goal.at.invariant_of-self-2 c).After-vertices) (λ s. refl) tt c.args.session c.in-Some.place (map entry_of c.in_ok-kept.kept.items) c.in_ok-games.games c.cut_out.new.past c.cut_out.new.trail c.clear.new.self
     (omega (arith, c.in-Some.ensures.place, length-map c.entries-entries.result.now entry_of, ap length c.entries-entries.ensures.entries)) (left at c.in_ok-kept.ensures.kept) c.in_ok-cut_out.ensures.past c.in_ok-cut_out.ensures.notes c.in_ok-cut_out.ensures.below c.in_ok-cut_out.ensures.trail c.clear.ensures.items
     (coe 0 1 (k. ArePageGames (c.deref-2.ensures k) (c.deref-3.ensures k) (choices_of (shown at c.in_ok-kept.ensures.kept k)) (arc_value c.in_ok-games.games)) c.in_ok-games.ensures)
     c.gives_back-is_noted.result
@@ -84,7 +84,7 @@ returns-clause-accepted c =
     let at = (goal.at.returns-clause-accepted c).After-deref-4 in
     subst (λ (n : ℕ). IsStep c.args.self.now c.args.session (Retract c.args.feature) (Changed n) (desk_of (record { game = c.self.inside.game; diagram = c.self.inside.diagram; games = c.in_ok-games.games; trail = c.cut_out.new.trail; past = c.cut_out.new.past; future = c.clear.new.self; changes = c.self.inside.changes + 1; tokens = c.self.inside.tokens + 1; is_noted = c.gives_back-is_noted.result }))) (sym c.of.ensures)
     (subst (λ (s : DeskState). IsStep s c.args.session (Retract c.args.feature) (Changed (c.self.inside.changes + 1)) (desk_of (record { game = c.self.inside.game; diagram = c.self.inside.diagram; games = c.in_ok-games.games; trail = c.cut_out.new.trail; past = c.cut_out.new.past; future = c.clear.new.self; changes = c.self.inside.changes + 1; tokens = c.self.inside.tokens + 1; is_noted = c.gives_back-is_noted.result }))) c.self.view_is
-    (retracted_step c.self.inside c.self.invariant c.args.feature (accepted (goal.at.returns-clause-accepted c).After-vertices) c.args.session c.in-Some.place (map entry_of c.in_ok-kept.kept.items) c.in_ok-games.games c.cut_out.new.past c.cut_out.new.trail c.clear.new.self
+    (left_step c.self.inside c.self.invariant (Retract c.args.feature) (retracted c.args.feature c.self.inside.trail.entries) (accepted (goal.at.returns-clause-accepted c).After-vertices) (λ s. refl) tt c.args.session c.in-Some.place (map entry_of c.in_ok-kept.kept.items) c.in_ok-games.games c.cut_out.new.past c.cut_out.new.trail c.clear.new.self
     (omega (arith, c.in-Some.ensures.place, length-map c.entries-entries.result.now entry_of, ap length c.entries-entries.ensures.entries)) (left at c.in_ok-kept.ensures.kept) c.in_ok-cut_out.ensures.past c.in_ok-cut_out.ensures.notes c.in_ok-cut_out.ensures.below c.in_ok-cut_out.ensures.trail c.clear.ensures.items
     (coe 0 1 (k. ArePageGames (c.deref-2.ensures k) (c.deref-3.ensures k) (choices_of (shown at c.in_ok-kept.ensures.kept k)) (arc_value c.in_ok-games.games)) c.in_ok-games.ensures)))
 

@@ -24,6 +24,12 @@ returns-in-Retract-clause-answer g c =
     served c.retract.result c.args.self.now c.retract.new.self c.args.lifters (asks (script.Retract c.in-Retract.name.now)) (request_shown c.args.request.now) c.args.out.now.items c.retract.new.out.items
     (ap (λ command. asks (command_shown command)) (sym c.in-Retract.is)) tt (λ calls held. tt) c.retract.ensures.answer
 
+pub returns-in-Reset-clause-answer : goal.returns-in-Reset-clause-answer
+returns-in-Reset-clause-answer g c =
+    let asks : script.Command → Request = λ command. record { label = c.args.request.now.label; command = command } in
+    served c.reset.result c.args.self.now c.reset.new.self c.args.lifters (asks script.Reset) (request_shown c.args.request.now) c.args.out.now.items c.reset.new.out.items
+    (ap (λ command. asks (command_shown command)) (sym c.in-Reset.is)) tt (λ calls held. tt) c.reset.ensures.answer
+
 pub returns-in-Undo-clause-answer : goal.returns-in-Undo-clause-answer
 returns-in-Undo-clause-answer g c =
     let asks : script.Command → Request = λ command. record { label = c.args.request.now.label; command = command } in
@@ -98,6 +104,9 @@ returns-in-Exclude-clause-strayed g c = λ is own. c.decide-in-Exclude.ensures.s
 
 pub returns-in-Retract-clause-strayed : goal.returns-in-Retract-clause-strayed
 returns-in-Retract-clause-strayed g c = λ is own. c.retract.ensures.strayed is
+
+pub returns-in-Reset-clause-strayed : goal.returns-in-Reset-clause-strayed
+returns-in-Reset-clause-strayed g c = λ is own. c.reset.ensures.strayed is
 
 pub returns-in-Undo-clause-strayed : goal.returns-in-Undo-clause-strayed
 returns-in-Undo-clause-strayed g c = λ is own. c.undo.ensures.strayed is

@@ -1,13 +1,13 @@
-use Rattle.std.proofs.Common.{◌≡◌, ◌+◌, ◌-◌, ◌++◌, ◌∙◌, ◌∷◌, [], List, All, sym, ap, subst, map, take, drop, length, Some, None, Vec, Global, filter, not, rules}
+use Rattle.std.proofs.Common.{◌≡◌, ◌+◌, ◌-◌, ◌++◌, ◌∙◌, ◌∷◌, [], List, All, sym, ap, subst, map, take, drop, length, Some, None, Vec, Global, filter, rules}
 use Rattle.std.proofs.lemmas.List.Elements.{All-push}
-use Rattle.vpg_trail.specs.Page.{Hopeful, Dual, table_of, assumes, reset_all}
+use Rattle.vpg_trail.specs.Page.{Hopeful, Dual, table_of, reset_all}
 use Rattle.vpg_trail.specs.declared.entry.Entry.{Entry}
-use Rattle.vpg_trail.specs.Shown.{entry_of, VertexBelow}
+use Rattle.vpg_trail.specs.Shown.{entry_of, VertexBelow, keeps}
 use Rattle.vpg_trail.specs.WellFormed.{LiftsStandAfter}
 use Rattle.vpg_trail.proofs.Lifting.{stays_standing}
 use Rattle.vpg_trail.proofs.Replays.{kept_none, kept_some, kept_table, vertex_read, some_vertex, told_stays, below_table, below_page}
-use Rattle.vpg_trail.proofs.retract.kept_after.Goals as goal
-use Rattle.vpg_trail.proofs.retract.kept_after.Goals.{in-Some+in_ok-push, in_default}
+use Rattle.vpg_trail.proofs.retract.staying_after.Goals as goal
+use Rattle.vpg_trail.proofs.retract.staying_after.Goals.{in-Some+in_ok-push, in_default}
 
 pub reset_entry-requires-clause-hopeful : goal.reset_entry-requires-clause-hopeful
 reset_entry-requires-clause-hopeful c =
@@ -52,5 +52,5 @@ loop-entry-preserved c =
 pub returns-clause-lifts : goal.returns-clause-lifts
 returns-clause-lifts c w =
     let before = map entry_of (take c.args.place c.args.entries.now) in
-    let kept : map entry_of c.loop-entry.kept.items ≡ reset_all before (filter (λ e. not (assumes c.args.feature e)) (map entry_of (drop (c.args.place + 1) c.args.entries.now))) = search rules in
-    subst (LiftsStandAfter before) (sym kept) (stays_standing c.args.feature c.args.place c.args.entries.now c.requires.place w)
+    let kept : map entry_of c.loop-entry.kept.items ≡ reset_all before (filter (keeps c.args.feature) (map entry_of (drop (c.args.place + 1) c.args.entries.now))) = search rules in
+    subst (LiftsStandAfter before) (sym kept) (stays_standing (keeps c.args.feature) c.args.place c.args.entries.now c.requires.place w)

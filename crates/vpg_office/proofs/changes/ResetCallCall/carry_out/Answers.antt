@@ -1,0 +1,24 @@
+use Rattle.std.proofs.Common.{◌≡◌, ◌+◌, refl, sym, ap, ◌∙◌}
+use Rattle.vpg_desk.specs.Book as book
+use Rattle.vpg_desk.specs.Book.{Book}
+use Rattle.vpg_faults.specs.Refusals.{reset_refusal}
+use Rattle.vpg_office.specs.Made.{IsMade}
+use Rattle.vpg_office.specs.declared.asked.SessionCall.TheVariants as ask
+use Rattle.vpg_office.proofs.Calling.{refused_is}
+use Rattle.vpg_office.proofs.changes.ResetCallCall.carry_out.Goals as goal
+
+pub returns-in-Ok-clause-made : goal.returns-in-Ok-clause-made
+returns-in-Ok-clause-made g c =
+    coe 0 1 (k. IsMade g.L.Terms.game g.L.Terms.diagram c.args.desk.now c.args.session ask.Reset ((sym c.issue_token.ensures.answer) k) c.reset.new.self) (record { step = c.in-Ok.ensures.accepted; hands = tt; named = tt })
+
+pub returns-in-Ok-clause-counted : goal.returns-in-Ok-clause-counted
+returns-in-Ok-clause-counted g c =
+    let tokens : c.reset.new.self.book.tokens ≡ c.args.desk.now.book.tokens + 1 = ap (λ (b : Book). b.tokens) c.in-Ok.ensures.accepted.step.1 in
+    c.issue_token.ensures.more ∙ ap (λ n. n + 1) c.requires.counted ∙ sym tokens
+
+pub returns-in-Err-clause-refused : goal.returns-in-Err-clause-refused
+returns-in-Err-clause-refused g c =
+    refused_is g.L.Terms.game g.L.Terms.diagram c.args.desk.now ask.Reset book.Reset (reset_refusal c.in-Err.fault) (λ r. refl) (λ r. (tt, tt)) c.in-Err.ensures.refused
+
+pub returns-in-Err-clause-counted : goal.returns-in-Err-clause-counted
+returns-in-Err-clause-counted g c = c.requires.counted ∙ (λ k. ((sym c.in-Err.ensures.err) k).book.tokens)
