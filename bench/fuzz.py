@@ -81,7 +81,7 @@ DRAWN = (
 )
 ANSWERS = re.compile(
     rb"(?:(?:(?:(?:done|undone|redone|kept|forgotten|added|harvest|settled|unsettled|entries|plans|spoils|changed|offers|hopeless|possible|sure|unsure) " + N + rb"|" + REFUSED
-    + rb"|decisions" + SIGNED + rb"|(?:full|settled) (?:yes|no)|" + N + rb" " + N + rb" " + N + rb" (?:hopeless|possible) (?:sure|unsure)"
+    + rb"|decisions" + SIGNED + rb"|(?:full (?:yes|no)(?: empty| unsettled)?|settled (?:yes|no))|" + N + rb" " + N + rb" " + N + rb" (?:hopeless|possible) (?:sure|unsure)"
     + rb"|" + N + rb"(?: (?:hopeless|possible) (?:sure|unsure)){2}|" + DRAWN
     + rb"|(?:select|exclude) " + NAME + rb" " + N + rb"|(?:hopeful|dual) " + N + rb" " + N + rb" " + N + SIGNED
     + rb"|(?:possible|unsure) " + N + rb"|(?:(?:hopeless|sure|lost|won) " + N + rb"|empty)" + SIGNED + rb"(?: or fewer)?|(?:in|out) " + NAME + SIGNED

@@ -1,7 +1,7 @@
 //! The answers to lookups.
 ghost use Rattle.std.specs.Arc.{arc_value};
 ghost use Rattle.std.specs.Prelude.{◌≡◌, ◌≤◌, All, IfOk, IsTrue, length, map, replicate, true};
-ghost use Rattle.vpg_answers.specs.Looked.{IsLeft, IsLooked, asserts_verdicts};
+ghost use Rattle.vpg_answers.specs.Looked.{IsCountAnswer, IsLeft, IsLooked, IsSeenIfLeft, asserts_verdicts, is_count, left_mark};
 ghost use Rattle.vpg_diagram.specs.FeatureDiagram.{feature_count};
 ghost use Rattle.vpg_game.specs.Game.{graph_of, vertex_ids};
 ghost use Rattle.vpg_measure.specs.Games.{ArePageGames};
@@ -22,8 +22,8 @@ use vpg_game::GuardedGame;
 use vpg_measure::{Order, PageGames, Table};
 use vpg_partial::Decision;
 use vpg_script::{Assertion, Lookup};
-use vpg_serving::Tone;
-use vpg_texts::look_over;
+use vpg_serving::{Tone, done};
+use vpg_texts::{count_over, look_over};
 use vpg_trail::Page;
 use vpg_verdict::Which;
 use vpg_why::{Aim, Found, Limits, find};
@@ -147,9 +147,110 @@ fn left_on(
     sought(alloc, order, limits)
 }
 
+/// Returns the mark behind the last line of `count`.
+fn mark_of(left: Left) -> &'static [u8]
+    ensures { result.now ≡ left_mark left }
+{
+    match left {
+        Left::Product => b"",
+        Left::Nothing => b" empty",
+        Left::Unsettled => b" unsettled",
+    }
+}
+
+/// Appends the counts of a page, with the mark of whether a product is left.
+fn counted(
+    alloc: Global,
+    games: &Arc<PageGames>,
+    page: &Page,
+    game: &Arc<GuardedGame>,
+    diagram: &Arc<Diagram>,
+    limits: Limits,
+    out: &mut Vec<u8>,
+) -> Result<Tone, AllocError>
+    requires features { (arc_value game.now).features ≡ feature_count (arc_value diagram.now).lines }
+    requires games { ArePageGames (arc_value game.now) (arc_value diagram.now) (map literal_of page.now.decisions)
+        (arc_value games.now) }
+    requires named { AreChoicesOf (arc_value diagram.now).lines (map literal_of page.now.decisions) }
+    requires hopeful { length page.now.hopeful ≡ length (arc_value game.now).vertices }
+    requires dual { length page.now.dual ≡ length (arc_value game.now).vertices }
+    requires hopeful_within { All (λ n. n ≤ top_for Which.Hopeful (graph_of (arc_value game.now))) page.now.hopeful }
+    requires dual_within { All (λ n. n ≤ top_for Which.Dual (graph_of (arc_value game.now))) page.now.dual }
+    ensures { IfOk result
+        (λ tone. Gives
+        (IsCountAnswer (scene_of (arc_value game.now) (arc_value diagram.now)) limits
+        page.now.decisions page.now.hopeful page.now.dual) tone out.old.items out.new.items) }
+{
+    let decisions = page.decisions.as_slice();
+    let left = left_on(alloc, games, game, diagram, decisions, limits)?;
+    let mark = mark_of(left);
+    done(count_over(alloc, games, page, game, diagram, mark, out))
+}
+
+/// Whether a lookup is `count`.
+fn is_count(lookup: &Lookup<'_>) -> bool
+    ensures { result ≡ is_count (lookup_shown lookup.now) }
+{
+    match lookup {
+        Lookup::Count => true,
+        Lookup::Show
+        | Lookup::Vertices(_)
+        | Lookup::Trail
+        | Lookup::Products
+        | Lookup::Plan
+        | Lookup::Draw
+        | Lookup::Assert(_) => false,
+    }
+}
+
+/// Appends the answer to a lookup other than `count`, and returns its tone.
+fn seen(
+    alloc: Global,
+    games: &Arc<PageGames>,
+    page: &Page,
+    game: &Arc<GuardedGame>,
+    diagram: &Arc<Diagram>,
+    lookup: &Lookup<'_>,
+    limits: Limits,
+    out: &mut Vec<u8>,
+) -> Result<Tone, AllocError>
+    requires vertices { has_vertices (vertex_ids (arc_value game.now).vertices) (lookup_shown lookup.now) ≡ true }
+    requires features { (arc_value game.now).features ≡ feature_count (arc_value diagram.now).lines }
+    requires games { ArePageGames (arc_value game.now) (arc_value diagram.now) (map literal_of page.now.decisions)
+        (arc_value games.now) }
+    requires named { AreChoicesOf (arc_value diagram.now).lines (map literal_of page.now.decisions) }
+    requires entries { All (EntryIsWithin (feature_count (arc_value diagram.now).lines)
+        (length (arc_value game.now).vertices)) page.now.entries }
+    requires hopeful { length page.now.hopeful ≡ length (arc_value game.now).vertices }
+    requires dual { length page.now.dual ≡ length (arc_value game.now).vertices }
+    requires hopeful_within { All (λ n. n ≤ top_for Which.Hopeful (graph_of (arc_value game.now))) page.now.hopeful }
+    requires dual_within { All (λ n. n ≤ top_for Which.Dual (graph_of (arc_value game.now))) page.now.dual }
+    ensures { IfOk result
+        (λ tone. Gives
+        (IsSeenIfLeft (scene_of (arc_value game.now) (arc_value diagram.now)) limits (lookup_shown lookup.now)
+        page.now.entries page.now.decisions page.now.hopeful page.now.dual) tone out.old.items out.new.items) }
+{
+    if !asserts_verdicts(lookup) {
+        return look_over(alloc, games, page, game, diagram, lookup, out);
+    }
+    let left = left_on(
+        alloc,
+        games,
+        game,
+        diagram,
+        page.decisions.as_slice(),
+        limits,
+    )?;
+    match left {
+        Left::Product => look_over(alloc, games, page, game, diagram, lookup, out),
+        Left::Nothing => failing(b"empty", out),
+        Left::Unsettled => failing(b"unsettled", out),
+    }
+}
+
 /// Appends the answer to a lookup, and returns its tone. It is over the games that the page's decisions leave. The game
 /// has the vertices that the lookup names. An assertion of a vertex's verdicts fails with `empty` if no product is
-/// left, and with `unsettled` if a limit was met in the search for one.
+/// left, and with `unsettled` if a limit was met in the search for one. The last line of `count` ends in these words.
 pub fn look(
     alloc: Global,
     games: &Arc<PageGames>,
@@ -176,20 +277,8 @@ pub fn look(
         (IsLooked (scene_of (arc_value game.now) (arc_value diagram.now)) limits (lookup_shown lookup.now)
         page.now.entries page.now.decisions page.now.hopeful page.now.dual) tone out.old.items out.new.items) }
 {
-    if !asserts_verdicts(lookup) {
-        return look_over(alloc, games, page, game, diagram, lookup, out);
+    if is_count(lookup) {
+        return counted(alloc, games, page, game, diagram, limits, out);
     }
-    let left = left_on(
-        alloc,
-        games,
-        game,
-        diagram,
-        page.decisions.as_slice(),
-        limits,
-    )?;
-    match left {
-        Left::Product => look_over(alloc, games, page, game, diagram, lookup, out),
-        Left::Nothing => failing(b"empty", out),
-        Left::Unsettled => failing(b"unsettled", out),
-    }
+    seen(alloc, games, page, game, diagram, lookup, limits, out)
 }

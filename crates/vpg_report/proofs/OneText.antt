@@ -1,6 +1,6 @@
 -- Settled answers are one.
 use Rattle.std.proofs.Common.{◌≡◌, ℕ, ◌+◌, Bool, true, false, List, [], ◌∷◌, ◌++◌, length, Option, Some, None, Result, Ok, Err, sym, ap, ap₂, ◌∙◌, subst, inl, inr, arith}
-use Rattle.std.specs.Prelude.{IfSome, map, not, if◌then◌else◌, ⊤, codes}
+use Rattle.std.specs.Prelude.{IfSome, map, not, if◌then◌else◌, ⊤}
 use Rattle.vpg_features.specs.Names.{index_of}
 use Rattle.vpg_guards.specs.Known.{kleene}
 use Rattle.vpg_guards.specs.declared.tri.Tri.{Tri}
@@ -32,7 +32,7 @@ use Rattle.vpg_answers.proofs.One.{answers_are_one}
 use Rattle.vpg_report.specs.Run.{Between, as_meant, begun}
 use Rattle.vpg_report.specs.Settling.{settling, TellsSettle, AreChecked, SettledAnswersAreOne}
 use Rattle.vpg_texts.proofs.Planned.{known_is_one}
-use Rattle.vpg_answers.specs.Asserted.{failing}
+use Rattle.vpg_answers.specs.Looked.{HasMetLimit}
 use Rattle.vpg_answers.proofs.Looked.{looked_one}
 use Rattle.vpg_report.proofs.Replies.{reply_one}
 use Rattle.vpg_report.proofs.LeastHarvests.{same_harvests, checked_are_one, settling_are_one}
@@ -194,10 +194,10 @@ module _ (behaviour : Option Behaviour) (scene : Scene) (held : Held) (Told : An
     tells_page Tells one (PageIs page) = λ calls more answer other new newer a b fit fits. (a.1 ∙ sym b.1, one page answer other a.0 b.0, a.2 ∙ sym b.2)
     tells_page Tells one _ = λ calls more answer other new newer a. absurd a
 
-    tells_look : (lookup : script.Lookup) → ((answer : Answer) → Told answer → ¬ (answer ≡ failing (codes "unsettled"))) → (reply : Reply) → IsOne book (TellsPage (Sees scene lookup) held reply)
+    tells_look : (lookup : script.Lookup) → ((answer : Answer) → Told answer → ¬ (HasMetLimit answer)) → (reply : Reply) → IsOne book (TellsPage (Sees scene lookup) held reply)
     tells_look lookup sure (PageIs page) = λ calls more answer other new newer a b fit fits. (
       a.1 ∙ sym b.1,
-      looked_one scene answer_limits lookup page (decisions_of page) (table_of Hopeful page (length scene.game)) (table_of Dual page (length scene.game)) answer other a.0 b.0 (sure answer fit.told) (sure other fits.told),
+      looked_one scene answer_limits page (decisions_of page) (table_of Hopeful page (length scene.game)) (table_of Dual page (length scene.game)) lookup answer other a.0 b.0 (sure answer fit.told) (sure other fits.told),
       a.2 ∙ sym b.2,
     )
     tells_look lookup sure _ = λ calls more answer other new newer a. absurd a
@@ -330,7 +330,7 @@ module _ (behaviour : Option Behaviour) (scene : Scene) (held : Held) (Told : An
     begins_order inquiry sure (Err own) = ends book _ held
     begins_order inquiry sure (Ok query) = begins (script.Ask inquiry) Order (tells_answer inquiry sure)
 
-    begins_page : (lookup : script.Lookup) → ((answer : Answer) → Told answer → ¬ (answer ≡ failing (codes "unsettled"))) → (has : Bool) → IsOne book (Begins behaviour scene held made label (script.Look lookup) (page_if has))
+    begins_page : (lookup : script.Lookup) → ((answer : Answer) → Told answer → ¬ (HasMetLimit answer)) → (has : Bool) → IsOne book (Begins behaviour scene held made label (script.Look lookup) (page_if has))
     begins_page lookup sure true = begins (script.Look lookup) Page (λ reply told. tells_look _ lookup sure reply)
     begins_page lookup sure false = ends book _ held
 
@@ -338,7 +338,7 @@ module _ (behaviour : Option Behaviour) (scene : Scene) (held : Held) (Told : An
     abbrev SettleIsTold : script.Command → Type 0
     SettleIsTold (script.Settle n) = (answer : Answer) → Told answer → (m : ℕ) × (answer.text ≡ settled_text true m)
     SettleIsTold (script.Ask inquiry) = (answer : Answer) → Told answer → ¬ (HasDoubt answer.text)
-    SettleIsTold (script.Look lookup) = (answer : Answer) → Told answer → ¬ (answer ≡ failing (codes "unsettled"))
+    SettleIsTold (script.Look lookup) = (answer : Answer) → Told answer → ¬ (HasMetLimit answer)
     SettleIsTold _ = ⊤
 
     serves : (command : script.Command) → SettleIsTold command → IsOne book (Begins behaviour scene held made label command (first_call behaviour scene held command))

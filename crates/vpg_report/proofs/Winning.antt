@@ -31,8 +31,8 @@ use Rattle.vpg_texts.specs.Changed.{verdict_of, verdicts_below, unseen, seen_at,
 use Rattle.vpg_texts.specs.Scene.{Scene, scene_of}
 use Rattle.vpg_texts.specs.Sights.{IsSeen, has_vertices, line_at, named_lines, verdicts_at, verdicts_answer}
 use Rattle.vpg_texts.specs.Text.{answer_line, blank_number, decisions_line, hopeless_text, sure_text, vertex_line, vertex_lines}
-use Rattle.vpg_answers.specs.Looked.{asserts_verdicts}
-use Rattle.vpg_report.specs.Answers.{vertex_of, page_if, own_text, NoVertex, refusal_text, Follows, Asks, Sees, verdicts_on}
+use Rattle.vpg_answers.specs.Looked.{IsSeenIfLeft, asserts_verdicts}
+use Rattle.vpg_report.specs.Answers.{answer_limits, vertex_of, page_if, own_text, NoVertex, refusal_text, Follows, Asks, Sees, verdicts_on}
 use Rattle.vpg_report.specs.Held.{Held}
 use Rattle.vpg_report.specs.Requests.{Continues, Begins, Serves}
 use Rattle.vpg_report.specs.Run.{Between, begun, answering, as_meant, asking}
@@ -116,8 +116,8 @@ module _ (scene : Scene) (page : List Entry) where
       ∙ flat_map-append said_line (range_with_len 0 n) (n ∷ [])
       ∙ (λ k. range_lines n (omega (arith, le)) k ++ (flat_map-cons said_line n [] ∙ append-nil (said_line n) ∙ line_is n le) k)
 
-  -- a lookup that asserts no verdicts has the text that is seen
-  text_of : (lookup : script.Lookup) (answer : Answer) → asserts_verdicts lookup ≡ false → Sees scene lookup page answer → IsSeen scene lookup page (decisions_of page) hopeful dual answer
+  -- a lookup that asserts no verdicts and is not `count` has the text that is seen
+  text_of : (lookup : script.Lookup) (answer : Answer) → asserts_verdicts lookup ≡ false → IsSeenIfLeft scene answer_limits lookup page (decisions_of page) hopeful dual answer → IsSeen scene lookup page (decisions_of page) hopeful dual answer
   text_of lookup answer not (inl a) = absurd (false≢true (sym not ∙ a.0))
   text_of lookup answer not (inr (inl a)) = absurd (false≢true (sym not ∙ a.0))
   text_of lookup answer not (inr (inr a)) = a.1

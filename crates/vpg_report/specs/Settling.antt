@@ -1,9 +1,9 @@
 -- Runs with each settle answered `settled`, no doubt in an answer about the page, and each harvest that a line keeps
 -- passing `check`.
-use Rattle.std.specs.Prelude.{◌≡◌, ℕ, List, IfSome, Option, Some, Result, true, ⊤, codes}
+use Rattle.std.specs.Prelude.{◌≡◌, ℕ, List, IfSome, Option, Some, Result, true, ⊤}
 use Rattle.std.specs.List.{AllByRecursion}
 use Rattle.vpg_answers.specs.Answers.{HasDoubt}
-use Rattle.vpg_answers.specs.Asserted.{failing}
+use Rattle.vpg_answers.specs.Looked.{HasMetLimit}
 use Rattle.vpg_desk.specs.Desk.{family_of}
 use Rattle.vpg_report.specs.Answers.{Checks, settled_text}
 use Rattle.vpg_report.specs.Held.{Held}
@@ -20,11 +20,11 @@ use Rattle.vpg_serving.specs.declared.fault.RunFault.{RunFault}
 use Rattle.vpg_report.specs.Setting.{setting_in}
 
 -- A settle is answered `settled`, and a question about the page without a doubt: no limit was met. Nor was one in the
--- search for a product that an assertion needs.
+-- search for a product, of an assertion or of `count`.
 abbrev pub TellsSettle : script.Command → Answer → Type 0
 TellsSettle (script.Settle sweeps) answer = (n : ℕ) × (answer.text ≡ settled_text true n)
 TellsSettle (script.Ask inquiry) answer = ¬ (HasDoubt answer.text)
-TellsSettle (script.Look lookup) answer = ¬ (answer ≡ failing (codes "unsettled"))
+TellsSettle (script.Look lookup) answer = ¬ (HasMetLimit answer)
 TellsSettle _ answer = ⊤
 
 -- each harvest that is held passes `check`

@@ -23,15 +23,15 @@ three_parts before one two three x y z first second third =
     third ∙ ap (λ (bytes : List ℕ). bytes ++ z) (second ∙ ap (λ (bytes : List ℕ). bytes ++ y) first ∙ append_assoc before x y) ∙ append_assoc before (x ++ y) z
 
 pub counts : (game : NamedGame) (diagram : NamedDiagram) (decisions : List Decision) (games : GamesView) → ArePageGames game diagram (map literal_of decisions) games →
-    (hopeful dual text : List ℕ) → length hopeful ≡ length game.vertices → length dual ≡ length game.vertices →
+    (hopeful dual mark text : List ℕ) → length hopeful ≡ length game.vertices → length dual ≡ length game.vertices →
     All (λ n. n ≤ top_for Hopeful (graph_of game)) hopeful → All (λ n. n ≤ top_for Dual (graph_of game)) dual →
     (full settled : Bool) → Decides full (AreAllKnown (length games.known) games.known) → Decides settled (AreSettledTables games hopeful dual) →
-    text ≡ count_text (top_of games.hopeful_levels) (top_of games.dual_levels) full settled hopeful dual → IsCounted (scene_of game diagram) decisions hopeful dual text
-counts game diagram decisions games are hopeful dual text hopeful_len dual_len hopeful_within dual_within full settled full_is settled_is text_is = (
+    text ≡ count_text (top_of games.hopeful_levels) (top_of games.dual_levels) full settled mark hopeful dual → IsCounted (scene_of game diagram) decisions hopeful dual mark text
+counts game diagram decisions games are hopeful dual mark text hopeful_len dual_len hopeful_within dual_within full settled full_is settled_is text_is = (
   games.known,
   (
     are.known,
-    tells game diagram (map literal_of decisions) games are (λ first second is_full is_settled. count_text first second is_full is_settled hopeful dual) full settled hopeful dual text full_is
+    tells game diagram (map literal_of decisions) games are (λ first second is_full is_settled. count_text first second is_full is_settled mark hopeful dual) full settled hopeful dual text full_is
         (settled_tells game diagram (map literal_of decisions) games are hopeful dual hopeful_len dual_len hopeful_within dual_within settled settled_is) text_is,
   ),
 )

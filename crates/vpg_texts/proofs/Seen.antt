@@ -1,5 +1,5 @@
 -- What a lookup shows of a page: it is so of each lookup, and it is one text.
-use Rattle.std.proofs.Common.{◌≡◌, ℕ, ◌<◌, Bool, List, ◌++◌, length, get_or, Option, Result, sym, ap, ap₂, ◌∙◌, subst, inl, inr}
+use Rattle.std.proofs.Common.{◌≡◌, ℕ, ◌<◌, Bool, List, [], ◌++◌, length, get_or, Option, Result, sym, ap, ap₂, ◌∙◌, subst, inl, inr}
 use Rattle.std.specs.Prelude.{map, IfOk, OnOk}
 use Rattle.std.specs.Bool.{one_answer}
 use Rattle.std.proofs.lemmas.List.{same_lists}
@@ -37,8 +37,8 @@ module _ (scene : Scene) (entries : List Entry) (decisions : List Decision) wher
   shown_one : (hopeful dual one other : List ℕ) → IsShown scene decisions hopeful dual one → IsShown scene decisions hopeful dual other → one ≡ other
   shown_one hopeful dual = tells_one hopeful dual (shown_lines scene decisions hopeful dual)
 
-  counted_one : (hopeful dual one other : List ℕ) → IsCounted scene decisions hopeful dual one → IsCounted scene decisions hopeful dual other → one ≡ other
-  counted_one hopeful dual = tells_one hopeful dual (counted_lines scene hopeful dual)
+  pub counted_one : (hopeful dual mark one other : List ℕ) → IsCounted scene decisions hopeful dual mark one → IsCounted scene decisions hopeful dual mark other → one ≡ other
+  counted_one hopeful dual mark = tells_one hopeful dual (counted_lines scene hopeful dual mark)
 
   products_one : (one other : List ℕ) → TellsKnown scene decisions one → TellsKnown scene decisions other → one ≡ other
   products_one one other = under_one _ _ (λ known a b. a ∙ sym b)
@@ -74,7 +74,7 @@ module _ (scene : Scene) (entries : List Entry) (decisions : List Decision) wher
   text_one hopeful dual script.Trail one other = λ a b. a ∙ sym b
   text_one hopeful dual script.Products one other = products_one one other
   text_one hopeful dual script.Plan one other = λ a. absurd a
-  text_one hopeful dual script.Count one other = counted_one hopeful dual one other
+  text_one hopeful dual script.Count one other = counted_one hopeful dual [] one other
   text_one hopeful dual script.Draw one other = under_one _ _ (λ known a b. a ∙ sym b)
   text_one hopeful dual (script.Assert assertion) one other = λ a. absurd a
 

@@ -75,15 +75,16 @@ IsShown scene decisions hopeful dual text =
     UnderKnown scene decisions
     (λ known. TellsUnder scene known hopeful dual (shown_lines scene decisions hopeful dual) text)
 
--- the number of vertices with each verdict by these tables
-abbrev pub counted_lines : Scene → (hopeful dual : List ℕ) → (full settled : Bool) → List ℕ
-counted_lines scene hopeful dual full settled =
-    count_text (top_for Hopeful scene.game) (top_for Dual scene.game) full settled hopeful dual
+-- the number of vertices with each verdict by these tables; a mark ends the last line
+abbrev pub counted_lines : Scene → (hopeful dual mark : List ℕ) → (full settled : Bool) → List ℕ
+counted_lines scene hopeful dual mark full settled =
+    count_text (top_for Hopeful scene.game) (top_for Dual scene.game) full settled mark hopeful dual
 
--- The text counts the verdicts by these tables, under what the decisions make known.
-abbrev pub IsCounted : Scene → List Decision → (hopeful dual text : List ℕ) → Type 0
-IsCounted scene decisions hopeful dual text =
-    UnderKnown scene decisions (λ known. TellsUnder scene known hopeful dual (counted_lines scene hopeful dual) text)
+-- The text counts the verdicts by these tables, under what the decisions make known, and ends in this mark.
+abbrev pub IsCounted : Scene → List Decision → (hopeful dual mark text : List ℕ) → Type 0
+IsCounted scene decisions hopeful dual mark text =
+    UnderKnown scene decisions
+    (λ known. TellsUnder scene known hopeful dual (counted_lines scene hopeful dual mark) text)
 
 -- The text says of each feature whether the decisions make it known.
 abbrev pub TellsKnown : Scene → List Decision → List ℕ → Type 0

@@ -141,7 +141,7 @@ Shows scene (script.Vertices vertices) entries decisions hopeful dual text =
     text ≡ named_lines (top_for Hopeful scene.game) (top_for Dual scene.game) scene.identifiers hopeful dual vertices
 Shows scene script.Trail entries decisions hopeful dual text = text ≡ trail_text scene.names scene.identifiers entries
 Shows scene script.Products entries decisions hopeful dual text = TellsKnown scene decisions text
-Shows scene script.Count entries decisions hopeful dual text = IsCounted scene decisions hopeful dual text
+Shows scene script.Count entries decisions hopeful dual text = IsCounted scene decisions hopeful dual [] text
 Shows scene script.Draw entries decisions hopeful dual text = IsDrawn scene decisions hopeful dual text
 Shows scene _ entries decisions hopeful dual text = ⊥
 

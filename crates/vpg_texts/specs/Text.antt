@@ -29,8 +29,11 @@ choices_text names choices = flat_map (choice_text names) choices
 abbrev pub decisions_line : List (List ℕ) → List Literal → List ℕ
 decisions_line names choices = codes "decisions" ++ choices_text names choices ++ 10 ∷ []
 
+abbrev pub answer_word : Bool → List ℕ
+answer_word b = if b then codes " yes" else codes " no"
+
 abbrev pub answer_line : Bool → List ℕ
-answer_line b = if b then codes " yes\n" else codes " no\n"
+answer_line b = answer_word b ++ 10 ∷ []
 
 abbrev pub hopeless_text : Bool → List ℕ
 hopeless_text hopeless = if hopeless then codes " hopeless" else codes " possible"
@@ -69,15 +72,16 @@ abbrev pub count_lines : List ℕ → List ℕ → ℕ → List ℕ → List ℕ
 count_lines at_top below top table =
     count_line at_top (count_by (λ n. n == top) table) ++ count_line below (count_by (λ n. not (n == top)) table)
 
--- whether the page is settled, and whether each feature is known
-abbrev pub state_lines : Bool → Bool → List ℕ
-state_lines settled full = codes "settled" ++ answer_line settled ++ codes "full" ++ answer_line full
+-- whether the page is settled, and whether each feature is known; a mark ends the last line
+abbrev pub state_lines : Bool → Bool → List ℕ → List ℕ
+state_lines settled full mark =
+    codes "settled" ++ answer_line settled ++ codes "full" ++ answer_word full ++ mark ++ 10 ∷ []
 
-abbrev pub count_text : ℕ → ℕ → Bool → Bool → List ℕ → List ℕ → List ℕ
-count_text hopeful_top dual_top full settled hopeful dual =
+abbrev pub count_text : ℕ → ℕ → Bool → Bool → List ℕ → List ℕ → List ℕ → List ℕ
+count_text hopeful_top dual_top full settled mark hopeful dual =
     count_lines (codes "hopeless") (codes "possible") hopeful_top hopeful
     ++ count_lines (codes "sure") (codes "unsure") dual_top dual
-    ++ state_lines settled full
+    ++ state_lines settled full mark
 
 -- ---- trail
 

@@ -1,7 +1,7 @@
 //! The texts of a page.
 ghost use Rattle.std.specs.Prelude.{◌≡◌, ◌<◌, ◌≤◌, Some, ◌==◌, ◌++◌, ◌∷◌, [], codes, count_by, decimal, is_some, length, not, map, IfSome, OnOk, OnErr, All, slice_index, suc};
 ghost use Rattle.vpg_texts.specs.Scene.{EntryIsWithin};
-ghost use Rattle.vpg_texts.specs.Text.{blank_number, name_of, blank_name, choice_text, choices_text, decisions_line, answer_line, hopeless_text, sure_text, vertex_line, vertex_lines, show_text};
+ghost use Rattle.vpg_texts.specs.Text.{blank_number, name_of, blank_name, choice_text, choices_text, decisions_line, answer_line, answer_word, hopeless_text, sure_text, vertex_line, vertex_lines, show_text};
 ghost use Rattle.vpg_texts.specs.Text.{count_line, count_lines, state_lines, count_text, deciding_text, table_text, entry_line, trail_text, names_known, products_line, products_text, known_word, known_text, plan_line, plan_text};
 ghost use Rattle.vpg_trail.specs.Page.{literal_of};
 ghost use Rattle.vpg_trail.specs.Shown.{entry_of};
@@ -93,14 +93,22 @@ fn assumed(names: &Names, ls: &[Literal], out: &mut Vec<u8>) -> Result<(), Alloc
     Ok(())
 }
 
+fn answer_word(yes: bool, out: &mut Vec<u8>) -> Result<(), AllocError>
+    ensures { OnOk result (out.new.items ≡ out.old.items ++ answer_word yes) }
+{
+    if yes {
+        out.extend_from_slice(b" yes")?;
+    } else {
+        out.extend_from_slice(b" no")?;
+    }
+    Ok(())
+}
+
 fn answer(yes: bool, out: &mut Vec<u8>) -> Result<(), AllocError>
     ensures { OnOk result (out.new.items ≡ out.old.items ++ answer_line yes) }
 {
-    if yes {
-        out.extend_from_slice(b" yes\n")?;
-    } else {
-        out.extend_from_slice(b" no\n")?;
-    }
+    answer_word(yes, out)?;
+    out.push(b'\n')?;
     Ok(())
 }
 
@@ -250,34 +258,38 @@ fn count_lines(
     count_line(below, others(table, top), out)
 }
 
-/// Appends whether the page is settled, and whether each feature is known.
-fn state_lines(settled: bool, full: bool, out: &mut Vec<u8>) -> Result<(), AllocError>
-    ensures { OnOk result (out.new.items ≡ out.old.items ++ state_lines settled full) }
+/// Appends whether the page is settled, and whether each feature is known. The mark ends the last line.
+fn state_lines(settled: bool, full: bool, mark: &[u8], out: &mut Vec<u8>) -> Result<(), AllocError>
+    ensures { OnOk result (out.new.items ≡ out.old.items ++ state_lines settled full mark.now) }
 {
     out.extend_from_slice(b"settled")?;
     answer(settled, out)?;
     out.extend_from_slice(b"full")?;
-    answer(full, out)
+    answer_word(full, out)?;
+    out.extend_from_slice(mark)?;
+    out.push(b'\n')?;
+    Ok(())
 }
 
-/// Appends how many vertices have which verdict, and whether the page is settled and full.
+/// Appends how many vertices have which verdict, and whether the page is settled and full. The mark ends the last line.
 pub(crate) fn count(
     games: &PageGames,
     full: bool,
     settled: bool,
+    mark: &[u8],
     hopeful: &Table,
     dual: &Table,
     out: &mut Vec<u8>,
 ) -> Result<(), AllocError>
     ensures { OnOk result (out.new.items ≡ out.old.items
         ++ count_text (top_of games.now.hopeful_levels)
-        (top_of games.now.dual_levels) full settled hopeful.now dual.now) }
+        (top_of games.now.dual_levels) full settled mark.now hopeful.now dual.now) }
 {
     let hopeful_top = games.shape(Which::Hopeful).top();
     let dual_top = games.shape(Which::Dual).top();
     count_lines(b"hopeless", b"possible", hopeful, hopeful_top, out)?;
     count_lines(b"sure", b"unsure", dual, dual_top, out)?;
-    state_lines(settled, full, out)
+    state_lines(settled, full, mark, out)
 }
 
 fn table(which: Which, out: &mut Vec<u8>) -> Result<(), AllocError>

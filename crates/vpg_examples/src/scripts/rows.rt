@@ -434,7 +434,7 @@ static PLANS: [Row; 1] = [Row {
     answers: "refused NotFull / done 1 / done 2 / refused NotSettled / settled 3 / plan 0 1 / plans 1",
 }];
 
-static COUNTS: [Row; 2] = [
+static COUNTS: [Row; 3] = [
     Row {
         diagram: DIAGRAM,
         game: GAME,
@@ -450,6 +450,13 @@ static COUNTS: [Row; 2] = [
         game: DOT,
         script: "settle / count",
         answers: "settled 1 / hopeless 0 / possible 1 / sure 1 / unsure 0 / settled yes / full no",
+    },
+    // A page that is empty without a conflict.
+    Row {
+        diagram: "root r\nor r: a b\nor r: c d\nexcludes a c\nexcludes a d\nexcludes b c\nexcludes b d\n",
+        game: DOT,
+        script: "settle / count",
+        answers: "settled 1 / hopeless 0 / possible 1 / sure 1 / unsure 0 / settled yes / full no empty",
     },
 ];
 

@@ -1,5 +1,5 @@
 //! The text of the numbers of vertices with each verdict.
-ghost use Rattle.std.specs.Prelude.{◌≡◌, ◌≤◌, ◌++◌, ℕ, List, length, map, All, OnOk, OnErr};
+ghost use Rattle.std.specs.Prelude.{[], ◌≡◌, ◌≤◌, ◌++◌, ℕ, List, length, map, All, OnOk, OnErr};
 ghost use Rattle.vpg_diagram.specs.FeatureDiagram.{feature_count};
 ghost use Rattle.vpg_game.specs.Game.{IsAtLimit, graph_of};
 ghost use Rattle.vpg_measure.specs.Games.{ArePageGames};
@@ -19,13 +19,15 @@ use vpg_measure::PageGames;
 use vpg_trail::Page;
 use vpg_verdict::Which;
 
-/// Appends the counts of a page as `count` does, over the games that its decisions leave: no guard is looked at.
+/// Appends the counts of a page as `count` does, over the games that its decisions leave: no guard is looked at. The
+/// mark ends the last line.
 pub fn count_over(
     alloc: Global,
     games: &PageGames,
     page: &Page,
     game: &GuardedGame,
     diagram: &Diagram,
+    mark: &[u8],
     out: &mut Vec<u8>,
 ) -> Result<(), AllocError>
     requires games { ArePageGames game.now diagram.now (map literal_of page.now.decisions) games.now }
@@ -35,14 +37,22 @@ pub fn count_over(
     requires dual_within { All (λ n. n ≤ top_for Which.Dual (graph_of game.now)) page.now.dual }
     ensures counted { OnOk result
         ((text : List ℕ) ×
-        (IsCounted (scene_of game.now diagram.now) page.now.decisions page.now.hopeful page.now.dual text ×
+        (IsCounted (scene_of game.now diagram.now) page.now.decisions page.now.hopeful page.now.dual mark.now text ×
         (out.new.items ≡ out.old.items ++ text))) }
     ensures unchanged { OnErr result (out.new.items ≡ out.old.items) }
 {
     let full = games.known().is_full();
     let settled = is_settled(games, &page.hopeful, &page.dual);
     let mut text = Vec::new(alloc);
-    text::count(games, full, settled, &page.hopeful, &page.dual, &mut text)?;
+    text::count(
+        games,
+        full,
+        settled,
+        mark,
+        &page.hopeful,
+        &page.dual,
+        &mut text,
+    )?;
     out.extend_from_slice(&text)
 }
 
@@ -66,10 +76,10 @@ pub fn count(
     requires dual_within { All (λ n. n ≤ top_for Which.Dual (graph_of game.now)) page.now.dual }
     ensures counted { OnOk result
         ((text : List ℕ) ×
-        (IsCounted (scene_of game.now diagram.now) page.now.decisions page.now.hopeful page.now.dual text ×
+        (IsCounted (scene_of game.now diagram.now) page.now.decisions page.now.hopeful page.now.dual [] text ×
         (out.new.items ≡ out.old.items ++ text))) }
     ensures unchanged { OnErr result (out.new.items ≡ out.old.items) }
 {
     let games = games_of(alloc, game, diagram, page.decisions.as_slice())?;
-    count_over(alloc, &games, page, game, diagram, out)
+    count_over(alloc, &games, page, game, diagram, b"", out)
 }

@@ -163,7 +163,7 @@ pub fn look_over(
         Lookup::Trail => done(trail(alloc, page, game, diagram, out)),
         Lookup::Products => done(products_over(alloc, games, diagram, out)),
         Lookup::Plan => plan_answer(alloc, games, page, game, diagram, out),
-        Lookup::Count => done(count_over(alloc, games, page, game, diagram, out)),
+        Lookup::Count => done(count_over(alloc, games, page, game, diagram, b"", out)),
         Lookup::Draw => done(draw_over(alloc, games, page, game, diagram, out)),
         Lookup::Assert(assertion) => {
             assertion_over(alloc, games, page, game, diagram, assertion, out)

@@ -20,8 +20,8 @@ pub returns-clause-counted : goal.returns-clause-counted
 returns-clause-counted c =
     let page = c.args.page.now in
     let text = c.count.new.out.items in
-    let counted : IsCounted (scene_of c.args.game.now c.args.diagram.now) page.decisions page.hopeful page.dual text =
-    counts c.args.game.now c.args.diagram.now page.decisions c.args.games.now c.requires.games page.hopeful page.dual text
+    let counted : IsCounted (scene_of c.args.game.now c.args.diagram.now) page.decisions page.hopeful page.dual c.args.mark.now text =
+    counts c.args.game.now c.args.diagram.now page.decisions c.args.games.now c.requires.games page.hopeful page.dual c.args.mark.now text
     c.requires.hopeful c.requires.dual c.requires.hopeful_within c.requires.dual_within c.is_full-full.result c.is_settled-settled.result
     (rw c.known.ensures at c.is_full-full.ensures.known) c.is_settled-settled.ensures (written text text c.new-text.result.items _ refl c.in_ok-count.ensures c.new-text.ensures.items) in
     on_ok c.extend_from_slice.result _ _ (λ items. (text, (counted, items ∙ ap (λ (bytes : List ℕ). c.args.out.now.items ++ bytes) c.deref.ensures.value))) (appended c.extend_from_slice.result _ _ _ c.extend_from_slice.ensures.items)
