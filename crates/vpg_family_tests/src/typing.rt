@@ -8,35 +8,40 @@ use vpg_family::Family;
 use vpg_script::{Device, Sink, Source};
 use vpg_terminal::{Ear, Heard, Setting, Typed};
 
-/// The typed text if the game starts at 7, the answers to the lines that are handed on, these lines, and the text
-/// beside the answers.
+/// The start of the game, the typed text, the answers to the lines that are handed on, these lines, and the text beside
+/// the answers.
 struct Typing {
+    start: Option<u32>,
     typed: &'static str,
     answers: &'static [&'static str],
     handed: &'static str,
     said: &'static str,
 }
 
-static TYPINGS: [Typing; 12] = [
+static TYPINGS: [Typing; 13] = [
     Typing {
+        start: Some(7),
         typed: "",
         answers: &[],
         handed: "",
         said: "> ",
     },
     Typing {
+        start: Some(7),
         typed: "exclude f\r\n\nundo",
         answers: &["done 1\n", "", "undone 1\n"],
         handed: "exclude f\n\nundo\n",
         said: "> > > > ",
     },
     Typing {
+        start: Some(7),
         typed: "exclude f\n quit\t\nundo\n",
         answers: &["done 1\n"],
         handed: "exclude f\n",
         said: "> > ",
     },
     Typing {
+        start: Some(7),
         typed: "help undo\nhelp frob\nhelp\nhelp select f\n",
         answers: &["", "", "", "refused Word\n"],
         handed: "\n\n\nhelp select f\n",
@@ -47,6 +52,7 @@ static TYPINGS: [Typing; 12] = [
     },
     // A feature that was perhaps meant.
     Typing {
+        start: Some(7),
         typed: "select ff\n3:  why -G\n",
         answers: &["refused UnknownFeature\n", "refused UnknownFeature\n"],
         handed: "select ff\n3:  why -G\n",
@@ -55,6 +61,7 @@ static TYPINGS: [Typing; 12] = [
     },
     // A refused decision is explained, under a label too.
     Typing {
+        start: Some(7),
         typed: "exclude f\n2: select g\nselect f\n",
         answers: &[
             "refused Conflict h\n",
@@ -68,6 +75,7 @@ static TYPINGS: [Typing; 12] = [
     },
     // The start is shown after each settling, and decided. If it is hopeless the session says why.
     Typing {
+        start: Some(7),
         typed: "settle\nsettle 3\nshow 7\n",
         answers: &[
             "settled 3\n",
@@ -84,6 +92,7 @@ static TYPINGS: [Typing; 12] = [
     },
     // The goals take its place. Of one that is refused nothing more is asked.
     Typing {
+        start: Some(7),
         typed: "goals 3 \"a b\"  x\nsettle\ngoals\nsettle\n",
         answers: &[
             "",
@@ -101,6 +110,7 @@ static TYPINGS: [Typing; 12] = [
         said: "> > > > > ",
     },
     Typing {
+        start: Some(7),
         typed: "help goals\n2: goals 3\n",
         answers: &["", "refused Word\n"],
         handed: "\n2: goals 3\n",
@@ -109,6 +119,7 @@ static TYPINGS: [Typing; 12] = [
             hint: `vpgdesk --help` lists the commands\n> ",
     },
     Typing {
+        start: Some(7),
         typed: "settle x\n",
         answers: &["refused Args\n"],
         handed: "settle x\n",
@@ -116,6 +127,7 @@ static TYPINGS: [Typing; 12] = [
             hint: a number is digits alone\n> ",
     },
     Typing {
+        start: Some(7),
         typed: "# help\nhelp: select f\n",
         answers: &["", "refused Word\n"],
         handed: "# help\nhelp: select f\n",
@@ -123,10 +135,24 @@ static TYPINGS: [Typing; 12] = [
             hint: a label is a number from 1 to 64 and `:`, with a blank behind it\n> ",
     },
     Typing {
+        start: Some(7),
         typed: "settle\n",
         answers: &["refused LogFull\n"],
         handed: "settle\n",
         said: "> > ",
+    },
+    // Without a goal and a start the vertices are counted.
+    Typing {
+        start: None,
+        typed: "settle\ngoals\nsettle\n",
+        answers: &[
+            "settled 0\n",
+            "hopeless 1\npossible 0\nsure 0\nunsure 1\nsettled yes\nfull no\n",
+            "",
+            "settled 0\n",
+        ],
+        handed: "settle\ncount\n\nsettle\n",
+        said: "> > > > ",
     },
 ];
 
@@ -212,7 +238,7 @@ fn holds(alloc: Global, family: &Family, row: &Typing, most: usize) -> bool {
         commands: COMMANDS,
         features: family.diagram.names(),
         is_prompted: true,
-        start: Some(7),
+        start: row.start,
         heard: &heard,
     };
     let talk = Device::writer(Vec::new(alloc));

@@ -149,7 +149,7 @@ fn line_about_named(
 }
 
 /// Returns the line of a question about one of the goals, if there are so many. A line `goals V ..` names them. Before
-/// there is one, the vertex of this identifier is the only one.
+/// there is one, the vertex of this identifier is the only one; without it the session asks for `count`, once.
 pub(crate) fn line_about(
     alloc: Global,
     goals: &Option<Vec<u8>>,
@@ -160,6 +160,9 @@ pub(crate) fn line_about(
     match (goals, start) {
         (Some(goals), _) => line_about_named(alloc, command, goals, place.goal),
         (None, Some(id)) if place.goal == 0 => Ok(Some(vertex_line(alloc, command, id)?)),
+        (None, None) if place.goal == 0 && place.asked == Asked::Show => {
+            Ok(Some(Vec::from_slice(alloc, b"count\n")?))
+        }
         _ => Ok(None),
     }
 }

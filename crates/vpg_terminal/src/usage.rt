@@ -39,7 +39,7 @@ number, N a number):
   show V ..              the verdicts of these vertices
   products, plan         known features; Even's moves, where all is known
   count                  how many vertices have which verdict; whether the page
-                         is settled, and full
+                         is settled, full or empty
   draw                   a picture of the game, for Graphviz;
   draw V                 the same of what can be reached from V, by moves that
                          win in every product left, where V is hopeless or sure
