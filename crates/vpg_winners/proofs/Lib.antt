@@ -3,7 +3,12 @@ pub mod Differing
 pub mod Mates
 pub mod Putting
 pub mod Splits
+pub mod Fronts
+pub mod Searches
+pub mod Twice
 pub mod Sound
 pub mod One
 pub mod Looking
 pub mod Rooms
+pub mod Cut
+pub mod Sides

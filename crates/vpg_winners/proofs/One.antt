@@ -4,23 +4,20 @@ use Rattle.std.specs.List.{remove}
 use Rattle.std.proofs.lemmas.Bool.{cases_order}
 use Rattle.vpg_players.specs.declared.player.Player.TheVariants.{Even, Odd}
 use Rattle.vpg_guards.specs.Formula.{Formula, truth}
-use Rattle.vpg_diagram.specs.FeatureDiagram.{Line}
-use Rattle.vpg_diagram.specs.Clauses.{IsTrueIn}
+use Rattle.vpg_diagram.specs.FeatureDiagram.{Line, feature_count}
 use Rattle.vpg_diagram.specs.declared.clause.Literal.{Literal}
 use Rattle.vpg_diagram.proofs.Lists.{All-front, All-back}
 use Rattle.vpg_game.specs.Guarded.{GuardedGame}
 use Rattle.vpg_hope.specs.Hope.{product_game}
 use Rattle.vpg_hope.proofs.Both.{not_both}
-use Rattle.vpg_partial.specs.KnownLaws.{IsRemaining}
 use Rattle.vpg_why.specs.Suffices.{choice}
-use Rattle.vpg_why.proofs.OpenFeatures.{either_value}
 use Rattle.vpg_winners.specs.declared.parts.Winner.{Winner}
 use Rattle.vpg_winners.specs.declared.parts.Winner.TheVariants.{Won, Lost, Unsettled}
-use Rattle.vpg_winners.specs.Decided.{NoneRemains, HasRemaining, WinsProduct}
+use Rattle.vpg_winners.specs.Decided.{WinsProduct}
 use Rattle.vpg_winners.specs.Joined.{PartView, CanJoin, DiffersAt, IsFirstMate, IsPut, alone, joined, ArePut, done, next, AreHalves, cut_by, whole_of, without_literal}
-use Rattle.vpg_winners.specs.Winners.{AreSettled, AreSplit, none, whole, split, AreWonAs, IsWonAs, IsFirstOpen}
+use Rattle.vpg_winners.specs.Winners.{AreSettled, AreSplit, AreSplitFrom, none, whole, split, AreWonFrom, BeginsWith, HasBeginning, IsWonAs, NoneBegins}
 use Rattle.vpg_winners.proofs.Differing.{one_place}
-use Rattle.vpg_winners.proofs.Splits.{more_remains, fewer_remains}
+use Rattle.vpg_winners.proofs.Fronts.{begins_either, begins_less}
 
 -- ---- parts that are put to others make one list
 
@@ -122,72 +119,70 @@ settled_before f (p ∷ ps) (q ∷ qs) parts put are = let before = all_told_bef
 
 -- ---- what a list of settled parts says of the products
 
-module _ (game : GuardedGame Formula) (lines : List Line) (vertex : ℕ) where
-  -- none is left; or one player wins all that are left, and there is the one part; or each player wins some
-  data Says (choices : List Literal) (parts : List PartView) : Type 0 where
-    nothing : NoneRemains lines choices → parts ≡ [] → Says choices parts
-    alike : (winner : Winner) → winner ≢ Unsettled → HasRemaining lines choices →
-        AreWonAs game lines choices vertex winner → parts ≡ whole_of winner ∷ [] → Says choices parts
-    mixed : (won lost : List Bool) → IsRemaining lines choices won → IsRemaining lines choices lost →
-        WinsProduct game Even vertex won → WinsProduct game Odd vertex lost → Says choices parts
+-- two halves that are one part each, of one winner
+two_wholes : (f : ℕ) (winner : Winner) (parts : List PartView) →
+    AreHalves f (whole_of winner ∷ []) (whole_of winner ∷ []) parts → parts ≡ whole_of winner ∷ []
+two_wholes f winner parts put = sym (all_put_one (next (joined 0 0 first (alone nobody)) done) parts put)
+  where
+    first : IsFirstMate (cut_by (choice f true) (whole_of winner) ∷ []) (cut_by (choice f false) (whole_of winner)) 0 0
+    first = record {
+      within = omega arith;
+      joins = λ d. record {
+        winner = refl;
+        literals = record {
+          front = [];
+          literal = choice f true;
+          back = [];
+          one_is = refl;
+          other_is = refl;
+          place_is = refl;
+        };
+      };
+      before = λ k d less. absurd (omega (arith, less));
+    }
+
+    nobody : (k : ℕ) (d : PartView) → k < 0 → CanJoin (get_or [] k d) (whole_of winner) → ⊥
+    nobody k d less = absurd (omega (arith, less))
+
+module _ (game : GuardedGame Formula) (lines : List Line) (vertex : ℕ) (choices : List Literal) where
+  -- none begins so; or one player wins all that do, and there is the one part; or each player wins some
+  data Says (front : List Bool) (parts : List PartView) : Type 0 where
+    nothing : NoneBegins lines choices front → parts ≡ [] → Says front parts
+    alike : (winner : Winner) → winner ≢ Unsettled → HasBeginning lines choices front →
+        AreWonFrom game lines choices vertex front winner → parts ≡ whole_of winner ∷ [] → Says front parts
+    mixed : (won lost : List Bool) → BeginsWith lines choices front won → BeginsWith lines choices front lost →
+        WinsProduct game Even vertex won → WinsProduct game Odd vertex lost → Says front parts
 
   not_both_players : (set : List Bool) → WinsProduct game Even vertex set → WinsProduct game Odd vertex set → ⊥
   not_both_players set s t = not_both (product_game (truth set) game) s.0 t.0 vertex s.1 t.1
 
-  -- two halves that are one part each, of one winner
-  two_wholes : (f : ℕ) (winner : Winner) (parts : List PartView) →
-      AreHalves f (whole_of winner ∷ []) (whole_of winner ∷ []) parts → parts ≡ whole_of winner ∷ []
-  two_wholes f winner parts put = sym (all_put_one (next (joined 0 0 first (alone nobody)) done) parts put)
-    where
-      first : IsFirstMate (cut_by (choice f true) (whole_of winner) ∷ []) (cut_by (choice f false) (whole_of winner)) 0 0
-      first = record {
-        within = omega arith;
-        joins = λ d. record {
-          winner = refl;
-          literals = record {
-            front = [];
-            literal = choice f true;
-            back = [];
-            one_is = refl;
-            other_is = refl;
-            place_is = refl;
-          };
-        };
-        before = λ k d less. absurd (omega (arith, less));
-      }
+  module _ (front : List Bool) (less : length front < feature_count lines) where
+    abbrev ins : List Bool
+    ins = front ++ true ∷ []
 
-      nobody : (k : ℕ) (d : PartView) → k < 0 → CanJoin (get_or [] k d) (whole_of winner) → ⊥
-      nobody k d less = absurd (omega (arith, less))
-
-  module _ (choices : List Literal) (f : ℕ) where
-    abbrev ins : List Literal
-    ins = choices ++ choice f true ∷ []
-
-    abbrev outs : List Literal
-    outs = choices ++ choice f false ∷ []
+    abbrev outs : List Bool
+    outs = front ++ false ∷ []
 
     -- what is so in both halves is so in all
-    in_both : (Q : List Bool → Type 0) → ((set : List Bool) → IsRemaining lines ins set → Q set) →
-        ((set : List Bool) → IsRemaining lines outs set → Q set) → (set : List Bool) → IsRemaining lines choices set → Q set
-    in_both Q a b set remains = of (either_value set f true)
-      where
-        of : IsTrueIn set (choice f true) ⊎ IsTrueIn set (choice f false) → Q set
-        of (inl h) = a set (more_remains lines choices (choice f true) set remains h)
-        of (inr h) = b set (more_remains lines choices (choice f false) set remains h)
+    in_both : (Q : List Bool → Type 0) → ((set : List Bool) → BeginsWith lines choices ins set → Q set) →
+        ((set : List Bool) → BeginsWith lines choices outs set → Q set) → (set : List Bool) →
+        BeginsWith lines choices front set → Q set
+    in_both Q a b = begins_either lines choices front Q less a b
 
-    from_ins : (set : List Bool) → IsRemaining lines ins set → IsRemaining lines choices set
-    from_ins set remains = fewer_remains lines choices (choice f true) set remains
+    from_ins : (set : List Bool) → BeginsWith lines choices ins set → BeginsWith lines choices front set
+    from_ins set begins = begins_less lines choices front true set begins
 
-    from_outs : (set : List Bool) → IsRemaining lines outs set → IsRemaining lines choices set
-    from_outs set remains = fewer_remains lines choices (choice f false) set remains
+    from_outs : (set : List Bool) → BeginsWith lines choices outs set → BeginsWith lines choices front set
+    from_outs set begins = begins_less lines choices front false set begins
 
-    two_say : (w u : Winner) (parts : List PartView) → w ≢ Unsettled → u ≢ Unsettled → HasRemaining lines ins →
-        HasRemaining lines outs → AreWonAs game lines ins vertex w → AreWonAs game lines outs vertex u →
-        AreHalves f (whole_of w ∷ []) (whole_of u ∷ []) parts → Says choices parts
+    two_say : (w u : Winner) (parts : List PartView) → w ≢ Unsettled → u ≢ Unsettled → HasBeginning lines choices ins →
+        HasBeginning lines choices outs → AreWonFrom game lines choices vertex ins w →
+        AreWonFrom game lines choices vertex outs u →
+        AreHalves (length front) (whole_of w ∷ []) (whole_of u ∷ []) parts → Says front parts
     two_say Won Won parts told also a b p q halves = alike Won told (a.0, from_ins a.0 a.1)
-        (in_both (λ set. IsWonAs game Won vertex set) p q) (two_wholes f Won parts halves)
+        (in_both (λ set. IsWonAs game Won vertex set) p q) (two_wholes (length front) Won parts halves)
     two_say Lost Lost parts told also a b p q halves = alike Lost told (a.0, from_ins a.0 a.1)
-        (in_both (λ set. IsWonAs game Lost vertex set) p q) (two_wholes f Lost parts halves)
+        (in_both (λ set. IsWonAs game Lost vertex set) p q) (two_wholes (length front) Lost parts halves)
     two_say Won Lost parts told also a b p q halves =
         mixed a.0 b.0 (from_ins a.0 a.1) (from_outs b.0 b.1) (p a.0 a.1) (q b.0 b.1)
     two_say Lost Won parts told also a b p q halves =
@@ -196,34 +191,36 @@ module _ (game : GuardedGame Formula) (lines : List Line) (vertex : ℕ) where
     two_say w Unsettled parts told also a b p q halves = absurd (also refl)
 
     half_of : (with_it without xs ys parts : List PartView) → with_it ≡ xs → without ≡ ys →
-        AreHalves f with_it without parts → AreHalves f xs ys parts
-    half_of with_it without xs ys parts e g halves = subst (λ (vs : List PartView). AreHalves f xs vs parts) g
-        (subst (λ (vs : List PartView). AreHalves f vs without parts) e halves)
+        AreHalves (length front) with_it without parts → AreHalves (length front) xs ys parts
+    half_of with_it without xs ys parts e g halves =
+        subst (λ (vs : List PartView). AreHalves (length front) xs vs parts) g
+        (subst (λ (vs : List PartView). AreHalves (length front) vs without parts) e halves)
 
     both_say : (with_it without parts : List PartView) → Says ins with_it → Says outs without →
-        AreHalves f with_it without parts → Says choices parts
+        AreHalves (length front) with_it without parts → Says front parts
     both_say with_it without parts (nothing a e) (nothing b g) halves =
         nothing (in_both (λ set. ⊥) a b) (half_of with_it without [] [] parts e g halves)
     both_say with_it without parts (nothing a e) (alike w told there won g) halves =
         alike w told (there.0, from_outs there.0 there.1)
-        (in_both (λ set. IsWonAs game w vertex set) (λ set remains. absurd (a set remains)) won)
+        (in_both (λ set. IsWonAs game w vertex set) (λ set begins. absurd (a set begins)) won)
         (half_of with_it without [] (whole_of w ∷ []) parts e g halves)
     both_say with_it without parts (alike w told there won g) (nothing b e) halves =
         alike w told (there.0, from_ins there.0 there.1)
-        (in_both (λ set. IsWonAs game w vertex set) won (λ set remains. absurd (b set remains)))
+        (in_both (λ set. IsWonAs game w vertex set) won (λ set begins. absurd (b set begins)))
         (half_of with_it without (whole_of w ∷ []) [] parts g e halves)
     both_say with_it without parts (alike w told a p g) (alike u also b q e) halves =
-        two_say w u parts told also a b p q (half_of with_it without (whole_of w ∷ []) (whole_of u ∷ []) parts g e halves)
+        two_say w u parts told also a b p q
+        (half_of with_it without (whole_of w ∷ []) (whole_of u ∷ []) parts g e halves)
     both_say with_it without parts (mixed s t r u p q) other halves = mixed s t (from_ins s r) (from_ins t u) p q
     both_say with_it without parts one (mixed s t r u p q) halves = mixed s t (from_outs s r) (from_outs t u) p q
 
-  says : {choices : List Literal} {parts : List PartView} → AreSplit game lines vertex choices parts →
-      AreSettled parts → Says choices parts
+  says : {front : List Bool} {parts : List PartView} → AreSplitFrom game lines vertex choices front parts →
+      AreSettled parts → Says front parts
   says (none lost) are = nothing lost refl
-  says (whole {choices} {winner} there won) are = alike winner are.0 (there are.0) won refl
-  says (split {choices} {with_it} {without} {parts} f first one other halves) are =
-      let before = settled_before f with_it without parts halves are in
-      both_say choices f with_it without parts (says one before.0) (says other before.1) halves
+  says (whole {front} {winner} there won) are = alike winner are.0 (there are.0) won refl
+  says (split {front} {with_it} {without} {parts} less fresh one other halves) are =
+      let before = settled_before (length front) with_it without parts halves are in
+      both_say front less with_it without parts (says one before.0) (says other before.1) halves
 
   -- ---- two lists by the rule
 
@@ -242,64 +239,51 @@ module _ (game : GuardedGame Formula) (lines : List Line) (vertex : ℕ) where
   not_mixed Lost won lost told a b p q = not_both_players won p a
   not_mixed Unsettled won lost told a b p q = told refl
 
-  none_one : (choices : List Literal) (other : List PartView) → NoneRemains lines choices → Says choices other → [] ≡ other
-  none_one choices other lost (nothing n e) = sym e
-  none_one choices other lost (alike w told there won e) = absurd (lost there.0 there.1)
-  none_one choices other lost (mixed s t r u p q) = absurd (lost s r)
+  none_one : (front : List Bool) (other : List PartView) → NoneBegins lines choices front → Says front other →
+      [] ≡ other
+  none_one front other lost (nothing n e) = sym e
+  none_one front other lost (alike w told there won e) = absurd (lost there.0 there.1)
+  none_one front other lost (mixed s t r u p q) = absurd (lost s r)
 
-  whole_one : (choices : List Literal) (other : List PartView) (w : Winner) → w ≢ Unsettled →
-      HasRemaining lines choices → AreWonAs game lines choices vertex w → Says choices other → whole_of w ∷ [] ≡ other
-  whole_one choices other w told there won (nothing n e) = absurd (n there.0 there.1)
-  whole_one choices other w told there won (alike u also some wins e) =
+  whole_one : (front : List Bool) (other : List PartView) (w : Winner) → w ≢ Unsettled →
+      HasBeginning lines choices front → AreWonFrom game lines choices vertex front w → Says front other →
+      whole_of w ∷ [] ≡ other
+  whole_one front other w told there won (nothing n e) = absurd (n there.0 there.1)
+  whole_one front other w told there won (alike u also some wins e) =
       ap (λ (x : Winner). whole_of x ∷ [])
       (one_winner w u there.0 told also (won there.0 there.1) (wins there.0 there.1)) ∙ sym e
-  whole_one choices other w told there won (mixed s t r u p q) = absurd (not_mixed w s t told (won s r) (won t u) p q)
+  whole_one front other w told there won (mixed s t r u p q) = absurd (not_mixed w s t told (won s r) (won t u) p q)
 
-  one_feature : (choices : List Literal) (f g : ℕ) → IsFirstOpen lines choices f → IsFirstOpen lines choices g → g ≡ f
-  one_feature choices f g a b = of (cases_order g f)
-    where
-      of : (g ≡ f) ⊎ ((g < f) ⊎ (f < g)) → g ≡ f
-      of (inl e) = e
-      of (inr (inl k)) = let known = a.below g k in absurd (b.not_known known.0 known.1)
-      of (inr (inr k)) = let known = b.below f k in absurd (a.not_known known.0 known.1)
+  abbrev IsOne : List Bool → List PartView → Type 0
+  IsOne front parts = (other : List PartView) → AreSplitFrom game lines vertex choices front other → AreSettled other →
+      parts ≡ other
 
-  abbrev IsOne : List Literal → List PartView → Type 0
-  IsOne choices parts = (other : List PartView) → AreSplit game lines vertex choices other → AreSettled other → parts ≡ other
+  -- both are split on the same feature
+  split_one : (front : List Bool) (with_it without parts : List PartView) → IsOne (front ++ true ∷ []) with_it →
+      IsOne (front ++ false ∷ []) without → AreHalves (length front) with_it without parts → Says front parts →
+      {other : List PartView} → AreSplitFrom game lines vertex choices front other → AreSettled other → parts ≡ other
+  split_one front with_it without parts a b halves told (none lost) are = sym (none_one front parts lost told)
+  split_one front with_it without parts a b halves told (whole {winner} there won) are =
+      sym (whole_one front parts winner are.0 (there are.0) won told)
+  split_one front with_it without parts a b halves told
+      (split {with_it = ins} {without = outs} {parts = other} less fresh one two also) are =
+      let before = settled_before (length front) ins outs other also are in
+      halves_one (length front) with_it without parts other halves
+      (subst (λ (vs : List PartView). AreHalves (length front) with_it vs other) (sym (b outs two before.1))
+      (subst (λ (vs : List PartView). AreHalves (length front) vs outs other) (sym (a ins one before.0)) also))
 
-  split_one : (choices : List Literal) (f : ℕ) (with_it without parts : List PartView) → IsFirstOpen lines choices f →
-      IsOne (choices ++ choice f true ∷ []) with_it → IsOne (choices ++ choice f false ∷ []) without →
-      AreHalves f with_it without parts → Says choices parts → {other : List PartView} →
-      AreSplit game lines vertex choices other → AreSettled other → parts ≡ other
-  split_one choices f with_it without parts first a b halves told (none lost) are = sym (none_one choices parts lost told)
-  split_one choices f with_it without parts first a b halves told (whole {winner} there won) are =
-      sym (whole_one choices parts winner are.0 (there are.0) won told)
-  split_one choices f with_it without parts first a b halves told
-      (split {with_it = ins} {without = outs} {parts = other} g second one two also) are =
-      halves_one f with_it without parts other halves
-      (subst (λ (vs : List PartView). AreHalves f with_it vs other) (sym outs_same)
-      (subst (λ (vs : List PartView). AreHalves f vs outs other) (sym ins_same) moved))
-    where
-      e : g ≡ f
-      e = one_feature choices f g first second
+  one_from : {front : List Bool} {parts : List PartView} → AreSplitFrom game lines vertex choices front parts →
+      AreSettled parts → IsOne front parts
+  one_from (none {front} lost) are other also settled = none_one front other lost (says also settled)
+  one_from (whole {front} {winner} there won) are other also settled =
+      whole_one front other winner are.0 (there are.0) won (says also settled)
+  one_from (split {front} {with_it} {without} {parts} less fresh one two halves) are other also settled =
+      let before = settled_before (length front) with_it without parts halves are in
+      split_one front with_it without parts (one_from one before.0) (one_from two before.1) halves
+      (both_say front less with_it without parts (says one before.0) (says two before.1) halves) also settled
 
-      moved : AreHalves f ins outs other
-      moved = subst (λ n. AreHalves n ins outs other) e also
-
-      before : AreSettled ins × AreSettled outs
-      before = settled_before f ins outs other moved are
-
-      ins_same : with_it ≡ ins
-      ins_same = a ins (subst (λ n. AreSplit game lines vertex (choices ++ choice n true ∷ []) ins) e one) before.0
-
-      outs_same : without ≡ outs
-      outs_same = b outs (subst (λ n. AreSplit game lines vertex (choices ++ choice n false ∷ []) outs) e two) before.1
-
+module _ (game : GuardedGame Formula) (lines : List Line) (vertex : ℕ) where
   pub winners_one : {choices : List Literal} {parts : List PartView} → AreSplit game lines vertex choices parts →
-      AreSettled parts → IsOne choices parts
-  winners_one (none {choices} lost) are other also settled = none_one choices other lost (says also settled)
-  winners_one (whole {choices} {winner} there won) are other also settled =
-      whole_one choices other winner are.0 (there are.0) won (says also settled)
-  winners_one (split {choices} {with_it} {without} {parts} f first one two halves) are other also settled =
-      let before = settled_before f with_it without parts halves are in
-      split_one choices f with_it without parts first (winners_one one before.0) (winners_one two before.1) halves
-      (both_say choices f with_it without parts (says one before.0) (says two before.1) halves) also settled
+      AreSettled parts → (other : List PartView) → AreSplit game lines vertex choices other → AreSettled other →
+      parts ≡ other
+  winners_one {choices} made are other also settled = one_from game lines vertex choices made are other also settled

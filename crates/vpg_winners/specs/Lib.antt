@@ -1,5 +1,7 @@
 pub mod Decided
 pub mod Winners
+pub mod Searched
 pub mod Joined
 pub mod Standing
 pub mod Laws
+pub mod Cutting

@@ -1,0 +1,6 @@
+-- A clause on a result follows from a stronger one.
+use Rattle.std.proofs.Common.{Result, Ok, Err, IfOk}
+
+pub if_ok_of : {T E : Type 0} (r : Result T E) {P Q : T → Type 0} → ((x : T) → P x → Q x) → IfOk r P → IfOk r Q
+if_ok_of (Ok x) f h = f x h
+if_ok_of (Err e) f h = h

@@ -1,0 +1,10 @@
+pub mod Attractors
+pub mod Drawing
+pub mod Edges
+pub mod Parts
+pub mod Reached
+pub mod Rounds
+pub mod Solutions
+pub mod Stops
+pub mod Winners
+pub mod Worklists

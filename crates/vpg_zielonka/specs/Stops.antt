@@ -1,0 +1,22 @@
+-- Reasons to stop before the winners are found. This project's own.
+use Rattle.std.specs.Prelude.{◌≡◌, ℕ, ◌≤◌, ⊤, length}
+use Rattle.vpg_sets.specs.Sets.{Arena}
+use Rattle.vpg_sets.specs.declared.fault.SetsFault.{SetsFault}
+use Rattle.vpg_sets.specs.declared.fault.SetsFault.TheVariants as faults
+use Rattle.vpg_zielonka.specs.declared.stop.Stop.{Stop}
+use Rattle.vpg_zielonka.specs.declared.stop.Stop.TheVariants as stops
+
+-- the arena has as many nodes as it may have
+abbrev pub IsFull : Arena → Type 0
+IsFull arena = arena.limit ≤ length arena.nodes
+
+-- the arena is full, or the steps are spent
+abbrev pub StopsAt : Arena → ℕ → Stop → Type 0
+StopsAt arena steps stops.Full = IsFull arena
+StopsAt arena steps stops.Spent = steps ≡ 0
+StopsAt arena steps stops.Memory = ⊤
+
+-- why a set could not be made
+abbrev pub stop_of : SetsFault → Stop
+stop_of faults.Full = stops.Full
+stop_of faults.Memory = stops.Memory
