@@ -12,8 +12,8 @@
 //! spell them. This one asks the crates of reasons, of moves and of numbers below, and appends the lines. The layer
 //! above answers lines of scripts by it; it changes nothing.
 //!
-//! `look` answers a lookup, by the texts below. If that asserts verdicts of a vertex, it first looks for a product that
-//! is left.
+//! `look` answers a lookup, by the texts below. If that asserts verdicts of a vertex, or is `count`, it first looks for
+//! a product that is left.
 //!
 //! An answer is a function of the page if no limit was met (`laws::answers_are_one`), and none is met if the limits
 //! leave room. Numbers of parts then add up (`laws::numbers_add_up`). If one was met, the text says so. ` or fewer`

@@ -27,7 +27,7 @@ pub(crate) fn winner_at(priority: u32) -> Player
     }
 }
 
-/// Returns the greater of two priorities, of which the first may be absent.
+/// Returns the greater of two priorities. The first may be absent.
 fn greater(greatest: Option<u32>, priority: u32) -> u32
     ensures least { priority ≤ result }
     ensures more { IfSome greatest (λ d. d ≤ result) }
