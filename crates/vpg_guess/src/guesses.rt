@@ -472,8 +472,8 @@ impl Raising<'_> {
         }
     }
 
-    /// Raises the table as `raise_by_bounds` does, within a budget that several tables may share, and by what is kept
-    /// of the game. Returns whether it is a progress table then.
+    /// Raises the table as `raise_within` does, within a budget that several tables may share, and by what is kept of
+    /// the game. Returns whether it is a progress table then.
     #[tactic(auto, using(crate::proofs::Kept::kept_self, crate::proofs::Kept::round_stays))]
     pub(crate) fn raise(
         &mut self,
@@ -538,26 +538,4 @@ pub fn raise_within(
     *looks = budget.left().min(*looks);
     *table = raising.into_table();
     settled
-}
-
-/// Raises a table as `raise_within` does, with this many looks of its own.
-pub fn raise_by_bounds(
-    alloc: Global,
-    shape: &Shape,
-    dual_shape: &Shape,
-    arena: &Arena,
-    table: &mut Table,
-    budget: u64,
-) -> Result<bool, AllocError>
-    requires { IsTableOf shape.now arena.now table.old }
-    ensures settled { IfOk result (λ settled. IsTrue settled ↔ IsProgressTable shape.now arena.now table.new) }
-    ensures table { IsTableOf shape.now arena.now table.new }
-    ensures above { IsBelowTable table.old table.new }
-    ensures below { (other : List ℕ) → IsTableOf shape.now arena.now other → IsProgressTable shape.now arena.now other →
-        IsBelowTable table.old other → IsBelowTable table.new other }
-    // The table is on or above itself after a round of lifts, even if memory runs out.
-    ensures round { IsBelowTable (after_rounds shape.now arena.now 1 table.old) table.new }
-{
-    let mut looks = budget;
-    raise_within(alloc, shape, dual_shape, arena, table, &mut looks)
 }

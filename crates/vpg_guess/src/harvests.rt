@@ -138,7 +138,7 @@ pub(crate) fn harvest_of(order: Order, hopeful: RaisedTable, dual: RaisedTable) 
     noted_where(harvest, hopeful_settled, dual_settled)
 }
 
-/// Returns the order with both its tables raised as by `raise_by_bounds`, within one budget, and by what is kept of its
+/// Returns the order with both its tables raised as by `raise_within`, within one budget, and by what is kept of its
 /// game, which is kept on. The only error is a lack of memory; then the order comes back.
 pub fn harvest_by_bounds(
     alloc: Global,

@@ -9,8 +9,8 @@
 //!
 //! A `Raising` is a table with all that raising it reads; its methods lift and guess (`remaining`, `guesses`).
 //!
-//! The layer above uses `raise_within` and `raise_by_bounds` for one table, `harvest_by_bounds` for both tables of an
-//! order, and `harvest_by_bounds_at_once` for both with a thread for each. The lists that they make of a game are its
+//! The layer above uses `raise_within` for one table, `harvest_by_bounds` for both tables of an order, and
+//! `harvest_by_bounds_at_once` for both with a thread for each. The lists that they make of a game are its
 //! `Groundwork`, which the layer above keeps from one page to the next. Definitions: those of `vpg_measure`
 //! (`specs/Bounds`, `specs/Lifts`, `specs/Orders`).
 #![tactic(auto)]
@@ -27,5 +27,5 @@ mod rising;
 
 pub use at_once::harvest_by_bounds_at_once;
 pub use ground::Groundwork;
-pub use guesses::{raise_by_bounds, raise_within};
+pub use guesses::raise_within;
 pub use harvests::harvest_by_bounds;

@@ -7,19 +7,16 @@ ghost use Rattle.vpg_measure.specs.TwoGames.{top_for};
 ghost use Rattle.vpg_steps.specs.Steps.{FindsPath, FindsWon, IsPathOf, trail_of};
 ghost use Rattle.vpg_trace.specs.Answering.{page_of, walk_along};
 ghost use Rattle.vpg_why.specs.Explained.{choices};
-ghost use Rattle.vpg_why.specs.Moves.{AreWinning, caution_for};
+ghost use Rattle.vpg_why.specs.Moves.{AreWinning};
 
 use crate::path::path_of;
 use std::alloc::{AllocError, Global};
 use vpg_checking::Behaviour;
-use vpg_game::GuardedGame;
-use vpg_hope::Arena;
 use vpg_measure::{Order, PageGames};
-use vpg_partial::Partial;
 use vpg_system_draw::Path;
 use vpg_trace::follow;
 use vpg_verdict::Which;
-use vpg_why::{Limits, Moves, winning_moves};
+use vpg_why::{Limits, Moves, caution, winning_moves};
 
 /// Whether the page's table has the top at the vertex.
 fn has_top(order: &Order, which: Which, vertex: u32) -> bool
@@ -28,22 +25,6 @@ fn has_top(order: &Order, which: Which, vertex: u32) -> bool
         (slice_index (order_table which order.now) vertex ≡ top_for which (graph_of order.now.game)) }
 {
     order.table(which).get(vertex) == order.shape(which).top()
-}
-
-/// Returns the cautious game of a player, who stands as Even there.
-fn caution(
-    alloc: Global,
-    game: &GuardedGame,
-    known: &Partial,
-    mover: Which,
-) -> Result<Arena, AllocError>
-    requires { length known.now ≡ game.now.features }
-    ensures { IfOk result (λ arena. arena ≡ caution_for known.now mover (graph_of game.now)) }
-{
-    match mover {
-        Which::Hopeful => Arena::cautious(alloc, game, known),
-        Which::Dual => Arena::cautious_of_dual(alloc, game, known),
-    }
 }
 
 /// Returns the path of the walk along these moves of a player, under what the page's decisions make known.

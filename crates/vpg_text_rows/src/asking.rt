@@ -17,18 +17,14 @@ ghost use Rattle.std.specs.Prelude.{◌<◌, IfSome, length};
 ghost use Rattle.vpg_diagram.specs.FeatureDiagram.{feature_count};
 ghost use Rattle.vpg_why.specs.Suffices.{IsAim};
 
+use crate::changing::{put_repair, put_with, put_without};
 use crate::decisions::decision_of;
 use crate::line::Line;
-use crate::putting::{
-    put_demand, put_found, put_offer, put_remedy, put_shown, put_why, put_why_lost,
-};
+use crate::putting::{put_demand, put_found, put_why, put_why_lost};
 use vpg_measure::Order;
 use vpg_partial::Decision;
 use vpg_verdict::Which;
-use vpg_why::{
-    Aim, Limits, find, look_ahead, look_back, needs, repair, stays_without, why, why_conflict,
-    why_known, why_lost,
-};
+use vpg_why::{Aim, Limits, find, needs, why_conflict, why_known, why_lost, why_within};
 
 /// The question of a word.
 #[derive(Clone, Copy)]
@@ -156,12 +152,12 @@ fn ask_vertex(
 ) {
     if let Some(vertex) = vertex_of(order, word, line) {
         match asked {
-            RowInquiry::Why => put_why(order, why(line.alloc, order, which, vertex, limits), line),
-            _ => put_remedy(
-                order,
-                repair(line.alloc, order, which, vertex, limits),
-                line,
-            ),
+            RowInquiry::Why => {
+                let mut looks = limits.budget;
+                let found = why_within(line.alloc, order, which, vertex, limits, &mut looks);
+                put_why(order, found, line);
+            }
+            _ => put_repair(order, which, vertex, limits, line),
         }
     }
 }
@@ -180,17 +176,7 @@ fn ask_choice(order: &Order, asked: RowInquiry, word: &str, line: &mut Line) {
 fn ask_offer(order: &Order, choice: &str, word: &str, limits: Limits, line: &mut Line) {
     if let Some(choice) = choice_of(order, choice, line) {
         if let Some(vertex) = vertex_of(order, word, line) {
-            put_offer(
-                look_ahead(
-                    line.alloc,
-                    order,
-                    choice.feature,
-                    choice.value,
-                    vertex,
-                    limits,
-                ),
-                line,
-            );
+            put_with(order, choice, vertex, limits, line);
         }
     }
 }
@@ -206,14 +192,7 @@ fn ask_fewer(
 ) {
     if let Some(place) = place_of(order, number, line) {
         if let Some(vertex) = vertex_of(order, word, line) {
-            match which {
-                Some(which) => put_shown(
-                    which,
-                    stays_without(line.alloc, order, which, place, vertex, limits),
-                    line,
-                ),
-                None => put_offer(look_back(line.alloc, order, place, vertex, limits), line),
-            }
+            put_without(order, which, place, vertex, limits, line);
         }
     }
 }

@@ -20,6 +20,7 @@
 mod arenas;
 mod asked;
 mod asking;
+mod changing;
 mod decisions;
 mod diagrams;
 mod family;

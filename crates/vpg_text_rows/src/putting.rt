@@ -6,9 +6,7 @@ use vpg_diagram::{Diagram, Literal};
 use vpg_measure::Order;
 use vpg_partial::Decision;
 use vpg_verdict::Which;
-use vpg_why::{
-    Demand, Example, Explanation, Forced, Found, Offer, Remedy, Retraction, Shown, WhyLost,
-};
+use vpg_why::{Demand, Example, Explanation, Forced, Found, Shown, WhyLost};
 
 /// Writes a feature with its value: `+f` or `-f`, and a blank before it.
 fn put_one(diagram: &Diagram, feature: u16, value: bool, line: &mut Line) {
@@ -120,39 +118,30 @@ fn verdict_word(which: Which, shown: Shown) -> &'static str {
 }
 
 /// Writes the verdict of a table that there would be.
-pub(crate) fn put_shown(which: Which, shown: Result<Shown, AllocError>, line: &mut Line) {
-    if let Some(shown) = line.kept(shown) {
-        line.put(verdict_word(which, shown));
-    }
+pub(crate) fn put_verdict(which: Which, shown: Shown, line: &mut Line) {
+    line.put(verdict_word(which, shown));
 }
 
 /// Writes the verdicts that there would be.
-pub(crate) fn put_offer(found: Result<Offer, AllocError>, line: &mut Line) {
-    match line.kept(found) {
-        Some(Offer::Conflict) => line.put("conflict"),
-        Some(Offer::Verdict { hopeless, sure }) => line.put_each(&[
-            verdict_word(Which::Hopeful, hopeless),
-            " ",
-            verdict_word(Which::Dual, sure),
-        ]),
-        None => {}
-    }
+pub(crate) fn put_verdicts(hopeless: Shown, sure: Shown, line: &mut Line) {
+    line.put_each(&[
+        verdict_word(Which::Hopeful, hopeless),
+        " ",
+        verdict_word(Which::Dual, sure),
+    ]);
 }
 
-fn put_retraction(diagram: &Diagram, found: &Retraction, line: &mut Line) {
+/// Writes the decisions to retract, and those that stay.
+pub(crate) fn put_retraction(
+    diagram: &Diagram,
+    given: &[Decision],
+    kept: &[Decision],
+    exact: bool,
+    line: &mut Line,
+) {
     line.put("retract");
-    put_decisions(diagram, &found.retracted, line);
+    put_decisions(diagram, given, line);
     line.put(" keep");
-    put_decisions(diagram, &found.kept, line);
-    line.put(if found.exact { "" } else { " or more" });
-}
-
-/// Writes the decisions to retract.
-pub(crate) fn put_remedy(order: &Order, found: Result<Remedy, AllocError>, line: &mut Line) {
-    match line.kept(found) {
-        Some(Remedy::Retract(found)) => put_retraction(order.diagram(), &found, line),
-        Some(Remedy::Nothing) => line.put("nothing"),
-        Some(Remedy::Unsettled) => line.put("unsettled"),
-        None => {}
-    }
+    put_decisions(diagram, kept, line);
+    line.put(if exact { "" } else { " or more" });
 }

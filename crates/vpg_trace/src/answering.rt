@@ -6,7 +6,6 @@ ghost use Rattle.vpg_measure.specs.Games.{ArePageGames};
 ghost use Rattle.vpg_measure.specs.Orders.{order_table, other_table};
 ghost use Rattle.vpg_measure.specs.TwoGames.{top_for};
 ghost use Rattle.vpg_why.specs.Explained.{choices};
-ghost use Rattle.vpg_why.specs.Moves.{caution_for};
 ghost use Rattle.vpg_trace.specs.Answering.{Appends, TellsTrace, TellsWon, IsWalkTold, family_on, head_line, neither_line, page_of, unsettled_line, walk_along};
 ghost use Rattle.vpg_trace.specs.Texts.{trace_text};
 ghost use Rattle.vpg_trace.specs.Walks.{is_left};
@@ -15,12 +14,9 @@ use crate::walking::follow;
 use crate::writing::{put_number, put_trace};
 use std::alloc::{AllocError, Global};
 use vpg_checking::Behaviour;
-use vpg_game::GuardedGame;
-use vpg_hope::Arena;
 use vpg_measure::{Order, PageGames};
-use vpg_partial::Partial;
 use vpg_verdict::Which;
-use vpg_why::{Limits, Moves, winning_moves};
+use vpg_why::{Limits, Moves, caution, winning_moves};
 
 /// Whether the page's table has the top at the vertex.
 fn has_top(order: &Order, which: Which, vertex: u32) -> bool
@@ -38,22 +34,6 @@ fn other_table(which: Which) -> Which
     match which {
         Which::Hopeful => Which::Dual,
         Which::Dual => Which::Hopeful,
-    }
-}
-
-/// Returns the cautious game of a player, who stands as Even there.
-fn caution(
-    alloc: Global,
-    game: &GuardedGame,
-    known: &Partial,
-    which: Which,
-) -> Result<Arena, AllocError>
-    requires { length known.now ≡ game.now.features }
-    ensures { IfOk result (λ arena. arena ≡ caution_for known.now which (graph_of game.now)) }
-{
-    match which {
-        Which::Hopeful => Arena::cautious(alloc, game, known),
-        Which::Dual => Arena::cautious_of_dual(alloc, game, known),
     }
 }
 

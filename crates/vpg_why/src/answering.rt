@@ -51,9 +51,10 @@ fn lost_shown(
     }
 }
 
-/// Whether the decisions alone make it so, as `suffice` says it, as one of several questions of a line. Looks for
-/// certified bounds are taken from those of the line; so are trials, half at most of those that are left, unless a small
-/// family has the trials of the limits for each question.
+/// Whether the decisions alone make it so, as one of several questions of a line. Looks for certified bounds are taken
+/// from those of the line; so are trials, half at most of those that are left, unless a small family has the trials of
+/// the limits for each question. `Unsettled` is returned if a limit was met: never for features, nor if a small family's
+/// limits leave room for an answer.
 pub(crate) fn suffice_within(
     alloc: Global,
     order: &Order,
@@ -88,35 +89,4 @@ pub(crate) fn suffice_within(
             conflict_shown(alloc, order, feature, value, decisions)
         }
     }
-}
-
-/// Whether the decisions alone make it so, for the order's game and diagram. The only error is a lack of memory.
-/// `Unsettled` is returned if a limit was met: never for features, nor if the limits leave room for an answer.
-pub fn suffice(
-    alloc: Global,
-    order: &Order,
-    question: Question,
-    decisions: &[Decision],
-    limits: Limits,
-) -> Result<Shown, AllocError>
-    requires named { AreChoicesOf order.now.diagram.lines (choices decisions.now) }
-    requires askable { IsAskable order.now.game order.now.diagram question }
-    ensures yes { IfOk result (λ shown. shown ≡ Shown.Yes → Suffice order.now.game order.now.diagram question (choices decisions.now)) }
-    ensures no { IfOk result (λ shown. shown ≡ Shown.No → Suffice order.now.game order.now.diagram question (choices decisions.now) → ⊥) }
-    ensures settled { IfOk result (λ shown.
-        IsSettled order.now.game order.now.diagram limits question (choices decisions.now) →
-        shown ≢ Shown.Unsettled) }
-{
-    let mut looks = limits.budget;
-    let mut trials = limits.trials;
-    suffice_within(
-        alloc,
-        order,
-        question,
-        decisions,
-        limits,
-        &mut looks,
-        true,
-        &mut trials,
-    )
 }

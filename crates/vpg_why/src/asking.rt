@@ -109,30 +109,6 @@ pub(crate) fn is_top_within(
     }
 }
 
-/// Whether every progress table of one of the two games has the top at the vertex, as `is_top_within` says it, with the
-/// looks of the limits.
-pub(crate) fn is_top(
-    alloc: Global,
-    order: &Order,
-    games: &PageGames,
-    which: Which,
-    vertex: u32,
-    limits: Limits,
-) -> Result<Shown, AllocError>
-    requires games { AreGamesOf order.now.game order.now.diagram games.now }
-    requires vertex { vertex < length order.now.game.vertices }
-    ensures yes { IfOk result (λ shown. shown ≡ Shown.Yes → IsTopUnder order.now.game which vertex games.now.known) }
-    ensures no { IfOk result (λ shown. shown ≡ Shown.No → IsTopUnder order.now.game which vertex games.now.known → ⊥) }
-    ensures low { IfOk result (λ shown. shown ≡ Shown.No → IsLowUnder order.now.game which vertex games.now.known) }
-    ensures settled { IfOk result (λ shown. SettlesWithin limits.rounds order.now.game which games.now.known → shown ≢ Shown.Unsettled) }
-    // Yes is shown, settled or not, if this many rounds from zeros bring the vertex to the top.
-    ensures raised { IfOk result (λ shown.
-        RoundsReachTop limits.rounds order.now.game which vertex games.now.known → shown ≡ Shown.Yes) }
-{
-    let mut looks = limits.budget;
-    is_top_within(alloc, order, games, which, vertex, limits, &mut looks)
-}
-
 /// Whether a feature is known so.
 fn is_known(known: &Partial, feature: u16, value: bool) -> bool
     requires { feature < length known.now }

@@ -195,8 +195,14 @@ fn last_needed(
     Ok(Some(last))
 }
 
-// The explanation of `explain`, with the looks of a line, and its trials unless a small family has those of the limits
-// for each question. It is tried first whether the last of the decisions in the hint are the last that are needed.
+/// Returns some of the decisions, which suffice, that suffice alone. None of them can be left out, if the answer says
+/// so: then no list of them that lacks one suffices.
+///
+/// It is the explanation with the earliest last decision on the page, and before that the earliest next to last, and so
+/// on. This holds as far as no trial met a limit. It takes about the logarithm of the page's decisions in trials for
+/// each decision that it lists. It is tried first whether the last of the decisions in the hint are the last that are
+/// needed. Looks are taken from those of a line, and so are its trials, unless a small family has those of the limits
+/// for each question. The only error is a lack of memory.
 pub(crate) fn explain_by(
     alloc: Global,
     order: &Order,
@@ -239,40 +245,4 @@ pub(crate) fn explain_by(
         decisions: kept,
         exact,
     })
-}
-
-/// Returns some of the decisions, which suffice, that suffice alone. None of them can be left out, if the answer says
-/// so: then no list of them that lacks one suffices.
-///
-/// It is the explanation with the earliest last decision on the page, and before that the earliest next to last, and so
-/// on. This holds as far as no trial met a limit. It takes about the logarithm of the page's decisions in trials for
-/// each decision that it lists. The only error is a lack of memory.
-pub fn explain(
-    alloc: Global,
-    order: &Order,
-    question: Question,
-    decisions: &[Decision],
-    limits: Limits,
-) -> Result<Explanation, AllocError>
-    requires named { AreChoicesOf order.now.diagram.lines (choices decisions.now) }
-    requires askable { IsAskable order.now.game order.now.diagram question }
-    requires enough { Suffice order.now.game order.now.diagram question (choices decisions.now) }
-    ensures explains { IfOk result (λ found. Explains (Suffice order.now.game order.now.diagram question) decisions.now found.decisions.items found.exact) }
-    ensures settled { IfOk result (λ found.
-        EachIsSettled order.now.game order.now.diagram limits question (choices decisions.now) → IsTrue found.exact) }
-{
-    let mut looks = limits.budget;
-    let mut trials = limits.trials;
-    let found = explain_by(
-        alloc,
-        order,
-        question,
-        decisions,
-        &[],
-        limits,
-        &mut looks,
-        true,
-        &mut trials,
-    )?;
-    Ok(found)
 }

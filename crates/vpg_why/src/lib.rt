@@ -3,8 +3,8 @@
 //!
 //! Each answer is made from an `Order` (game, diagram, decisions and tables of a page) and changes nothing. A
 //! `Question` is whether a list of decisions *alone* makes it so: a vertex hopeless or sure, lost in every product, a
-//! feature known, or one more decision contradictory. If some decisions make it so, more do. So `explain` can look for
-//! few: it lists decisions that suffice, none of which can be left out. There is one such list that prefers older
+//! feature known, or one more decision contradictory. If some decisions make it so, more do. So an `Explanation` can be
+//! short: it lists decisions that suffice, none of which can be left out. There is one such list that prefers older
 //! decisions, so the answer is a function of the page. Each trial goes over from the order's games to those of its
 //! decisions, and begins with the order's tables if it knows all that the order does. Questions of features alone make
 //! no games. Where each product left is shown to meet an aim, a search for one goes on by features alone.
@@ -17,13 +17,13 @@
 //! search along them and all edges of the opponent. `reachable` returns the vertices that can be reached over edges
 //! that may be there, by such moves or by any.
 //!
-//! The layer above uses `why`, `why_lost`, `why_known`, `why_conflict` (explanations), `find` (an example or a
+//! The layer above uses `why_within`, `why_lost`, `why_known`, `why_conflict` (explanations), `find` (an example or a
 //! counterexample, or that there is none) and `needs` (the features that all won products share). It uses `foresee`
-//! (the verdicts and the winner after one more decision), `seek` and `verdict_shown` (what other decisions would bring)
-//! and `winning_moves`. `look_ahead`, `look_back`, `stays_without` and `repair` speak of verdicts alone.
-//! `Which::Hopeful` asks for Even, `Which::Dual` for Odd. Every answer has `Limits` of work, and says if it met one: it
-//! is then unsettled, never wrong. Its searches share them: each takes looks and trials from what is left, and gives
-//! back what it did not need. Only a search of few features has the trials of the limits for itself.
+//! (the verdicts and the winner after one more decision), `seek` and `verdict_shown` (what other decisions would
+//! bring), `winning_moves`, and `caution` (the game that those win). `Which::Hopeful` asks for Even, `Which::Dual` for
+//! Odd. Every answer has `Limits` of work, and says if it met one: it is then unsettled, never wrong. Its searches
+//! share them: each takes looks and trials from what is left, and gives back what it did not need. Only a search of few
+//! features has the trials of the limits for itself.
 //!
 //! Definitions: `specs/Suffices` (what decisions alone make so); `specs/Explained` (explanations); `specs/Products`
 //! (the products that decisions leave); `specs/Eased` (aims that each product left meets); `specs/Found`,
@@ -41,10 +41,8 @@ mod forcing;
 mod foreseeing;
 mod grounds;
 pub mod laws;
-mod offering;
 mod question;
 mod reaching;
-mod repairing;
 mod searching;
 mod seeking;
 mod settling;
@@ -52,16 +50,13 @@ mod stepping;
 mod telling;
 mod winning;
 
-pub use answering::suffice;
 pub use asking::{games_with, verdict_shown, with_one};
-pub use explaining::{Explanation, explain};
+pub use explaining::Explanation;
 pub use forcing::{Demand, Forced, needs};
 pub use foreseeing::{Findings, Foresight, Side, foresee, no_findings};
-pub use offering::{Offer, look_ahead, look_back, stays_without};
 pub use question::{Aim, Limits, Question, Shown};
-pub use repairing::{Remedy, Retraction, repair};
 pub use searching::{Example, Found, Outlook, find, look_at_games, search, search_all};
 pub use seeking::{is_small, large_limits, seek};
 pub use stepping::reachable;
-pub use telling::{WhyLost, why, why_conflict, why_known, why_lost, why_within};
-pub use winning::{Moves, winning_moves};
+pub use telling::{WhyLost, why_conflict, why_known, why_lost, why_within};
+pub use winning::{Moves, caution, winning_moves};

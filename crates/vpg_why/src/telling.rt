@@ -10,8 +10,8 @@ ghost use Rattle.vpg_diagram.specs.FeatureDiagram.{feature_count};
 ghost use Rattle.vpg_diagram.specs.declared.clause.Literal.{Literal};
 ghost use Rattle.vpg_why.specs.Suffices.{Suffice, EachIsSettled, IsAim, IsAskable, IsSettled};
 
-use crate::answering::suffice;
-use crate::explaining::{Explanation, explain, explain_by};
+use crate::answering::suffice_within;
+use crate::explaining::{Explanation, explain_by};
 use crate::question::{Aim, Limits, Question, Shown};
 use crate::searching::{Example, Found, find_within};
 use crate::seeking::is_small;
@@ -20,7 +20,8 @@ use vpg_measure::Order;
 use vpg_partial::Decision;
 use vpg_verdict::Which;
 
-/// Returns the decisions that `why` returns, with the looks that a line has left.
+/// Returns the decisions of the page that make the vertex hopeless, by the hopeful table, or sure, by the dual one, with
+/// the looks that a line has left. Returns nothing if the page's table does not have it so.
 pub fn why_within(
     alloc: Global,
     order: &Order,
@@ -57,29 +58,6 @@ pub fn why_within(
         &mut trials,
     )?;
     Ok(Some(found))
-}
-
-/// Returns the decisions of the page that make the vertex hopeless, by the hopeful table, or sure, by the dual one.
-/// Returns nothing if the page's table does not have it so.
-pub fn why(
-    alloc: Global,
-    order: &Order,
-    which: Which,
-    vertex: u32,
-    limits: Limits,
-) -> Result<Option<Explanation>, AllocError>
-    requires { vertex < length order.now.game.vertices }
-    ensures told { IfOk result (λ found. IsSome found ↔ (slice_index (order_table which order.now) vertex ≡ top_for which (graph_of order.now.game))) }
-    ensures explains { IfOk result (λ found. IfSome found (λ e.
-        Explains (Suffice order.now.game order.now.diagram (Question.Verdict which vertex)) order.now.decisions e.decisions.items e.exact)) }
-    // These decisions alone leave the loser of the verdict no winning strategy in any product that agrees with them.
-    ensures lost { IfOk result (λ found. IfSome found (λ e. NoneMeets order.now.game order.now.diagram (Aim.Won which vertex) (choices e.decisions.items))) }
-    ensures settled { IfOk result (λ found. IfSome found (λ e.
-        EachIsSettled order.now.game order.now.diagram limits (Question.Verdict which vertex)
-        (choices order.now.decisions) → IsTrue e.exact)) }
-{
-    let mut looks = limits.budget;
-    why_within(alloc, order, which, vertex, limits, &mut looks)
 }
 
 /// Why no product meets an aim: the decisions that make it so, or a product that does.
@@ -197,12 +175,32 @@ fn why_so(
         rounds: 0,
         trials: 0,
     };
-    let shown = suffice(alloc, order, question, order.decisions(), limits)?;
+    let (mut looks, mut trials) = (0, 0);
+    let shown = suffice_within(
+        alloc,
+        order,
+        question,
+        order.decisions(),
+        limits,
+        &mut looks,
+        true,
+        &mut trials,
+    )?;
     match shown {
         Shown::Yes => {}
         _ => return Ok(None),
     }
-    let found = explain(alloc, order, question, order.decisions(), limits)?;
+    let found = explain_by(
+        alloc,
+        order,
+        question,
+        order.decisions(),
+        &[],
+        limits,
+        &mut looks,
+        true,
+        &mut trials,
+    )?;
     Ok(Some(found))
 }
 

@@ -9,7 +9,7 @@ use crate::lifting::asks::Ask::{Bounds, Ends, Guess, Lifts, Plan};
 use crate::lifting::given::{ROOT, copy_of, is_table, let_go, order_from, row_of, small};
 use std::process::Abort;
 use std::test::*;
-use vpg_guess::raise_by_bounds;
+use vpg_guess::raise_within;
 use vpg_hope::Arena;
 use vpg_measure::Outcome::{RanOut, Settled};
 use vpg_measure::{
@@ -130,9 +130,10 @@ fn is_guessed<R: Abort + AllocGlobal>(
     };
     let dual = given(rt, shape_of_dual);
     let (shape, arena) = (order.shape(which), order.arena(which));
+    let mut looks = budget;
     given(
         rt,
-        raise_by_bounds(rt.alloc(), shape, &dual, arena, table, budget),
+        raise_within(rt.alloc(), shape, &dual, arena, table, &mut looks),
     )
 }
 

@@ -16,20 +16,20 @@ pub returns-in_default-clause-told : goal.returns-in_default-clause-told
 returns-in_default-clause-told c = (
   (λ e. absurd (clash e)),
   λ h. absurd ((rw c.decisions.ensures.decisions at c.in_ok-shown.ensures.no)
-      (only_no c.in_ok-shown.shown c.in_default.not-Yes (c.in_ok-shown.ensures.settled (c.requires.settled (record { budget = 0; rounds = 0; trials = 0 }) _))) h),
+      (only_no c.in_ok-shown.shown c.in_default.not-Yes (c.in_ok-shown.ensures.settled refl (c.requires.settled (record { budget = 0; rounds = 0; trials = 0 }) _))) h),
 )
 
 pub returns-clause-explains : goal.returns-clause-explains
 returns-clause-explains c = rw c.decisions-2.ensures.decisions at c.in_ok-found.ensures.explains
 
 pub returns-clause-exact : goal.returns-clause-exact
-returns-clause-exact c = c.in_ok-found.ensures.settled (λ own among. c.requires.settled (record { budget = 0; rounds = 0; trials = 0 }) own)
+returns-clause-exact c = c.in_ok-found.ensures.settled refl (λ own among. c.requires.settled (record { budget = 0; rounds = 0; trials = 0 }) own)
 
 pub returns-clause-told : goal.returns-clause-told
 returns-clause-told c = grind (arith, common_steps)
 
-pub explain-requires-clause-enough : goal.explain-requires-clause-enough
-explain-requires-clause-enough c = grind (arith, common_steps)
+pub explain_by-requires-clause-enough : goal.explain_by-requires-clause-enough
+explain_by-requires-clause-enough c = grind (arith, common_steps)
 
-pub explain-requires-clause-named : goal.explain-requires-clause-named
-explain-requires-clause-named c = grind (arith, common_steps)
+pub explain_by-requires-clause-named : goal.explain_by-requires-clause-named
+explain_by-requires-clause-named c = grind (arith, common_steps)

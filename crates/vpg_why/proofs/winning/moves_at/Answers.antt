@@ -1,7 +1,7 @@
 use Rattle.std.proofs.Common.{◌∙◌, List, sym, subst, refl}
 use Rattle.vpg_game.specs.declared.levels.Level.{Level}
 use Rattle.vpg_measure.specs.Least.{IsLeastTable}
-use Rattle.vpg_why.proofs.Caution.{are_winning, nothing_found, vertex_there}
+use Rattle.vpg_why.proofs.MovesFound.{are_winning, nothing_found, vertex_there}
 use Rattle.vpg_why.proofs.winning.moves_at.Goals as goal
 use Rattle.vpg_why.specs.Explained.{choices}
 
