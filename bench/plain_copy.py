@@ -26,7 +26,8 @@ import families
 import settling
 
 HERE = os.path.dirname(os.path.abspath(__file__))
-VERDICT = """
+SIDES = """
+pub use crate::shim::Player;
 #[derive(Clone, Copy)]
 pub enum Which {
     Hopeful,
@@ -77,9 +78,9 @@ def plain(crate, text):
     lines = [line.replace("///", "//") for line in lines if not line.strip().startswith(left_out)]
     text = "\n".join(lines).replace(", Error)]", ")]")
     text = re.sub(r"\bcrate::", f"crate::{crate}::", text)
-    copied = r"^use (vpg_regions|vpg_tangles|vpg_values|vpg_measure|vpg_verdict)::"
+    copied = r"^use (vpg_regions|vpg_tangles|vpg_values|vpg_measure|vpg_sides)::"
     text = re.sub(copied, r"use crate::\1::", text, flags=re.M)
-    others = r"^use (vpg_game|vpg_players|vpg_hope(::arena)?|std::(alloc|collections))::"
+    others = r"^use (vpg_game|vpg_hope(::arena)?|std::(alloc|collections))::"
     text = re.sub(others, "use crate::shim::", text, flags=re.M)
     text = re.sub(r"^use std::marker::Model;", "", text, flags=re.M)
     return re.sub(r"^use crate::shim::(\{?)(.*?)(\}?);", lambda m: used(m.group(2)), text, flags=re.M)
@@ -117,7 +118,7 @@ def copy(root):
     solvers = ("vpg_regions", "vpg_tangles", "vpg_values")
     solvers = {name: crate_text(root, name, None) + passed_on(root, name) for name in solvers}
     crates = {
-        "vpg_verdict": VERDICT,
+        "vpg_sides": SIDES,
         **solvers,
         "vpg_guess": crate_text(root, "vpg_guess", None),
         "vpg_measure": crate_text(root, "vpg_measure", ["bounds", "lifts", "shape", "table"]) + MEASURE,

@@ -1,7 +1,7 @@
 -- Assertions of exact verdicts.
 use Rattle.std.proofs.Common.{◌≡◌, ℕ, Bool, List, refl, sym, ap, ◌∙◌, subst, inl, inr}
 use Rattle.std.specs.Prelude.{◌⊎◌, codes}
-use Rattle.vpg_players.specs.declared.player.Player.TheVariants.{Even, Odd}
+use Rattle.vpg_sides.specs.declared.player.Player.TheVariants.{Even, Odd}
 use Rattle.vpg_guards.specs.Formula.{truth}
 use Rattle.vpg_diagram.specs.declared.clause.Literal.{Literal}
 use Rattle.vpg_game.specs.Game.{graph_of}
@@ -11,10 +11,10 @@ use Rattle.vpg_measure.specs.Orders.{OrderView}
 use Rattle.vpg_partial.specs.declared.decision.Decision.{Decision}
 use Rattle.vpg_script.specs.declared.exact.ExactVerdict.{ExactVerdict}
 use Rattle.vpg_script.specs.declared.exact.ExactVerdict.TheVariants as exacts
-use Rattle.vpg_serving.specs.Answer.{Answer}
+use Rattle.vpg_script.specs.Answer.{Answer}
 use Rattle.vpg_texts.specs.Scene.{Scene, scene_of}
 use Rattle.vpg_texts.specs.Sights.{holding}
-use Rattle.vpg_verdict.specs.declared.which.Which.TheVariants.{Hopeful, Dual}
+use Rattle.vpg_sides.specs.declared.which.Which.TheVariants.{Hopeful, Dual}
 use Rattle.vpg_why.specs.Explained.{choices}
 use Rattle.vpg_why.specs.Suffices.{IsSettled}
 use Rattle.vpg_why.specs.declared.question.Aim.TheVariants as aims

@@ -8,8 +8,8 @@ use Rattle.vpg_measure.specs.Orders.{OrderView}
 use Rattle.vpg_partial.specs.declared.decision.Decision.{Decision}
 use Rattle.vpg_trail.specs.Page.{Entry}
 use Rattle.vpg_script.specs.Script as script
-use Rattle.vpg_serving.specs.Answer.{Answer, IsDone, done}
-use Rattle.vpg_serving.proofs.Given.{done_one, is_done}
+use Rattle.vpg_script.specs.Answer.{Answer, IsDone, done}
+use Rattle.vpg_script.proofs.Given.{done_one, is_done}
 use Rattle.vpg_measure.specs.TwoGames.{top_for}
 use Rattle.vpg_trail.specs.Page.{Hopeful, Dual}
 use Rattle.vpg_texts.specs.Scene.{Scene, IsCounted, scene_of}

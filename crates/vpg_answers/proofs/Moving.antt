@@ -4,8 +4,8 @@ use Rattle.std.specs.Prelude.{slice_index}
 use Rattle.vpg_game.specs.Game.{graph_of, vertex_ids}
 use Rattle.vpg_measure.specs.Orders.{OrderView, order_table, other_table}
 use Rattle.vpg_measure.specs.TwoGames.{top_for}
-use Rattle.vpg_verdict.specs.declared.which.Which.{Which}
-use Rattle.vpg_verdict.specs.declared.which.Which.TheVariants.{Hopeful, Dual}
+use Rattle.vpg_sides.specs.declared.which.Which.{Which}
+use Rattle.vpg_sides.specs.declared.which.Which.TheVariants.{Hopeful, Dual}
 use Rattle.vpg_why.specs.Moves.{AreWinning, ChoicesSettleInCaution}
 use Rattle.vpg_texts.specs.Scene.{Scene, scene_of, table_in}
 use Rattle.vpg_why.specs.Explained.{choices}

@@ -5,8 +5,8 @@ use Rattle.vpg_measure.specs.Orders.{OrderView}
 use Rattle.vpg_guards.specs.declared.tri.Tri.{Tri}
 use Rattle.vpg_checking.specs.Behaviours.{Behaviour}
 use Rattle.vpg_trace.specs.Answering.{Appends as Wrote, Page, TellsWon, TellsTrace, page_of, walk_text}
-use Rattle.vpg_verdict.specs.declared.which.Which.{Which}
-use Rattle.vpg_verdict.specs.declared.which.Which.TheVariants.{Hopeful, Dual}
+use Rattle.vpg_sides.specs.declared.which.Which.{Which}
+use Rattle.vpg_sides.specs.declared.which.Which.TheVariants.{Hopeful, Dual}
 use Rattle.vpg_partial.specs.declared.decision.Decision.{Decision}
 use Rattle.vpg_texts.specs.Scene.{Scene, scene_of}
 use Rattle.vpg_texts.proofs.Planned.{known_is_one}

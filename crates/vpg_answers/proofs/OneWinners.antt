@@ -3,13 +3,13 @@ use Rattle.std.proofs.Common.{◌≡◌, ◌≢◌, ℕ, Bool, true, false, List
 use Rattle.std.specs.Prelude.{codes, count_by, length}
 use Rattle.std.specs.List.{AllByRecursion, list_all}
 use Rattle.std.proofs.lemmas.Bool.{and_parts, false≢true}
-use Rattle.vpg_players.specs.declared.player.Player.TheVariants.{Even, Odd}
+use Rattle.vpg_sides.specs.declared.player.Player.TheVariants.{Even, Odd}
 use Rattle.vpg_guards.specs.Formula.{truth}
 use Rattle.vpg_number.specs.Counted.{IsExact}
 use Rattle.vpg_number.specs.declared.counted.Count.{Count}
 use Rattle.vpg_hope.specs.Hope.{product_game}
 use Rattle.vpg_hope.proofs.Both.{not_both}
-use Rattle.vpg_verdict.specs.declared.which.Which.TheVariants.{Hopeful, Dual}
+use Rattle.vpg_sides.specs.declared.which.Which.TheVariants.{Hopeful, Dual}
 use Rattle.vpg_partial.specs.declared.decision.Decision.{Decision}
 use Rattle.vpg_texts.specs.Scene.{Scene}
 use Rattle.vpg_texts.specs.Text.{blank_number}

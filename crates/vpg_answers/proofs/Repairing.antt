@@ -8,7 +8,7 @@ use Rattle.vpg_diagram.proofs.Lists.{Contains-nil}
 use Rattle.vpg_game.specs.Game.{graph_of, vertex_ids}
 use Rattle.vpg_measure.specs.Orders.{OrderView, IsOrder}
 use Rattle.vpg_measure.specs.TwoGames.{top_for}
-use Rattle.vpg_verdict.specs.declared.which.Which.TheVariants.{Hopeful}
+use Rattle.vpg_sides.specs.declared.which.Which.TheVariants.{Hopeful}
 use Rattle.vpg_partial.specs.TableLaws.{AreChoicesOf}
 use Rattle.vpg_partial.specs.declared.decision.Decision.{Decision}
 use Rattle.vpg_texts.specs.Scene.{Scene, scene_of}

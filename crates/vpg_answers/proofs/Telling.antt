@@ -6,8 +6,8 @@ use Rattle.vpg_diagram.specs.declared.clause.Literal.{Literal}
 use Rattle.vpg_game.specs.Game.{graph_of, vertex_ids}
 use Rattle.vpg_measure.specs.Orders.{OrderView, IsOrder, order_table}
 use Rattle.vpg_measure.specs.TwoGames.{top_for}
-use Rattle.vpg_verdict.specs.declared.which.Which.{Which}
-use Rattle.vpg_verdict.specs.declared.which.Which.TheVariants.{Hopeful, Dual}
+use Rattle.vpg_sides.specs.declared.which.Which.{Which}
+use Rattle.vpg_sides.specs.declared.which.Which.TheVariants.{Hopeful, Dual}
 use Rattle.vpg_partial.specs.TableLaws.{AreAmong, IsKnownTable}
 use Rattle.vpg_partial.specs.declared.decision.Decision.{Decision}
 use Rattle.vpg_texts.specs.Scene.{Scene, scene_of}
@@ -33,7 +33,7 @@ use Rattle.vpg_why.proofs.Listing.{among_named}
 use Rattle.vpg_checking.specs.Behaviours.{Behaviour}
 use Rattle.vpg_answers.specs.declared.query.Query.{Query}
 use Rattle.vpg_answers.specs.Texts.{verdict_line, other_line, lost_line, known_line, conflict_line, product_line, none_line, unsettled_line, offers_text, forced_text}
-use Rattle.vpg_serving.specs.Answer.{Answer}
+use Rattle.vpg_script.specs.Answer.{Answer}
 use Rattle.vpg_answers.specs.Answers.{identifier_of, TellsVerdict, TellsVertex, TellsKnownBy, TellsConflict, TellsExample, TellsLost, TellsForced, TellsOffers, Tells, lost_for, forced_word, IsAnswer, Appends}
 use Rattle.vpg_answers.specs.Offers.{AreOffers}
 use Rattle.vpg_answers.specs.declared.offers.Offered.{Offered}

@@ -4,11 +4,11 @@ use Rattle.std.specs.List.{list_all, list_any}
 use Rattle.vpg_guards.specs.declared.tri.Tri.{Tri}
 use Rattle.vpg_diagram.specs.FeatureDiagram.{IsDiagram}
 use Rattle.vpg_diagram.specs.declared.clause.Literal.{Literal}
-use Rattle.vpg_players.specs.declared.player.Player.TheVariants.{Even, Odd}
+use Rattle.vpg_sides.specs.declared.player.Player.TheVariants.{Even, Odd}
 use Rattle.vpg_measure.specs.Orders.{other_table}
 use Rattle.vpg_measure.specs.TwoGames.{top_for}
-use Rattle.vpg_verdict.specs.declared.which.Which.{Which}
-use Rattle.vpg_verdict.specs.declared.which.Which.TheVariants.{Hopeful, Dual}
+use Rattle.vpg_sides.specs.declared.which.Which.{Which}
+use Rattle.vpg_sides.specs.declared.which.Which.TheVariants.{Hopeful, Dual}
 use Rattle.vpg_why.specs.Moves.{AreWinning, ChoicesSettleInCaution}
 use Rattle.vpg_partial.specs.KnownLaws.{IsRemaining}
 use Rattle.vpg_partial.specs.TableLaws.{AreChoicesOf, IsKnownTable}
@@ -19,7 +19,7 @@ use Rattle.vpg_script.specs.declared.command.PageQuestion.{PageQuestion}
 use Rattle.vpg_script.specs.declared.command.PageQuestion.TheVariants as whole
 use Rattle.vpg_script.specs.declared.command.VertexQuestion.{VertexQuestion}
 use Rattle.vpg_script.specs.declared.command.VertexQuestion.TheVariants as questions
-use Rattle.vpg_serving.specs.Answer.{Answer, IsDone}
+use Rattle.vpg_script.specs.Answer.{Answer, IsDone}
 use Rattle.vpg_texts.specs.Scene.{Scene, table_in}
 use Rattle.vpg_why.specs.Explained.{choices, Explains}
 use Rattle.vpg_why.specs.Products.{MeetsIn, NoneMeetsIn, IsFirstIn, AreNeedsIn}

@@ -1,13 +1,13 @@
 -- Assertions of exact verdicts. This project's own.
 use Rattle.std.specs.Prelude.{◌≡◌, ℕ, ◌⊎◌, Bool, true, false, if◌then◌else◌, List, ◌++◌, codes}
-use Rattle.vpg_players.specs.declared.player.Player.{Player}
-use Rattle.vpg_players.specs.declared.player.Player.TheVariants.{Even, Odd}
+use Rattle.vpg_sides.specs.declared.player.Player.{Player}
+use Rattle.vpg_sides.specs.declared.player.Player.TheVariants.{Even, Odd}
 use Rattle.vpg_diagram.specs.declared.clause.Literal.{Literal}
 use Rattle.vpg_partial.specs.KnownLaws.{IsRemaining}
 use Rattle.vpg_partial.specs.declared.decision.Decision.{Decision}
 use Rattle.vpg_script.specs.declared.exact.ExactVerdict.{ExactVerdict}
 use Rattle.vpg_script.specs.declared.exact.ExactVerdict.TheVariants as exacts
-use Rattle.vpg_serving.specs.Answer.{Answer, failed}
+use Rattle.vpg_script.specs.Answer.{Answer, failed}
 use Rattle.vpg_texts.specs.Scene.{Scene}
 use Rattle.vpg_texts.specs.Sights.{holding}
 use Rattle.vpg_why.specs.Explained.{choices}

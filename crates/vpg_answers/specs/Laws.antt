@@ -2,7 +2,7 @@
 use Rattle.std.specs.Prelude.{◌≡◌, ℕ, Option, List}
 use Rattle.vpg_checking.specs.Behaviours.{Behaviour}
 use Rattle.vpg_partial.specs.declared.decision.Decision.{Decision}
-use Rattle.vpg_serving.specs.Answer.{Answer}
+use Rattle.vpg_script.specs.Answer.{Answer}
 use Rattle.vpg_texts.specs.Scene.{Scene}
 use Rattle.vpg_why.specs.declared.question.Limits.{Limits}
 use Rattle.vpg_answers.specs.declared.query.Query.{Query}

@@ -5,7 +5,7 @@ use Rattle.vpg_diagram.specs.declared.clause.Literal.{Literal}
 use Rattle.vpg_partial.specs.declared.decision.Decision.{Decision}
 use Rattle.vpg_trail.specs.Page.{Entry}
 use Rattle.vpg_script.specs.Script as script
-use Rattle.vpg_serving.specs.Answer.{Answer, IsDone, done}
+use Rattle.vpg_script.specs.Answer.{Answer, IsDone, done}
 use Rattle.vpg_texts.specs.Scene.{Scene, IsCounted}
 use Rattle.vpg_texts.specs.Sights.{IsSeen}
 use Rattle.vpg_why.specs.Explained.{choices}

@@ -5,8 +5,8 @@ use Rattle.vpg_guards.specs.Known.{kleene}
 use Rattle.vpg_diagram.specs.declared.clause.Literal.{Literal}
 use Rattle.vpg_measure.specs.Lifts.{IsProgressTable, after_rounds}
 use Rattle.vpg_measure.specs.TwoGames.{levels_for, arena_for}
-use Rattle.vpg_verdict.specs.declared.which.Which.{Which}
-use Rattle.vpg_verdict.specs.declared.which.Which.TheVariants.{Hopeful, Dual}
+use Rattle.vpg_sides.specs.declared.which.Which.{Which}
+use Rattle.vpg_sides.specs.declared.which.Which.TheVariants.{Hopeful, Dual}
 use Rattle.vpg_partial.specs.TableLaws.{AreAmong, IsKnownTable}
 use Rattle.vpg_texts.specs.Scene.{Scene}
 use Rattle.vpg_why.specs.Suffices.{AreOpenUpTo, HasTrials}

@@ -2,7 +2,7 @@
 ghost use Rattle.std.specs.Prelude.{◌<◌, length, IfOk, OnOk};
 ghost use Rattle.vpg_answers.specs.Answers.{Appends, HasItsSystem, IsAnswer, IsWithin, TellsOfPage, TellsOfVertex};
 ghost use Rattle.vpg_diagram.specs.FeatureDiagram.{feature_count};
-ghost use Rattle.vpg_serving.specs.Answer.{Gives};
+ghost use Rattle.vpg_script.specs.Answer.{Gives};
 ghost use Rattle.vpg_texts.specs.Scene.{scene_of};
 
 use crate::query::Query;
@@ -13,9 +13,8 @@ use crate::{
 use std::alloc::{AllocError, Global};
 use vpg_checking::Behaviour;
 use vpg_measure::Order;
-use vpg_script::{PageQuestion, VertexQuestion};
-use vpg_serving::{Tone, done};
-use vpg_verdict::Which;
+use vpg_script::{PageQuestion, Tone, VertexQuestion, done};
+use vpg_sides::Which;
 use vpg_why::{Aim, Limits};
 
 /// Appends the answer about a vertex.

@@ -1,14 +1,13 @@
 //! Whether a vertex has an exact verdict.
 ghost use Rattle.std.specs.Prelude.{◌≡◌, ◌<◌, IfOk, length};
 ghost use Rattle.vpg_answers.specs.Asserted.{TellsExact, exact_answer, exact_word, failing, is_same};
-ghost use Rattle.vpg_serving.specs.Answer.{Gives, IsGiven};
+ghost use Rattle.vpg_script.specs.Answer.{Gives, IsGiven};
 ghost use Rattle.vpg_texts.specs.Scene.{scene_of};
 ghost use Rattle.vpg_texts.specs.Sights.{holding};
 
 use std::alloc::{AllocError, Global};
 use vpg_measure::Order;
-use vpg_script::ExactVerdict;
-use vpg_serving::Tone;
+use vpg_script::{ExactVerdict, Tone};
 use vpg_why::Limits;
 use vpg_winners::{Decided, decide};
 

@@ -9,8 +9,8 @@ use crate::reasons::{identifier, names};
 use std::alloc::{AllocError, Global};
 use vpg_guards::Names;
 use vpg_measure::Order;
+use vpg_sides::Which;
 use vpg_texts::blank_number;
-use vpg_verdict::Which;
 use vpg_why::{Example, Limits};
 use vpg_winners::{Decided, decide};
 

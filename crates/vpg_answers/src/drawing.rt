@@ -17,12 +17,11 @@ use crate::winning::has_top;
 use std::alloc::{AllocError, Global};
 use vpg_diagram::Diagram;
 use vpg_draw::draw_part;
-use vpg_game::{GuardedGame, Player};
+use vpg_game::{GuardedGame, Player, VertexNames};
 use vpg_measure::{Order, PageGames, Table};
-use vpg_names::VertexNames;
 use vpg_partial::Decision;
+use vpg_sides::Which;
 use vpg_texts::verdicts_by;
-use vpg_verdict::Which;
 use vpg_why::{Limits, Moves, reachable, winning_moves};
 
 /// Returns the player of the listed moves.

@@ -1,7 +1,7 @@
 //! The lines of answers.
 ghost use Rattle.std.specs.Prelude.{◌≡◌, ◌<◌, ◌++◌, All, IfOk, OnOk, false, length, map, slice_index_or};
 ghost use Rattle.vpg_partial.specs.Known.{literal_of};
-ghost use Rattle.vpg_serving.specs.Answer.{IsGiven};
+ghost use Rattle.vpg_script.specs.Answer.{IsGiven};
 ghost use Rattle.vpg_texts.specs.Text.{choice_text, choices_text, name_of};
 ghost use Rattle.vpg_answers.specs.Texts.{choice_line, conflict_line, doubt_text, known_line, known_word, lost_head, lost_word, more_text, names_in, no_conflict, none_line, not_known, other_line, other_word, product_line, product_word, reason_text, total_line, unsettled_line, verdict_line, verdict_word};
 
@@ -9,9 +9,9 @@ use std::alloc::AllocError;
 use vpg_diagram::Literal;
 use vpg_guards::Names;
 use vpg_partial::Decision;
-use vpg_serving::Tone;
+use vpg_script::Tone;
+use vpg_sides::Which;
 use vpg_texts::{blank_name, blank_number};
-use vpg_verdict::Which;
 
 fn name_at(names: &Names, feature: u16) -> &[u8]
     requires { feature < length names.now }

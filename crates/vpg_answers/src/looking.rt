@@ -9,7 +9,7 @@ ghost use Rattle.vpg_measure.specs.TwoGames.{top_for};
 ghost use Rattle.vpg_partial.specs.Known.{literal_of};
 ghost use Rattle.vpg_partial.specs.TableLaws.{AreChoicesOf};
 ghost use Rattle.vpg_script.specs.View.{lookup_shown};
-ghost use Rattle.vpg_serving.specs.Answer.{Gives};
+ghost use Rattle.vpg_script.specs.Answer.{Gives};
 ghost use Rattle.vpg_texts.specs.Scene.{EntryIsWithin, scene_of};
 ghost use Rattle.vpg_texts.specs.Sights.{has_vertices};
 ghost use Rattle.vpg_why.specs.Explained.{choices};
@@ -21,11 +21,10 @@ use vpg_diagram::Diagram;
 use vpg_game::GuardedGame;
 use vpg_measure::{Order, PageGames, Table};
 use vpg_partial::Decision;
-use vpg_script::{Assertion, Lookup};
-use vpg_serving::{Tone, done};
+use vpg_script::{Assertion, Lookup, Tone, done};
+use vpg_sides::Which;
 use vpg_texts::{count_over, look_over};
 use vpg_trail::Page;
-use vpg_verdict::Which;
 use vpg_why::{Aim, Found, Limits, find};
 
 /// Whether a product is left.

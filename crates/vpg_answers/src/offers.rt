@@ -19,8 +19,8 @@ use vpg_diagram::Literal;
 use vpg_guards::{Names, Tri};
 use vpg_measure::Order;
 use vpg_partial::Partial;
+use vpg_sides::Which;
 use vpg_texts::blank_number;
-use vpg_verdict::Which;
 use vpg_why::{Findings, Foresight, Limits, Shown, foresee, no_findings};
 
 /// The winner in the products left.

@@ -4,7 +4,7 @@ ghost use Rattle.vpg_answers.specs.Answers.{Appends, TellsChoice, TellsFeature, 
 ghost use Rattle.vpg_diagram.specs.FeatureDiagram.{feature_count};
 ghost use Rattle.vpg_game.specs.Game.{vertex_ids};
 ghost use Rattle.vpg_measure.specs.Orders.{IsOrder, order_table};
-ghost use Rattle.vpg_serving.specs.Answer.{Gives};
+ghost use Rattle.vpg_script.specs.Answer.{Gives};
 ghost use Rattle.vpg_texts.specs.Scene.{scene_of};
 
 use crate::lines;
@@ -12,8 +12,8 @@ use std::alloc::{AllocError, Global};
 use vpg_diagram::Literal;
 use vpg_guards::Names;
 use vpg_measure::Order;
-use vpg_serving::{Tone, done};
-use vpg_verdict::Which;
+use vpg_script::{Tone, done};
+use vpg_sides::Which;
 use vpg_why::{Limits, why_conflict, why_known, why_within};
 
 pub(crate) fn names(order: &Order) -> &Names

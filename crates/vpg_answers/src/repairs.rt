@@ -15,7 +15,7 @@ use std::alloc::{AllocError, Global};
 use vpg_guards::Names;
 use vpg_measure::Order;
 use vpg_partial::Decision;
-use vpg_verdict::Which;
+use vpg_sides::Which;
 use vpg_why::{Limits, Shown};
 
 /// Whether the page has the vertex hopeless.

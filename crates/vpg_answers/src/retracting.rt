@@ -10,7 +10,7 @@ ghost use Rattle.vpg_why.specs.Repaired.{IsRepair};
 use std::alloc::{AllocError, Global};
 use vpg_measure::Order;
 use vpg_partial::Decision;
-use vpg_verdict::Which;
+use vpg_sides::Which;
 use vpg_why::{Aim, Found, Limits, Shown, seek, verdict_shown};
 
 /// The effect of retracting a decision.

@@ -11,8 +11,8 @@ use crate::lines;
 use crate::reasons::identifier;
 use std::alloc::{AllocError, Global};
 use vpg_measure::Order;
+use vpg_sides::Which;
 use vpg_texts::blank_number;
-use vpg_verdict::Which;
 use vpg_why::{Limits, Moves, winning_moves};
 
 /// Returns the first word of the lines of a player's moves.

@@ -1,7 +1,7 @@
 -- The answers that name winners speak of requirements.
 use Rattle.std.proofs.Common.{ℕ, List, [], ◌∷◌, Option, Some, None, Ok, Err, inl, inr}
 use Rattle.std.specs.Prelude.{slice_index}
-use Rattle.vpg_verdict.specs.declared.verdict.Verdict.{Verdict}
+use Rattle.vpg_sides.specs.declared.verdict.Verdict.{Verdict}
 use Rattle.vpg_diagram.specs.DiagramText.{NamedDiagram}
 use Rattle.vpg_game.specs.Game.{NamedGame, graph_of}
 use Rattle.vpg_trail.specs.Page.{Entry}
@@ -12,8 +12,8 @@ use Rattle.vpg_checking.specs.Behaviours.{Behaviour}
 use Rattle.vpg_checking.specs.Checking.{IsModelOfTexts}
 use Rattle.vpg_script.specs.Script as script
 use Rattle.vpg_script.specs.Script.{Request, Said, said}
-use Rattle.vpg_serving.specs.Answer.{Answer}
-use Rattle.vpg_serving.specs.Output.{Speaks, Answered}
+use Rattle.vpg_script.specs.Answer.{Answer}
+use Rattle.vpg_script.specs.Output.{Speaks, Answered}
 use Rattle.vpg_texts.specs.Changed.{seen_at}
 use Rattle.vpg_texts.specs.Scene.{Scene, scene_of}
 use Rattle.vpg_report.specs.Run.{Between, begun, as_meant}

@@ -4,21 +4,21 @@ use Rattle.std.specs.Prelude.{filter, ◌==◌, if◌then◌else◌}
 use Rattle.std.specs.List.{AllZip}
 use Rattle.std.proofs.lemmas.Bool.{cases_Bool, cases_lt, eqb-true, or_cases}
 use Rattle.std.proofs.lemmas.List.{get_or-map, get_or_past, length-map}
-use Rattle.vpg_players.specs.declared.player.Player.{Player}
-use Rattle.vpg_players.specs.declared.player.Player.TheVariants.{Even}
-use Rattle.vpg_players.specs.Players.{opponent}
+use Rattle.vpg_sides.specs.declared.player.Player.{Player}
+use Rattle.vpg_sides.specs.declared.player.Player.TheVariants.{Even}
+use Rattle.vpg_sides.specs.Players.{opponent}
 use Rattle.vpg_guards.specs.declared.tri.Tri.{Tri}
 use Rattle.vpg_guards.specs.Formula.{Formula as Guard, truth}
 use Rattle.vpg_guards.specs.Grammar.{either}
 use Rattle.vpg_guards.specs.Known.{kleene}
 use Rattle.vpg_guards.proofs.LawProofs.{joined_guards_mean_both}
-use Rattle.vpg_edges.specs.Edges.{GuardedEdge, join_edge}
+use Rattle.vpg_game.specs.Edges.{GuardedEdge, join_edge}
 use Rattle.vpg_game.specs.Guarded.{GuardedVertex, GuardedGame, dual}
 use Rattle.vpg_hope.specs.Games.{Vertex, HasEdge, isolated}
 use Rattle.vpg_hope.specs.Hope.{keeps_in_hope, product_game, restrict}
 use Rattle.vpg_hope.proofs.Edges.{Contains-cases, Contains-first, Contains-later, not_in_nil}
-use Rattle.vpg_verdict.specs.declared.which.Which.{Which}
-use Rattle.vpg_verdict.specs.declared.which.Which.TheVariants.{Hopeful, Dual}
+use Rattle.vpg_sides.specs.declared.which.Which.{Which}
+use Rattle.vpg_sides.specs.declared.which.Which.TheVariants.{Hopeful, Dual}
 use Rattle.vpg_why.specs.Moves.{caution_for}
 use Rattle.vpg_requirement.specs.Building.{IsAlike, IsAlikeGame, IsAlikeVertex, join_edges}
 use Rattle.vpg_requirement.proofs.Steps.{mapped_contains}

@@ -14,8 +14,8 @@ use Rattle.vpg_winners.specs.Winners.{IsExactPart, IsWonAs}
 use Rattle.vpg_script.specs.declared.command.VertexQuestion.TheVariants as questions
 use Rattle.vpg_script.specs.Script as script
 use Rattle.vpg_script.specs.Script.{Request, Said, said}
-use Rattle.vpg_serving.specs.Answer.{Answer, IsDone}
-use Rattle.vpg_serving.specs.Output.{Speaks, Answered}
+use Rattle.vpg_script.specs.Answer.{Answer, IsDone}
+use Rattle.vpg_script.specs.Output.{Speaks, Answered}
 use Rattle.vpg_texts.specs.Scene.{Scene, scene_of}
 use Rattle.vpg_answers.specs.Answers.{TellsWinners}
 use Rattle.vpg_report.specs.Answers.{vertex_of}

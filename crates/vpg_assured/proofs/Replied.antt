@@ -14,7 +14,7 @@ use Rattle.vpg_texts.specs.Scene.{Scene, scene_of}
 use Rattle.vpg_answers.specs.Answers.{IsAnswer}
 use Rattle.vpg_answers.specs.declared.query.Query.{Query}
 use Rattle.vpg_answers.specs.declared.query.Query.TheVariants as queries
-use Rattle.vpg_serving.specs.Answer.{Answer}
+use Rattle.vpg_script.specs.Answer.{Answer}
 use Rattle.vpg_report.specs.Answers.{Follows, Asks, Begins, NoVertex, Own, own_text, refusal_text, vertex_of}
 use Rattle.vpg_report.specs.Held.{Held}
 use Rattle.vpg_report.specs.Requests.{Continues, Serves, answer_limits, is_answerable, order_or, query_if, query_of, query_or}

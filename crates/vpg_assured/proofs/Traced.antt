@@ -6,8 +6,8 @@ use Rattle.vpg_checking.specs.Behaviours.{Behaviour}
 use Rattle.vpg_script.specs.declared.command.VertexQuestion.TheVariants as questions
 use Rattle.vpg_script.specs.Script as script
 use Rattle.vpg_script.specs.Script.{Request, Said, said}
-use Rattle.vpg_serving.specs.Answer.{Answer, IsDone}
-use Rattle.vpg_serving.specs.Output.{Speaks, Answered}
+use Rattle.vpg_script.specs.Answer.{Answer, IsDone}
+use Rattle.vpg_script.specs.Output.{Speaks, Answered}
 use Rattle.vpg_texts.specs.Scene.{Scene, scene_of}
 use Rattle.vpg_family.specs.Made.{IsMadeOf}
 use Rattle.vpg_desk.specs.Book.{Book}

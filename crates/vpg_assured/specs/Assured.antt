@@ -1,7 +1,7 @@
 -- The meaning of a run's answers for requirements, if its game is that of the texts of a system and of requirements.
 -- This project's own.
 use Rattle.std.specs.Prelude.{◌⊎◌, ℕ, ◌<◌, Bool, Option, List, length, slice_index, IsTrue}
-use Rattle.vpg_verdict.specs.declared.verdict.Verdict.{Verdict}
+use Rattle.vpg_sides.specs.declared.verdict.Verdict.{Verdict}
 use Rattle.vpg_diagram.specs.DiagramText.{NamedDiagram}
 use Rattle.vpg_game.specs.Game.{NamedGame, graph_of}
 use Rattle.vpg_partial.specs.KnownLaws.{IsRemaining}
@@ -13,8 +13,8 @@ use Rattle.vpg_checking.specs.Behaviours.{Behaviour}
 use Rattle.vpg_checking.specs.Checking.{EntryHoldsIn, IsModelOfTexts}
 use Rattle.vpg_script.specs.Script as script
 use Rattle.vpg_script.specs.Script.{Request}
-use Rattle.vpg_serving.specs.Answer.{Answer}
-use Rattle.vpg_serving.specs.Output.{Machine, Answered}
+use Rattle.vpg_script.specs.Answer.{Answer}
+use Rattle.vpg_script.specs.Output.{Machine, Answered}
 use Rattle.vpg_texts.specs.Changed.{seen_at}
 use Rattle.vpg_texts.specs.Scene.{Scene, scene_of}
 use Rattle.vpg_report.specs.Run.{Between, begun, answering, as_meant}

@@ -16,8 +16,8 @@ use Rattle.vpg_winners.specs.Winners.{ArePartition, is_in}
 use Rattle.vpg_script.specs.declared.command.VertexQuestion.TheVariants as questions
 use Rattle.vpg_script.specs.Script as script
 use Rattle.vpg_script.specs.Script.{Request}
-use Rattle.vpg_serving.specs.Answer.{Answer, IsDone}
-use Rattle.vpg_serving.specs.Output.{Machine, Answered}
+use Rattle.vpg_script.specs.Answer.{Answer, IsDone}
+use Rattle.vpg_script.specs.Output.{Machine, Answered}
 use Rattle.vpg_texts.specs.Scene.{Scene, scene_of}
 use Rattle.vpg_answers.specs.Texts.{winners_text}
 use Rattle.vpg_number.specs.declared.counted.Count.{Count}

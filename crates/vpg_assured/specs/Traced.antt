@@ -5,7 +5,7 @@ use Rattle.vpg_guards.specs.declared.tri.Tri.{Tri}
 use Rattle.vpg_guards.specs.declared.tri.Tri.TheVariants.{Unknown}
 use Rattle.vpg_guards.specs.Formula.{truth}
 use Rattle.vpg_guards.specs.Known.{kleene}
-use Rattle.vpg_verdict.specs.declared.which.Which.{Which}
+use Rattle.vpg_sides.specs.declared.which.Which.{Which}
 use Rattle.vpg_diagram.specs.DiagramText.{NamedDiagram}
 use Rattle.vpg_game.specs.Game.{NamedGame}
 use Rattle.vpg_hope.specs.Games.{HasEdge}
@@ -30,8 +30,8 @@ use Rattle.vpg_trace.specs.Walks.{visit_at, visit_before}
 use Rattle.vpg_script.specs.declared.command.VertexQuestion.TheVariants as questions
 use Rattle.vpg_script.specs.Script as script
 use Rattle.vpg_script.specs.Script.{Request}
-use Rattle.vpg_serving.specs.Answer.{Answer, IsDone}
-use Rattle.vpg_serving.specs.Output.{Machine, Answered}
+use Rattle.vpg_script.specs.Answer.{Answer, IsDone}
+use Rattle.vpg_script.specs.Output.{Machine, Answered}
 use Rattle.vpg_texts.specs.Scene.{Scene, scene_of}
 use Rattle.vpg_family.specs.Made.{IsMadeOf}
 use Rattle.vpg_report.specs.Answers.{vertex_of}

@@ -14,7 +14,7 @@ use std::thread::Threads;
 use vpg_board::{Board, Gate, OpenGate, Predecessors, Seat, sweep_along};
 use vpg_guess::{Groundwork, harvest_by_bounds};
 use vpg_measure::{Harvest, Order, Table};
-use vpg_verdict::Which;
+use vpg_sides::Which;
 
 /// The number of edges and vertices that a guess at both tables may look at, as in the lines of a script.
 const BUDGET: u64 = 1 << 27;

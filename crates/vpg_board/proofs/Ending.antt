@@ -4,8 +4,8 @@ use Rattle.std.proofs.lemmas.List.{take_all, take_at, drop_at, length-drop, leng
 use Rattle.vpg_guards.specs.Formula.{Formula}
 use Rattle.vpg_guards.specs.Known.{kleene}
 use Rattle.vpg_game.specs.Game.{graph_of}
-use Rattle.vpg_verdict.specs.declared.which.Which.{Which}
-use Rattle.vpg_verdict.specs.declared.which.Which.TheVariants.{Hopeful, Dual}
+use Rattle.vpg_sides.specs.declared.which.Which.{Which}
+use Rattle.vpg_sides.specs.declared.which.Which.TheVariants.{Hopeful, Dual}
 use Rattle.vpg_measure.specs.Lifts.{IsBelowTable}
 use Rattle.vpg_measure.specs.Orders.{OrderView, HarvestView, IsOrder, IsRaised, harvest_table}
 use Rattle.vpg_measure.specs.TwoGames.{IsProgressOf}

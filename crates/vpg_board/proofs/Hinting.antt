@@ -4,7 +4,7 @@ use Rattle.std.specs.Prelude.{MatchOption, IfSome}
 use lib.Seq.{take-append_seam, drop-append_seam}
 use Rattle.std.proofs.lemmas.List.Elements.{All-append, All-take, All-drop}
 use Rattle.crossbeam_deque.specs.Tasks.{Pushes, Takes, Pops}
-use Rattle.vpg_verdict.specs.declared.which.Which.{Which}
+use Rattle.vpg_sides.specs.declared.which.Which.{Which}
 use Rattle.vpg_board.specs.Hints.{IsHint}
 
 module _ (n : ℕ) where

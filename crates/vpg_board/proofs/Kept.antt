@@ -7,10 +7,10 @@ use Rattle.vpg_guards.specs.declared.tri.Tri.{Tri}
 use Rattle.vpg_guards.specs.Known.{kleene}
 use Rattle.vpg_game.specs.Guarded.{GuardedEdge}
 use Rattle.vpg_game.specs.Game.{NamedVertex, edges_in, unnamed}
-use Rattle.vpg_players.specs.Players.{opponent}
+use Rattle.vpg_sides.specs.Players.{opponent}
 use Rattle.vpg_hope.specs.Hope.{keeps_in_hope}
-use Rattle.vpg_verdict.specs.declared.which.Which.{Which}
-use Rattle.vpg_verdict.specs.declared.which.Which.TheVariants.{Hopeful, Dual}
+use Rattle.vpg_sides.specs.declared.which.Which.{Which}
+use Rattle.vpg_sides.specs.declared.which.Which.TheVariants.{Hopeful, Dual}
 use Rattle.vpg_measure.specs.Orders.{OrderView, IsOrder, order_arena}
 use Rattle.vpg_measure.specs.TwoGames.{arena_for}
 use Rattle.vpg_hope.specs.Games.{Game}

@@ -2,14 +2,14 @@
 use Rattle.std.proofs.Common.{◌≡◌, ◌≢◌, ℕ, zero, suc, ◌+◌, ◌-◌, ◌<◌, ◌≤◌, max, List, [], ◌∷◌, ◌++◌, length, map, take, set, get_or, refl, sym, ap, ◌∙◌, subst, arith, length-set}
 use Rattle.std.proofs.lemmas.List.{get_or-set_same, get_or-set_other, take_all, take_more}
 use Rattle.std.specs.Prelude.{slice_index, All}
-use Rattle.vpg_players.specs.declared.player.Player.{Player}
+use Rattle.vpg_sides.specs.declared.player.Player.{Player}
 use Rattle.vpg_game.specs.Levels.{top_of}
 use Rattle.vpg_game.specs.declared.levels.Level.{Level}
 use Rattle.vpg_hope.specs.Games.{Game}
 use Rattle.vpg_hope.specs.Arena.{vertex_at}
-use Rattle.vpg_verdict.specs.declared.which.Which.{Which}
-use Rattle.vpg_verdict.specs.declared.which.Which.TheVariants.{Hopeful, Dual}
-use Rattle.vpg_players.specs.declared.player.Player.TheVariants.{Even, Odd}
+use Rattle.vpg_sides.specs.declared.which.Which.{Which}
+use Rattle.vpg_sides.specs.declared.which.Which.TheVariants.{Hopeful, Dual}
+use Rattle.vpg_sides.specs.declared.player.Player.TheVariants.{Even, Odd}
 use Rattle.vpg_measure.specs.Lifts.{IsTableOf, best_for, lift_of}
 use Rattle.vpg_measure.proofs.Progs.{least_of-le, greatest_of-le, slice_index-le}
 use Rattle.vpg_measure.specs.Orders.{OrderView, IsOrder, order_levels, order_arena}

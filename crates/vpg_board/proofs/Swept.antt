@@ -2,7 +2,7 @@
 use Rattle.std.proofs.Common.{◌≡◌, ℕ, ◌+◌, ◌<◌, ◌≤◌, sym, ap, ◌∙◌, subst, arith}
 use Rattle.std.specs.Prelude.{slice_index, sum, Result, Ok, Err, IfOk}
 use Rattle.vpg_hope.specs.Arena.{vertex_at}
-use Rattle.vpg_verdict.specs.declared.which.Which.{Which}
+use Rattle.vpg_sides.specs.declared.which.Which.{Which}
 use Rattle.vpg_measure.specs.Lifts.{IsBelowTable, lift_of}
 use Rattle.vpg_measure.specs.Orders.{OrderView, HarvestView, IsOrder, IsSameOrder, IsHarvest, IsSettledHarvest, order_table, harvest_table, order_levels, order_arena}
 use Rattle.vpg_board.specs.declared.lifter.Lifter.{Lifter}

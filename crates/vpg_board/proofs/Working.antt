@@ -5,7 +5,7 @@ use Rattle.std.specs.Prelude.{◌||◌, slice_index}
 use mathlib.Core.Logic.{dite}
 use native.Mathlib.Decide.{ℕ_discrete, dec_lt}
 use Rattle.vpg_hope.specs.Arena.{vertex_at}
-use Rattle.vpg_verdict.specs.declared.which.Which.{Which}
+use Rattle.vpg_sides.specs.declared.which.Which.{Which}
 use Rattle.vpg_measure.specs.Lifts.{lift_of, IsBelowTable}
 use Rattle.vpg_measure.specs.Orders.{OrderView, IsOrder, order_levels, order_arena, order_table}
 use Rattle.vpg_board.specs.declared.lifter.Lifter.{Lifter}

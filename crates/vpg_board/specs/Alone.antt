@@ -1,7 +1,7 @@
 -- The work of a lifter that shares its tables with nobody. This project's own.
 use Rattle.std.specs.Prelude.{ℕ, ◌<◌, ◌≤◌, slice_index}
 use Rattle.vpg_hope.specs.Arena.{vertex_at}
-use Rattle.vpg_verdict.specs.declared.which.Which.{Which}
+use Rattle.vpg_sides.specs.declared.which.Which.{Which}
 use Rattle.vpg_measure.specs.Lifts.{lift_of, IsBelowTable}
 use Rattle.vpg_measure.specs.Orders.{HarvestView, IsHarvest, IsSameOrder, order_levels, order_arena, harvest_table}
 

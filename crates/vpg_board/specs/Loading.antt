@@ -2,7 +2,7 @@
 use Rattle.std.specs.Prelude.{ℕ, List, map, take, slice_index}
 use Rattle.vpg_game.specs.Levels.{top_of}
 use Rattle.vpg_hope.specs.Arena.{vertex_at}
-use Rattle.vpg_verdict.specs.declared.which.Which.{Which}
+use Rattle.vpg_sides.specs.declared.which.Which.{Which}
 use Rattle.vpg_measure.specs.Lifts.{best_for}
 use Rattle.vpg_measure.specs.Orders.{OrderView, order_levels, order_arena}
 use Rattle.vpg_board.specs.Places.{table_in}

@@ -1,8 +1,8 @@
 -- The kept edges of an order's games the other way round. This project's own.
 use Rattle.std.specs.Prelude.{◌≡◌, ℕ, List, [], slice_index_or}
 use Rattle.vpg_hope.specs.Games.{Game, successors_of}
-use Rattle.vpg_verdict.specs.declared.which.Which.{Which}
-use Rattle.vpg_verdict.specs.declared.which.Which.TheVariants.{Hopeful, Dual}
+use Rattle.vpg_sides.specs.declared.which.Which.{Which}
+use Rattle.vpg_sides.specs.declared.which.Which.TheVariants.{Hopeful, Dual}
 use Rattle.vpg_board.specs.Rule.{times}
 
 -- the number of vertices, and for each of them the vertices that keep an edge to it, in either game

@@ -12,7 +12,7 @@ use crate::predecessors::Predecessors;
 use crate::sweeping::{Gate, HINTED_LIFTS};
 use std::alloc::Global;
 use vpg_measure::{Harvest, Order};
-use vpg_verdict::Which;
+use vpg_sides::Which;
 
 // Lifts a vertex, and after a raise hints at the vertices that keep an edge to it.
 fn raise_and_hint<J: Vertices>(

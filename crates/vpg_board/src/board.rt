@@ -20,7 +20,7 @@ use std::alloc::{AllocError, Global};
 use std::marker::Model;
 use vpg_measure::folding::{best_of_none, better, lift_to};
 use vpg_measure::{Harvest, Order};
-use vpg_verdict::Which;
+use vpg_sides::Which;
 
 /// An order whose two tables several seats raise at once.
 ///

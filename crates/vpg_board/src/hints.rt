@@ -9,7 +9,7 @@ use crossbeam_deque::protocol::{Outcome, Protocol};
 use crossbeam_deque::{Steal, Stealer, Worker};
 use std::alloc::{AllocError, Global};
 use std::marker::{Brand, PhantomData};
-use vpg_verdict::Which;
+use vpg_sides::Which;
 
 /// The number of hints that a lifter's own row has room for at first.
 const FIRST_ROOM: usize = 64;

@@ -12,7 +12,7 @@ use std::alloc::{AllocError, Global};
 use std::marker::Model;
 use vpg_hope::Arena;
 use vpg_measure::Order;
-use vpg_verdict::Which;
+use vpg_sides::Which;
 
 /// The kept edges to each vertex of a game, as chains: the last edge to a vertex first.
 pub(crate) struct Chains {

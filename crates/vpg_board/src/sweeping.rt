@@ -20,7 +20,7 @@ use std::marker::Brand;
 use std::sync::Wait;
 use std::thread::{Threads, join};
 use vpg_measure::{Harvest, Order};
-use vpg_verdict::Which;
+use vpg_sides::Which;
 
 /// The callback of each lifter of a sweep before each claim and after each lift, of a vertex that it claimed or was
 /// hinted at. Lifters are numbered from 1, which is the calling thread.

@@ -5,7 +5,7 @@ use Rattle.std.specs.Bool.{Decides}
 use Rattle.std.proofs.lemmas.Bool.{false≢true}
 use Rattle.vpg_game.proofs.Graphs.{same_count}
 use Rattle.vpg_game.specs.Game.{NamedGame, graph_of}
-use Rattle.vpg_players.specs.declared.player.Player.{Player}
+use Rattle.vpg_sides.specs.declared.player.Player.{Player}
 use Rattle.vpg_game.specs.Levels.{top_of}
 use Rattle.vpg_game.specs.declared.levels.Level.{Level}
 use Rattle.vpg_guards.specs.Formula.{Formula}

@@ -2,7 +2,7 @@
 use Rattle.std.proofs.Common.{◌<◌, true, false, [], ◌∷◌, refl, All, arith}
 use Rattle.std.proofs.lemmas.List.Elements.{All-cons, All-nil}
 use Rattle.vpg_guards.specs.Formula.{Formula, IsBelow, always, feature}
-use Rattle.vpg_players.specs.declared.player.Player.TheVariants.{Even, Odd}
+use Rattle.vpg_sides.specs.declared.player.Player.TheVariants.{Even, Odd}
 use Rattle.vpg_diagram.specs.FeatureDiagram.{IsDiagram, MeetsLines}
 use Rattle.vpg_diagram.specs.Clauses.{clauses_of, counts_of}
 use Rattle.vpg_diagram.proofs.FormulaLemmas.{formula_from_lines}

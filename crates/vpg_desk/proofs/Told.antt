@@ -7,7 +7,7 @@ use Rattle.vpg_measure.specs.Views.{strategy_of}
 use Rattle.vpg_hope.specs.Arena.{Vertex as Node, vertex_at}
 use Rattle.vpg_hope.specs.Strategies.{Strategy}
 use Rattle.vpg_game.specs.declared.levels.Level.{Level}
-use Rattle.vpg_players.specs.declared.player.Player.{Player}
+use Rattle.vpg_sides.specs.declared.player.Player.{Player}
 use Rattle.vpg_guards.specs.declared.tri.Tri.{Tri}
 use Rattle.vpg_hope.specs.Hope.{product_game, IsFullOf}
 use Rattle.vpg_hope.proofs.Both.{not_both}

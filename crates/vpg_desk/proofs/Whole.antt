@@ -2,7 +2,7 @@
 use Rattle.std.proofs.Common.{◌≡◌, ◌↔◌, ℕ, ◌<◌, ◌==◌, Bool, Option, Some, None, IsTrue, List, [], ◌∷◌, ◌++◌, length, slice_index, refl, sym, ap, ◌∙◌, subst, eqb-true}
 use Rattle.std.specs.List.{AllByRecursion}
 use Rattle.std.specs.Bool.{Decides}
-use Rattle.vpg_players.specs.declared.player.Player.{Player}
+use Rattle.vpg_sides.specs.declared.player.Player.{Player}
 use Rattle.vpg_diagram.proofs.Lists.{All-front}
 use Rattle.vpg_trail.specs.Page.{Which, Hopeful, Dual, Entry, choices_of, AllStand, value_at, table_of}
 use Rattle.vpg_trail.proofs.PageLemmas.{table_of-at}

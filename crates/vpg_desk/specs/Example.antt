@@ -2,7 +2,7 @@
 use Rattle.std.specs.Prelude.{List, [], ◌∷◌}
 use Rattle.vpg_guards.specs.Formula.{Formula, always, feature}
 use Rattle.vpg_diagram.specs.FeatureDiagram.{Line, Optional}
-use Rattle.vpg_players.specs.declared.player.Player.TheVariants.{Even, Odd}
+use Rattle.vpg_sides.specs.declared.player.Player.TheVariants.{Even, Odd}
 use Rattle.vpg_game.specs.Guarded.{GuardedGame}
 use Rattle.vpg_desk.specs.Setting.{IsSetting}
 

@@ -2,7 +2,7 @@
 use Rattle.std.specs.Prelude.{◌≡◌, ◌↔◌, ◌⊎◌, ℕ, ◌<◌, Bool, Option, List, [], ◌∷◌, ◌++◌, length, map, IsTrue}
 use Rattle.std.specs.Bool.{Decides}
 use Rattle.vpg_measure.specs.Lifts.{AreChoices}
-use Rattle.vpg_players.specs.declared.player.Player.{Player}
+use Rattle.vpg_sides.specs.declared.player.Player.{Player}
 use Rattle.vpg_guards.specs.declared.tri.Tri.{Tri}
 use Rattle.vpg_hope.specs.Strategies.{Strategy, Wins}
 use Rattle.vpg_hope.specs.Hope.{product_game}

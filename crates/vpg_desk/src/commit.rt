@@ -18,8 +18,8 @@ use vpg_game::GuardedGame;
 use vpg_guards::Tri;
 use vpg_measure::{Harvest, Order, PageGames};
 use vpg_partial::Decision;
+use vpg_sides::Which;
 use vpg_trail::{Assumed, Entry, Trail, decisions_among, lifts};
-use vpg_verdict::Which;
 
 /// Whether the order is of this game and this diagram.
 fn is_order_of(order: &Order, game: &GuardedGame, diagram: &Diagram) -> bool

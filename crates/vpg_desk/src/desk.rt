@@ -25,8 +25,8 @@ use vpg_faults::OpenFault;
 use vpg_game::{GuardedGame, Player};
 use vpg_measure::{Order, PageGames, Table, is_progress};
 use vpg_partial::Decision;
+use vpg_sides::{Verdict, Which};
 use vpg_trail::{Decisions, Entries, Page, Trail, decisions_among};
-use vpg_verdict::{Verdict, Which};
 
 /// The most changes that a desk makes.
 pub const MOST_CHANGES: u64 = 1_048_576;

@@ -11,8 +11,8 @@ ghost use Rattle.vpg_desk.specs.State.{Replies, setting_of};
 use crate::desk::Desk;
 use vpg_hope::Arena;
 use vpg_measure::{Shape, Table, lift};
+use vpg_sides::Which;
 use vpg_trail::Entry;
-use vpg_verdict::Which;
 
 /// Whether a lift raises the vertex.
 fn rises_in(shape: &Shape, arena: &Arena, table: &Table, v: u32) -> bool

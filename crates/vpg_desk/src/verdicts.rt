@@ -1,6 +1,6 @@
 //! The verdicts of all vertices at once.
 ghost use Rattle.std.specs.Prelude.{◌≡◌, ◌==◌, ℕ, length, map, zip, IfOk};
-ghost use Rattle.vpg_verdict.specs.declared.verdict.Verdict.{Verdict as Said};
+ghost use Rattle.vpg_sides.specs.declared.verdict.Verdict.{Verdict as Said};
 ghost use Rattle.vpg_desk.specs.Book.{Verdict as AsksVerdict, VerdictIs};
 ghost use Rattle.vpg_desk.specs.State.{Replies};
 ghost use lib.ListN.{get_elem?};
@@ -8,7 +8,7 @@ ghost use mathlib.Core.Option.{some};
 
 use crate::desk::Desk;
 use std::alloc::{AllocError, Global};
-use vpg_verdict::{Verdict, Which};
+use vpg_sides::{Verdict, Which};
 
 /// Returns the verdict of each vertex, by its values in two tables and the numbers that stand for the tops of these.
 fn verdicts_by(

@@ -1,9 +1,9 @@
 -- What determinacy says of product lines.
 use Rattle.std.proofs.Common.{◌≡◌, ℕ, suc, ◌<◌, ◌≤◌, ◌⊎◌, inl, inr, Bool, true, false, List, [], ◌∷◌, length, get_or, map, filter, slice_index, refl, sym, ap, ◌∙◌, subst, arith}
 use Rattle.std.proofs.lemmas.List.{length-map}
-use Rattle.vpg_players.specs.declared.player.Player.{Player}
-use Rattle.vpg_players.specs.declared.player.Player.TheVariants.{Even, Odd}
-use Rattle.vpg_players.specs.Players.{opponent}
+use Rattle.vpg_sides.specs.declared.player.Player.{Player}
+use Rattle.vpg_sides.specs.declared.player.Player.TheVariants.{Even, Odd}
+use Rattle.vpg_sides.specs.Players.{opponent}
 use Rattle.vpg_guards.specs.declared.tri.Tri.{Tri}
 use Rattle.vpg_guards.specs.declared.tri.Tri.TheVariants.{No, Unknown, Yes}
 use Rattle.vpg_game.specs.Guarded.{GuardedGame, guarded_priorities, IsClosedGuarded, AllGuards, dual}
@@ -16,8 +16,8 @@ use Rattle.vpg_hope.proofs.Both.{not_both}
 use Rattle.vpg_hope.proofs.Dual.{opponent_twice, wins_to_dual, wins_from_dual}
 use Rattle.vpg_hope.proofs.Edges.{AreEdgesInside}
 use Rattle.vpg_hope.proofs.Guards.{restrict_closed, restrict_priorities, dual_closed, dual_guards, product_dual, same_count, same_owner, same_priority, edge_more, cautious_harder}
-use Rattle.vpg_verdict.specs.declared.which.Which.{Which}
-use Rattle.vpg_verdict.specs.declared.which.Which.TheVariants.{Hopeful, Dual}
+use Rattle.vpg_sides.specs.declared.which.Which.{Which}
+use Rattle.vpg_sides.specs.declared.which.Which.TheVariants.{Hopeful, Dual}
 use Rattle.vpg_measure.specs.Least.{IsValueBelow}
 use Rattle.vpg_measure.specs.Lifts.{IsTableOf, IsProgressTable}
 use Rattle.vpg_measure.specs.Measures.{Shape, IsShape, Top}

@@ -1,7 +1,7 @@
 -- The determinacy of parity games, as statements. Emerson and Jutla 1991; the proof follows Zielonka 1998.
 use Rattle.std.specs.Prelude.{◌≡◌, ◌≢◌, ℕ, ◌<◌, ◌⊎◌, ◌↔◌, length}
-use Rattle.vpg_players.specs.declared.player.Player.{Player}
-use Rattle.vpg_players.specs.declared.player.Player.TheVariants.{Even, Odd}
+use Rattle.vpg_sides.specs.declared.player.Player.{Player}
+use Rattle.vpg_sides.specs.declared.player.Player.TheVariants.{Even, Odd}
 use Rattle.vpg_hope.specs.Comparison.{IsEasier, dual_game}
 use Rattle.vpg_hope.specs.Games.{Game, IsClosed, priorities}
 use Rattle.vpg_hope.specs.Strategies.{Strategy, Wins}

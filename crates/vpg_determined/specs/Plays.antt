@@ -1,8 +1,8 @@
 -- Plays against every opponent. The standard of parity games; that a player who cannot move loses is this project's
 -- own.
 use Rattle.std.specs.Prelude.{◌≡◌, ℕ}
-use Rattle.vpg_players.specs.declared.player.Player.{Player}
-use Rattle.vpg_players.specs.Players.{WinsAt, opponent}
+use Rattle.vpg_sides.specs.declared.player.Player.{Player}
+use Rattle.vpg_sides.specs.Players.{WinsAt, opponent}
 use Rattle.vpg_hope.specs.Games.{Game, HasEdge, owner_of}
 use Rattle.vpg_hope.specs.Strategies.{Strategy, Reaches, Wins, IsPlay, IsGreatestRecurring}
 

@@ -1,14 +1,14 @@
 -- Determinacy for product lines, as statements: a verdict has moves that win in every product that is left. This
 -- project's own.
 use Rattle.std.specs.Prelude.{◌≡◌, ℕ, ◌<◌, ◌⊎◌, Bool, List, length, slice_index}
-use Rattle.vpg_players.specs.declared.player.Player.{Player}
-use Rattle.vpg_players.specs.declared.player.Player.TheVariants.{Even, Odd}
+use Rattle.vpg_sides.specs.declared.player.Player.{Player}
+use Rattle.vpg_sides.specs.declared.player.Player.TheVariants.{Even, Odd}
 use Rattle.vpg_guards.specs.declared.tri.Tri.{Tri}
 use Rattle.vpg_game.specs.Guarded.{GuardedGame, guarded_priorities, IsClosedGuarded, dual}
 use Rattle.vpg_hope.specs.Hope.{product_game, hopeful_game, cautious_game, AgreesWithTruth}
 use Rattle.vpg_hope.specs.Strategies.{Strategy, Wins}
-use Rattle.vpg_verdict.specs.declared.which.Which.{Which}
-use Rattle.vpg_verdict.specs.declared.which.Which.TheVariants.{Hopeful, Dual}
+use Rattle.vpg_sides.specs.declared.which.Which.{Which}
+use Rattle.vpg_sides.specs.declared.which.Which.TheVariants.{Hopeful, Dual}
 use Rattle.vpg_measure.specs.Least.{IsValueBelow}
 use Rattle.vpg_measure.specs.Measures.{Shape, IsShape, Top}
 use Rattle.vpg_measure.specs.Orders.{other_table}

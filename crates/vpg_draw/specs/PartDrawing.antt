@@ -5,11 +5,11 @@ use Rattle.vpg_guards.specs.declared.tri.Tri.TheVariants.{No, Unknown, Yes}
 use Rattle.vpg_guards.specs.Formula.{Formula}
 use Rattle.vpg_guards.specs.Known.{kleene}
 use Rattle.vpg_diagram.specs.declared.clause.Literal.{Literal}
-use Rattle.vpg_players.specs.declared.player.Player.{Player}
-use Rattle.vpg_players.specs.declared.player.Player.TheVariants.{Even, Odd}
+use Rattle.vpg_sides.specs.declared.player.Player.{Player}
+use Rattle.vpg_sides.specs.declared.player.Player.TheVariants.{Even, Odd}
 use Rattle.vpg_game.specs.Guarded.{GuardedEdge}
 use Rattle.vpg_game.specs.Game.{NamedVertex, NamedGame, no_vertex}
-use Rattle.vpg_verdict.specs.declared.verdict.Verdict.{Verdict}
+use Rattle.vpg_sides.specs.declared.verdict.Verdict.{Verdict}
 use Rattle.vpg_draw.specs.Labels.{choices_text}
 use Rattle.vpg_draw.specs.GameDrawing.{vertex_start, colours_text, no_verdict, style_text, edge_start, defaults_text}
 

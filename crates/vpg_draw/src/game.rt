@@ -9,11 +9,10 @@ ghost use Rattle.vpg_draw.specs.GameDrawing.{shape_text, colours_text, name_line
 
 use crate::labels::{choices, number, wrapped};
 use std::alloc::{AllocError, Global};
-use vpg_game::{Edge, GuardedGame, Player};
+use vpg_game::{Edge, GuardedGame, Player, VertexNames};
 use vpg_guards::{Guard, Names, Tri};
-use vpg_names::VertexNames;
 use vpg_partial::{Decision, Partial};
-use vpg_verdict::Verdict;
+use vpg_sides::Verdict;
 
 fn shape(owner: Player, out: &mut Vec<u8>) -> Result<(), AllocError>
     ensures { OnOk result (out.new.items ≡ out.old.items ++ shape_text owner) }

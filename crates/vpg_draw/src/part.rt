@@ -10,11 +10,10 @@ ghost use Rattle.vpg_draw.specs.PartDrawing.{first_text, part_vertex_text, part_
 use crate::game::{colours, defaults, edge_start, identifier, style, vertex_start};
 use crate::labels::choices;
 use std::alloc::{AllocError, Global};
-use vpg_game::{Edge, GuardedGame, Player};
+use vpg_game::{Edge, GuardedGame, Player, VertexNames};
 use vpg_guards::{Names, Tri};
-use vpg_names::VertexNames;
 use vpg_partial::{Decision, Partial};
-use vpg_verdict::Verdict;
+use vpg_sides::Verdict;
 
 /// Appends the mark of the vertex from which the others are reached.
 fn first_mark(is_first: bool, out: &mut Vec<u8>) -> Result<(), AllocError>

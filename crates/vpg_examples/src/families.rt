@@ -11,8 +11,7 @@ use std::sync::Wait;
 use std::thread::Threads;
 use vpg_family::{GamePaths, Known, ModelPaths, Paths, read_known};
 use vpg_report::run_script;
-use vpg_script::Device;
-use vpg_serving::{Form, Manner};
+use vpg_script::{Device, Form, Manner};
 
 /// Each line is answered, and a fault ends the script.
 const PLAIN: Manner = Manner {

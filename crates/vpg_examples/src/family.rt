@@ -10,8 +10,7 @@ use std::thread::Threads;
 use vpg_diagram::Diagram;
 use vpg_game::GuardedGame;
 use vpg_report::{DIAGRAM, GAME, RunFault, run, run_as};
-use vpg_script::{Device, Sink, Source};
-use vpg_serving::{Ending, Manner};
+use vpg_script::{Device, Ending, Manner, Sink, Source};
 
 /// A game with its diagram.
 pub(crate) struct Family {

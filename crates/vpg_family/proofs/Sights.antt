@@ -7,9 +7,9 @@ use Rattle.vpg_game.specs.Game.{NamedGame}
 use Rattle.vpg_partial.specs.Known.{literal_of}
 use Rattle.vpg_partial.specs.TableLaws.{IsKnownTable}
 use Rattle.vpg_partial.specs.declared.decision.Decision.{Decision}
-use Rattle.vpg_verdict.specs.declared.verdict.Verdict.{Verdict}
+use Rattle.vpg_sides.specs.declared.verdict.Verdict.{Verdict}
 use Rattle.vpg_draw.specs.GameDrawing.{game_drawing}
-use Rattle.vpg_names.specs.Spelled.{Told}
+use Rattle.vpg_game.specs.SpelledNames.{Told}
 use Rattle.vpg_family.specs.Pictures.{TellsNames}
 use Rattle.vpg_family.specs.Pages.{sight_of, IsSight, IsNamed, IsGameSeen, IsPageDrawn, IsSightDrawn}
 use Rattle.vpg_family.specs.declared.drawing.Subject.{Subject}

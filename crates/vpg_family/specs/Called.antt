@@ -4,7 +4,7 @@ use Rattle.std.specs.Prelude.{◌≡◌, ℕ, zero, suc, List, [], ◌∷◌, �
 use Rattle.vpg_diagram.specs.DiagramText.{NamedDiagram}
 use Rattle.vpg_game.specs.Game.{NamedGame, vertex_ids}
 use Rattle.vpg_game.specs.Grammar.{File, IsFile, file_text}
-use Rattle.vpg_names.specs.Spelled.{Told, told_by}
+use Rattle.vpg_game.specs.SpelledNames.{Told, told_by}
 use Rattle.vpg_script.specs.Script.{is_nonempty}
 use Rattle.vpg_script.specs.Calling.{Calling}
 use Rattle.vpg_family.specs.Families.{SpellsFamily, AreTextsOf}

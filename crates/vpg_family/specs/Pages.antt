@@ -7,12 +7,12 @@ use Rattle.vpg_diagram.specs.declared.clause.Literal.{Literal}
 use Rattle.vpg_diagram.specs.DiagramText.{NamedDiagram}
 use Rattle.vpg_diagram.specs.FeatureDiagram.{feature_count}
 use Rattle.vpg_game.specs.Game.{NamedGame}
-use Rattle.vpg_players.specs.declared.player.Player.{Player}
-use Rattle.vpg_names.specs.Spelled.{Told}
+use Rattle.vpg_sides.specs.declared.player.Player.{Player}
+use Rattle.vpg_game.specs.SpelledNames.{Told}
 use Rattle.vpg_partial.specs.Known.{literal_of}
 use Rattle.vpg_partial.specs.TableLaws.{IsKnownTable}
 use Rattle.vpg_partial.specs.declared.decision.Decision.{Decision}
-use Rattle.vpg_verdict.specs.declared.verdict.Verdict.{Verdict}
+use Rattle.vpg_sides.specs.declared.verdict.Verdict.{Verdict}
 use Rattle.vpg_draw.specs.GameDrawing.{game_drawing}
 use Rattle.vpg_draw.specs.FeatureDrawing.{feature_drawing}
 use Rattle.vpg_draw.specs.PartDrawing.{part_drawing}

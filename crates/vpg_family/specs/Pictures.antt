@@ -5,10 +5,10 @@ use Rattle.vpg_guards.specs.declared.tri.Tri.{Tri}
 use Rattle.vpg_diagram.specs.DiagramText.{NamedDiagram, IsTextOf}
 use Rattle.vpg_game.specs.Game.{NamedGame, SpellsGame}
 use Rattle.vpg_game.specs.Grammar.{File, IsFile, file_text}
-use Rattle.vpg_names.specs.Spelled.{Told, told_by}
+use Rattle.vpg_game.specs.SpelledNames.{Told, told_by}
 use Rattle.vpg_partial.specs.KnownLaws.{HasConflictOf}
 use Rattle.vpg_partial.specs.TableLaws.{IsKnownTable}
-use Rattle.vpg_verdict.specs.declared.verdict.Verdict.{Verdict}
+use Rattle.vpg_sides.specs.declared.verdict.Verdict.{Verdict}
 use Rattle.vpg_draw.specs.GameDrawing.{no_verdict, game_drawing}
 use Rattle.vpg_draw.specs.FeatureDrawing.{feature_drawing}
 use Rattle.vpg_family.specs.Families.{SpellsFamily, IsFamilyFault}

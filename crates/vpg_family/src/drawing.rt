@@ -12,11 +12,10 @@ use crate::fault::Fault;
 use std::alloc::{AllocError, Global};
 use vpg_diagram::Diagram;
 use vpg_draw::{draw_features, draw_game};
-use vpg_game::GuardedGame;
+use vpg_game::{GuardedGame, VertexNames};
 use vpg_measure::known_under;
-use vpg_names::VertexNames;
 use vpg_partial::{Partial, PartialFault};
-use vpg_verdict::Verdict;
+use vpg_sides::Verdict;
 
 /// The subject of a family's picture.
 #[derive(Clone, Copy, PartialEq, Eq)]

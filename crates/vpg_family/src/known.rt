@@ -20,8 +20,7 @@ use std::alloc::{AllocError, Global};
 use std::rt::Files;
 use vpg_checking::Behaviour;
 use vpg_formula::Entry;
-use vpg_game::GuardedGame;
-use vpg_names::VertexNames;
+use vpg_game::{GuardedGame, VertexNames};
 use vpg_script::Callings;
 
 /// Returns the identifier of the vertex at a place, if there is one.

@@ -11,11 +11,10 @@ use crate::pages::game_shown;
 use std::alloc::{AllocError, Global};
 use vpg_diagram::Diagram;
 use vpg_draw::draw_features;
-use vpg_game::GuardedGame;
+use vpg_game::{GuardedGame, VertexNames};
 use vpg_measure::Order;
-use vpg_names::VertexNames;
 use vpg_partial::{Decision, Partial};
-use vpg_verdict::Verdict;
+use vpg_sides::Verdict;
 
 /// Returns the picture of the diagram on a page, from its text.
 fn features_shown(

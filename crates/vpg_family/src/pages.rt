@@ -15,12 +15,11 @@ use crate::fault::Fault;
 use std::alloc::{AllocError, Global};
 use vpg_diagram::Diagram;
 use vpg_draw::draw_game;
-use vpg_game::GuardedGame;
+use vpg_game::{GuardedGame, VertexNames};
 use vpg_guards::Names;
 use vpg_measure::known_under;
-use vpg_names::VertexNames;
 use vpg_partial::{Decision, Partial, PartialFault};
-use vpg_verdict::Verdict;
+use vpg_sides::Verdict;
 
 /// The beginning of the picture of a game, up to the decisions.
 const OPENING: &[u8] = b"digraph game {\n  graph [label=\"decisions";

@@ -8,8 +8,7 @@ use crate::pages::with_names;
 use crate::parts::{PartSeen, part_passed, part_seen};
 use std::alloc::Global;
 use vpg_diagram::Diagram;
-use vpg_game::GuardedGame;
-use vpg_names::VertexNames;
+use vpg_game::{GuardedGame, VertexNames};
 use vpg_script::{Failed, Sink};
 
 /// Whether an answer is the picture of a game.

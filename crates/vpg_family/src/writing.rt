@@ -8,11 +8,10 @@ use crate::system_warnings::{warnings_of_requirements, warnings_of_system};
 use crate::warnings::{Sort, Warning, Warnings};
 use std::alloc::{AllocError, Global};
 use vpg_diagram::Diagram;
-use vpg_game::{GuardedGame, Player};
+use vpg_game::{GuardedGame, Player, VertexNames};
 use vpg_guards::Names;
 use vpg_lint::{nearest_of, put_number, put_place, put_shown, put_text};
 use vpg_models::Form;
-use vpg_names::VertexNames;
 use vpg_places::place_of;
 use vpg_system::System;
 

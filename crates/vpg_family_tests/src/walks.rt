@@ -8,9 +8,9 @@ use vpg_model::{Source, build};
 use vpg_part_texts::Text;
 use vpg_partial::Partial;
 use vpg_parts::{Kind, Part, Permitted, TRUE_PLACE};
+use vpg_sides::Which;
 use vpg_system::System;
 use vpg_trace::{follow, put_trace};
-use vpg_verdict::Which;
 
 const SYSTEM: &[u8] = b"des (0, 3, 2)\n(0, \"a [f]\", 1)\n(0, b, 0)\n(1, \"b [g]\", 0)\n";
 

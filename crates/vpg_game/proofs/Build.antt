@@ -8,8 +8,8 @@ use Rattle.vpg_guards.specs.Formula.{Formula}
 use Rattle.vpg_game.specs.Spelled.{SpelledSuccessor, SpelledEntry}
 use Rattle.vpg_game.proofs.Parts.{some_is}
 use Rattle.std.proofs.lemmas.Option.{slice_get-get_or, slice_get_within}
-use Rattle.vpg_edges.specs.Edges.{GuardedEdge, join_edge}
-use Rattle.vpg_edges.proofs.Joining.{edge_same}
+use Rattle.vpg_game.specs.Edges.{GuardedEdge, join_edge}
+use Rattle.vpg_game.proofs.Joining.{edge_same}
 use Rattle.vpg_game.specs.Game.{entry_ids, IsFirstNotHeld, IsFirstMissing, AllFound, NamedVertex, vertex_of, Lacks, Holds, AreDistinct, place_of, joined_edges, AllHeld}
 use Rattle.vpg_game.specs.Building.{IsJoiningFault, IsResolvingFault}
 use Rattle.vpg_game.specs.declared.fault.GameFault.{GameFault}

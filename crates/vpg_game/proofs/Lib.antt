@@ -13,3 +13,5 @@ pub mod Graphs
 pub mod Written
 pub mod Named
 pub mod NamingSteps
+pub mod Joining
+pub mod Scans

@@ -11,7 +11,7 @@ use Rattle.vpg_guards.proofs.LawProofs.{disjunctions_are_readable}
 use Rattle.vpg_guards.proofs.Readable.{spelled_readable}
 use Rattle.vpg_game.specs.Spelled.{SpelledSuccessor, SpelledEntry, named_in}
 use Rattle.vpg_game.specs.Grammar.{Bracket, Successors, one, comma, Entry, IsBracket, AreSuccessors, AreAllSuccessors, AreEntries, successors_of, all_successors_of, bracket_guard, entry_of, entries_of, SpellsEntries}
-use Rattle.vpg_edges.specs.Edges.{GuardedEdge, join_edge}
+use Rattle.vpg_game.specs.Edges.{GuardedEdge, join_edge}
 use Rattle.vpg_game.specs.Game.{NamedVertex, IsGame, AreEdges, AreVertices, edges_in, vertex_ids, priorities_of, vertex_of, game_of, entry_ids, entry_priorities, joined_edges, place_of, Lacks, AllHeld, AllFound, AreDistinct, AreSound, IsNarrow}
 use Rattle.vpg_game.specs.Building.{AreReadable, AreLimited, IsLimited}
 

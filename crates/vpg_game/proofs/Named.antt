@@ -5,7 +5,7 @@ use Rattle.std.proofs.lemmas.Bool.{eqb-true, cases_Bool}
 use Rattle.vpg_guards.specs.Formula.{Formula, truth}
 use Rattle.vpg_guards.specs.Grammar.{either}
 use Rattle.vpg_guards.proofs.LawProofs.{joined_guards_mean_both}
-use Rattle.vpg_edges.specs.Edges.{GuardedEdge, join_edge}
+use Rattle.vpg_game.specs.Edges.{GuardedEdge, join_edge}
 use Rattle.vpg_game.specs.Spelled.{SpelledSuccessor, SpelledEntry}
 use Rattle.vpg_game.specs.Game.{place_of, joined_edges, vertex_of}
 use Rattle.vpg_game.specs.Laws.{SomeEdgeHolds, SomeNamedHolds}

@@ -7,7 +7,7 @@ use Rattle.vpg_guards.specs.Formula.{Formula, named}
 use Rattle.vpg_features.specs.Index.{NotesAlso}
 use Rattle.vpg_guards.proofs.Named.{named_below}
 use Rattle.vpg_features.proofs.Noted.{Contains-none}
-use Rattle.vpg_edges.specs.Edges.{GuardedEdge}
+use Rattle.vpg_game.specs.Edges.{GuardedEdge}
 use Rattle.vpg_game.specs.Game.{NamedVertex, NamedGame, AreEdges, AreVertices, no_vertex, graph_of, vertex_in}
 use Rattle.vpg_game.specs.Naming.{features_named, IsNaming}
 use Rattle.vpg_game.proofs.Graphs.{graph_at}

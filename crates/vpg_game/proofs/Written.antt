@@ -18,10 +18,10 @@ use Rattle.vpg_features.specs.Names.{AreNames, EachIsName, is_name_byte}
 use Rattle.vpg_guards.specs.Grammar.{AreBlank}
 use Rattle.vpg_guards.specs.Writing.{guard_text, all_text, any_text, more_all_text, more_any_text, enclosed_if, is_group, IsReadable}
 use Rattle.vpg_guards.proofs.LawProofs.{writings_spell_the_guard}
-use Rattle.vpg_players.specs.declared.player.Player.{Player}
-use Rattle.vpg_players.specs.declared.player.Player.TheVariants.{Even, Odd}
-use Rattle.vpg_edges.specs.Edges.{GuardedEdge, join_edge, no_edge}
-use Rattle.vpg_edges.proofs.Joining.{join_new}
+use Rattle.vpg_sides.specs.declared.player.Player.{Player}
+use Rattle.vpg_sides.specs.declared.player.Player.TheVariants.{Even, Odd}
+use Rattle.vpg_game.specs.Edges.{GuardedEdge, join_edge, no_edge}
+use Rattle.vpg_game.proofs.Joining.{join_new}
 use Rattle.vpg_game.specs.Spelled.{SpelledSuccessor, SpelledEntry, named_in}
 use Rattle.vpg_game.specs.Grammar.{Number, Bracket, Successor, Successors, one, comma, Entry, File, bracket_text, successor_text, successors_text, all_successors_text, entry_text, entries_text, file_text, IsNumber, IsNumberBelow, IsBracket, EnclosesGuard, IsSuccessor, AreSuccessors, AreAllSuccessors, IsEntry, AreEntries, AreOther, number_value, player_of, first_successor, IsApart, bracket_guard, successor_of, successors_of, all_successors_of, entry_of, entries_of, SpellsEntries}
 use Rattle.vpg_game.specs.Game.{NamedVertex, NamedGame, IsGame, AreEdges, AreVertices, AreDistinct, AllHeld, AllFound, Lacks, IsNarrow, IsAtLimit, SpellsGame, no_vertex, vertex_ids, priorities_of, edges_in, entry_ids, entry_priorities, place_of, joined_edges, vertex_of}

@@ -3,12 +3,12 @@ use Rattle.std.specs.Prelude.{◌≡◌, ℕ, List, refl}
 use Rattle.std.specs.Coded.{Coded, code_by, coded×, coded_ℕ, coded_list}
 use Rattle.vpg_guards.specs.Formula.{Formula}
 use Rattle.vpg_guards.specs.Coding.{formula_code}
-use Rattle.vpg_players.specs.declared.player.Player.{Player}
-use Rattle.vpg_players.specs.declared.player.Player.TheVariants.{Even, Odd}
+use Rattle.vpg_sides.specs.declared.player.Player.{Player}
+use Rattle.vpg_sides.specs.declared.player.Player.TheVariants.{Even, Odd}
 use Rattle.vpg_game.specs.Spelled.{SpelledSuccessor, SpelledEntry}
 use Rattle.vpg_game.specs.Grammar.{player_of}
-use Rattle.vpg_edges.specs.Edges.{GuardedEdge}
-use Rattle.vpg_edges.specs.Coding.{edge_code}
+use Rattle.vpg_game.specs.Edges.{GuardedEdge}
+use Rattle.vpg_game.specs.EdgeCoding.{edge_code}
 use Rattle.vpg_game.specs.Game.{NamedVertex, NamedGame}
 
 abbrev pub player_number : Player → ℕ

@@ -1,14 +1,14 @@
 -- Guarded games, and the game that entries spell. Texts: PGSolver's format; all else is this project's own.
 use Rattle.std.specs.Prelude.{◌≡◌, ℕ, ◌+◌, ◌<◌, ◌≤◌, ◌^◌, List, [], ◌∷◌, length, map, take, ◌==◌, Some, slice_get, slice_index_or, Contains}
 use Rattle.std.specs.List.{position_or_len}
-use Rattle.vpg_players.specs.declared.player.Player.{Player}
-use Rattle.vpg_players.specs.declared.player.Player.TheVariants.{Even}
+use Rattle.vpg_sides.specs.declared.player.Player.{Player}
+use Rattle.vpg_sides.specs.declared.player.Player.TheVariants.{Even}
 use Rattle.vpg_guards.specs.Formula.{Formula}
 use Rattle.vpg_guards.specs.Writing.{IsReadable}
 use Rattle.vpg_game.specs.Spelled.{SpelledSuccessor, SpelledEntry}
 use Rattle.vpg_game.specs.Grammar.{SpellsEntries}
-use Rattle.vpg_players.specs.Players.{opponent}
-use Rattle.vpg_edges.specs.Edges.{GuardedEdge, join_edge}
+use Rattle.vpg_sides.specs.Players.{opponent}
+use Rattle.vpg_game.specs.Edges.{GuardedEdge, join_edge}
 use Rattle.vpg_game.specs.Guarded.{GuardedVertex, GuardedGame}
 use Rattle.vpg_game.specs.Levels.{levels_of, top_of}
 

@@ -1,9 +1,9 @@
 -- Guarded games and the dual. The games of FASE 2020, with formulas for sets of configurations; the dual is
 -- folklore.
 use Rattle.std.specs.Prelude.{ℕ, suc, ◌<◌, List, length, map, All}
-use Rattle.vpg_players.specs.declared.player.Player.{Player}
-use Rattle.vpg_players.specs.Players.{opponent}
-pub use Rattle.vpg_edges.specs.Edges.{GuardedEdge}
+use Rattle.vpg_sides.specs.declared.player.Player.{Player}
+use Rattle.vpg_sides.specs.Players.{opponent}
+pub use Rattle.vpg_game.specs.Edges.{GuardedEdge}
 
 pub record GuardedVertex (Guard : Type 0) : Type 0 where
   pub owner : Player

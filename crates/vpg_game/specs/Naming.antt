@@ -1,7 +1,7 @@
 -- The vertices with an edge that needs a feature: its guard names the feature. This project's own.
 use Rattle.std.specs.Prelude.{ℕ, ◌≡◌, ◌↔◌, List, [], ◌∷◌, ◌++◌, length, slice_index_or, Contains}
 use Rattle.vpg_guards.specs.Formula.{Formula, named}
-use Rattle.vpg_edges.specs.Edges.{GuardedEdge}
+use Rattle.vpg_game.specs.Edges.{GuardedEdge}
 use Rattle.vpg_game.specs.Game.{NamedVertex, no_vertex}
 
 -- the features that the guards of edges name

@@ -1,10 +1,10 @@
 -- The one writing of a guarded game. PGSolver's format; brackets are this project's own.
 use Rattle.std.specs.Prelude.{ℕ, max, List, [], ◌∷◌, ◌++◌, codes, decimal, slice_index_or}
-use Rattle.vpg_players.specs.declared.player.Player.{Player}
-use Rattle.vpg_players.specs.declared.player.Player.TheVariants.{Even, Odd}
+use Rattle.vpg_sides.specs.declared.player.Player.{Player}
+use Rattle.vpg_sides.specs.declared.player.Player.TheVariants.{Even, Odd}
 use Rattle.vpg_guards.specs.Formula.{Formula, always}
 use Rattle.vpg_guards.specs.Writing.{guard_text}
-use Rattle.vpg_edges.specs.Edges.{GuardedEdge}
+use Rattle.vpg_game.specs.Edges.{GuardedEdge}
 use Rattle.vpg_game.specs.Game.{NamedVertex, NamedGame, vertex_ids, no_vertex}
 
 -- brackets round a guard other than `true`

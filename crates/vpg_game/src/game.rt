@@ -5,6 +5,7 @@ ghost use Rattle.vpg_game.specs.Game.{NamedGame, top_in, dual_top_in, priorities
 ghost use Rattle.vpg_game.specs.Naming.{features_named};
 ghost use Rattle.vpg_game.specs.Refused.{IsRefused};
 
+use crate::Edge;
 use crate::entry::Entry;
 use crate::fault::GameFault;
 use crate::making::make;
@@ -13,9 +14,8 @@ use crate::vertex::Vertex;
 use indexmap::IndexSet;
 use std::alloc::Global;
 use std::marker::Model;
-use vpg_edges::Edge;
 use vpg_guards::{Index, Names};
-use vpg_players::Player;
+use vpg_sides::Player;
 
 /// The highest priority of a game. One that is read has lower ones; its dual may have it.
 pub const HIGHEST_PRIORITY: u32 = 65_536;

@@ -10,25 +10,33 @@
 //! The definitions stand in `specs/`: `Players`; `Guarded`, games over any kind of guard and their duals; `Levels`, the
 //! odd priorities that occur and the number of the top measure (Jurdzinski 2000); `Grammar`, the texts as a relation;
 //! `Game`, the game that entries spell, and the properties of every game; `Refused`, why a text is no game; `Writing`;
-//! `Laws`. `Building` has the limits of entries, and why some make no game. `Spelled`, `Reading` and `Coding` serve
-//! these.
+//! `Laws`. `Building` has the limits of entries, and why some make no game. `Edges` compares and joins edges: a vertex
+//! has one edge to a target. `SpelledNames` says which names of vertices, and which start, a text spells; a game keeps
+//! neither, so `VertexNames::read` reads the text once more. `Spelled`, `Reading`, `Scanning`, `Coding` and
+//! `EdgeCoding` serve these.
 #![tactic(auto)]
 
 mod dual;
+mod edge;
+mod edges;
 mod entry;
 mod fault;
 mod game;
 pub mod laws;
 mod levels;
 mod making;
+mod names;
 mod naming;
 mod reading;
+mod scanning;
 mod vertex;
 mod writing;
 
+pub use edge::Edge;
+pub use edges::{are_same, copy_edges, join_edge};
 pub use entry::{Entry, Successor};
 pub use fault::{DualFault, GameFault};
 pub use game::{GuardedGame, HIGHEST_PRIORITY};
 pub use levels::{Level, TOP_LIMIT, bound, odd_counts, top_within_limit};
-pub use vpg_edges::Edge;
-pub use vpg_players::Player;
+pub use names::VertexNames;
+pub use vpg_sides::Player;

@@ -12,9 +12,9 @@ use crate::game::GuardedGame;
 use crate::levels::top_within_limit;
 use crate::naming::naming_of;
 use crate::vertex::Vertex;
+use crate::{Edge, join_edge};
 use indexmap::IndexSet;
 use std::alloc::{AllocError, Global};
-use vpg_edges::{Edge, join_edge};
 use vpg_guards::Index;
 
 /// Returns the identifiers of entries, in order.

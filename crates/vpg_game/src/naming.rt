@@ -2,9 +2,9 @@
 ghost use Rattle.std.specs.Prelude.{◌≡◌, ◌<◌, ◌++◌, All, OnOk, IfOk};
 ghost use Rattle.vpg_game.specs.Naming.{features_named, IsNaming};
 
+use crate::Edge;
 use crate::vertex::Vertex;
 use std::alloc::{AllocError, Global};
-use vpg_edges::Edge;
 use vpg_guards::Index;
 
 /// Adds the features that the guards of edges name.

@@ -14,7 +14,7 @@ use crate::entry::{Entry, Successor};
 use crate::fault::GameFault;
 use std::alloc::Global;
 use vpg_guards::{Guard, GuardFault, Names, parse_guard};
-use vpg_players::Player;
+use vpg_sides::Player;
 
 /// The most vertices of a game.
 pub const MOST_VERTICES: usize = 65_536;

@@ -2,10 +2,10 @@
 ghost use Rattle.std.specs.Prelude.{◌≡◌, ◌↔◌, ◌<◌, IfOk, IsTrue};
 ghost use Rattle.vpg_game.specs.Game.{dual_vertex};
 
+use crate::{Edge, are_same, copy_edges};
 use std::alloc::{AllocError, Global};
 use std::marker::Model;
-use vpg_edges::{Edge, are_same, copy_edges};
-use vpg_players::Player;
+use vpg_sides::Player;
 
 #[derive(Drop)]
 pub(crate) struct Vertex {

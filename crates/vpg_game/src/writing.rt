@@ -4,13 +4,13 @@ ghost use Rattle.vpg_guards.specs.Formula.{IsBelow};
 ghost use Rattle.vpg_game.specs.Game.{vertex_ids, AreEdges, AreVertices, IsAtLimit, SpellsGame};
 ghost use Rattle.vpg_game.specs.Writing.{game_text, vertex_text, vertices_text, edge_text, edges_behind, owner_digit, greatest};
 
+use crate::Edge;
 use crate::game::GuardedGame;
 use crate::vertex::Vertex;
 use itoa::Buffer;
 use std::alloc::{AllocError, Global};
-use vpg_edges::Edge;
 use vpg_guards::{Guard, Names};
-use vpg_players::Player;
+use vpg_sides::Player;
 
 impl GuardedGame {
     /// Writes the game after what is there: `parity` and the greatest identifier, then a line for each vertex.

@@ -1,7 +1,7 @@
 -- A harvest's tables, and what a round of lifts makes of an order's.
 use Rattle.std.proofs.Common.{◌≡◌, List, ℕ, sym, subst}
-use Rattle.vpg_verdict.specs.declared.which.Which.{Which}
-use Rattle.vpg_verdict.specs.declared.which.Which.TheVariants.{Hopeful, Dual}
+use Rattle.vpg_sides.specs.declared.which.Which.{Which}
+use Rattle.vpg_sides.specs.declared.which.Which.TheVariants.{Hopeful, Dual}
 use Rattle.vpg_measure.specs.Lifts.{IsBelowTable, IsProgressTable, after_rounds}
 use Rattle.vpg_measure.specs.Orders.{OrderView, HarvestView, IsSameOrder, IsSettledHarvest, order_levels, order_arena, order_table, harvest_table}
 

@@ -11,8 +11,8 @@ use std::sync::Wait;
 use std::thread::{Threads, join};
 use vpg_measure::{Harvest, Order, Shape};
 use vpg_regions::Budget;
+use vpg_sides::Which;
 use vpg_values::TableGround;
-use vpg_verdict::Which;
 
 // A copy of one of an order's tables, raised within a budget of its own.
 fn raised_alone(

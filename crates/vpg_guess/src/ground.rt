@@ -4,8 +4,8 @@ use std::alloc::{AllocError, Global};
 use vpg_game::GuardedGame;
 use vpg_hope::Arena;
 use vpg_measure::Shape;
-use vpg_players::Player;
 use vpg_regions::{Arrivals, Draft, PerVertex, Predecessors};
+use vpg_sides::Player;
 use vpg_values::{GuessGround, Scale, TableGround};
 
 /// Lists of an earlier page serve if at most one in this many of their edges and vertices is gone.

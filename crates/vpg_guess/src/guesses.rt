@@ -11,8 +11,8 @@ use std::alloc::{AllocError, Global};
 use std::mem;
 use vpg_hope::Arena;
 use vpg_measure::{Certificate, Shape, Table, is_progress, raise_to_bounds};
-use vpg_players::Player;
 use vpg_regions::{Budget, Found, Regions};
+use vpg_sides::Player;
 use vpg_tangles::solve_regions;
 use vpg_values::{
     Guess, GuessGround, LiftGround, RankedBounds, TableGround, guess_table, ranked, ranked_top,

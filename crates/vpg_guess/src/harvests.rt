@@ -8,8 +8,8 @@ use crate::raising::Raising;
 use std::alloc::{AllocError, Global};
 use vpg_measure::{Harvest, Order, Shape, Table};
 use vpg_regions::Budget;
+use vpg_sides::Which;
 use vpg_values::TableGround;
-use vpg_verdict::Which;
 
 /// A raised table, and whether it is known to be a progress table.
 #[derive(Drop)]

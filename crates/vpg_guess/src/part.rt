@@ -3,8 +3,8 @@ use crate::ground::{kept_in, owner_in, priority_in, scale_of_part};
 use crate::raising::Raising;
 use std::alloc::{AllocError, Global};
 use vpg_hope::Arena;
-use vpg_players::Player;
 use vpg_regions::{Budget, Choices, Draft, Found, Graph};
+use vpg_sides::Player;
 use vpg_tangles::solve_part;
 use vpg_values::{Guess, GuessGround, RankedBounds, guess_table, ranked, value_in};
 

@@ -1,7 +1,7 @@
 //! The vertices that lifts raise.
 use crate::ground::{kept_in, owner_in, priority_in};
 use vpg_hope::Arena;
-use vpg_players::Player;
+use vpg_sides::Player;
 use vpg_values::{Scale, value_in};
 
 /// Whether a lift raises a vertex whose value is a number over some edge. The scale is the arena's for Even, so its

@@ -9,15 +9,15 @@ use Rattle.vpg_guards.specs.Formula.{Formula, named}
 use Rattle.vpg_guards.specs.Known.{kleene}
 use Rattle.vpg_guards.proofs.Named.{values_rest_on_named_features}
 use Rattle.vpg_features.proofs.Noted.{Contains-none, Contains-one}
-use Rattle.vpg_players.specs.declared.player.Player.{Player}
-use Rattle.vpg_players.specs.Players.{opponent}
+use Rattle.vpg_sides.specs.declared.player.Player.{Player}
+use Rattle.vpg_sides.specs.Players.{opponent}
 use Rattle.vpg_game.specs.Guarded.{GuardedEdge, GuardedGame, dual}
 use Rattle.vpg_game.specs.Game.{vertex_in}
 use Rattle.vpg_game.specs.Naming.{features_named}
 use Rattle.vpg_hope.specs.Games.{Game, isolated}
 use Rattle.vpg_hope.specs.Hope.{keeps_in_hope, hopeful_game}
 use Rattle.vpg_hope.specs.Selection.{AreStill, IsHeldUnmarked}
-use Rattle.vpg_kept.specs.declared.selection.Selection.TheVariants.{Hopeful, HopefulOfDual}
+use Rattle.vpg_hope.specs.declared.selection.Selection.TheVariants.{Hopeful, HopefulOfDual}
 
 -- ---- marks
 

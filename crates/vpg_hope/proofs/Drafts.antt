@@ -6,13 +6,13 @@ use Rattle.vpg_guards.specs.Formula.{Formula}
 use Rattle.vpg_game.specs.Guarded.{GuardedEdge, GuardedGame}
 use Rattle.vpg_game.specs.Game.{NamedGame, IsGame, graph_of, vertex_in, edges_in}
 use Rattle.vpg_game.proofs.Graphs.{same_count, graph_at}
-use Rattle.vpg_players.specs.declared.player.Player.{Player}
+use Rattle.vpg_sides.specs.declared.player.Player.{Player}
 use Rattle.vpg_hope.specs.declared.arena.Row.{Row}
-use Rattle.vpg_kept.specs.declared.selection.Selection.{Selection}
+use Rattle.vpg_hope.specs.declared.selection.Selection.{Selection}
 use Rattle.vpg_hope.specs.Games.{Vertex, isolated}
 use Rattle.vpg_hope.specs.Arena.{InLists, AreRows, row_vertex, row_vertices}
 use Rattle.vpg_hope.specs.Drafts.{IsHeldDraft, IsSelectedDraft}
-use Rattle.vpg_kept.specs.Selection.{kept_under, owner_under, priority_under}
+use Rattle.vpg_hope.specs.Kept.{kept_under, owner_under, priority_under}
 use Rattle.vpg_hope.specs.Selection.{vertex_under, IsHeldUnmarked}
 use Rattle.vpg_hope.proofs.Rows.{own_row, ranges_in_own}
 use Rattle.vpg_hope.proofs.Selected.{AreUpTo, few_more, few_next, kept_closed, vertex_replaced, vertex_left, vertices_selected}

@@ -1,8 +1,8 @@
 -- Moves, reachable vertices and walks.
 use Rattle.std.proofs.Common.{◌≡◌, ℕ, ◌<◌, ◌⊎◌, inl, inr, length, refl}
-use Rattle.vpg_players.specs.declared.player.Player.{Player}
-use Rattle.vpg_players.specs.declared.player.Player.TheVariants.{Even, Odd}
-use Rattle.vpg_players.specs.Players.{opponent}
+use Rattle.vpg_sides.specs.declared.player.Player.{Player}
+use Rattle.vpg_sides.specs.declared.player.Player.TheVariants.{Even, Odd}
+use Rattle.vpg_sides.specs.Players.{opponent}
 use Rattle.vpg_hope.specs.Games.{Game}
 use Rattle.vpg_hope.specs.Strategies.{Strategy, AllowsMove, Reaches}
 use Rattle.vpg_hope.specs.Strategies.{here, onward}

@@ -9,16 +9,16 @@ use Rattle.vpg_guards.specs.Known.{kleene}
 use Rattle.vpg_game.specs.Guarded.{GuardedEdge, GuardedVertex, GuardedGame, dual}
 use Rattle.vpg_game.specs.Game.{NamedVertex, NamedGame, IsGame, AreVertices, edges_in, graph_of, vertex_in, unnamed, no_vertex}
 use Rattle.vpg_game.proofs.Graphs.{games_have_graphs, same_count, graph_at}
-use Rattle.vpg_players.specs.declared.player.Player.{Player}
+use Rattle.vpg_sides.specs.declared.player.Player.{Player}
 use Rattle.vpg_hope.specs.Games.{Vertex, isolated}
 use Rattle.vpg_hope.specs.Arena.{row_vertices, InLists}
-use Rattle.vpg_kept.specs.Selection.{owner_under, priority_under, is_kept, kept_under}
+use Rattle.vpg_hope.specs.Kept.{owner_under, priority_under, is_kept, kept_under}
 use Rattle.vpg_hope.specs.Selection.{vertex_under}
 use Rattle.vpg_hope.specs.declared.arena.Row.{Row}
 use Rattle.vpg_hope.proofs.Rows.{shared_row, own_row, row_added, row_replaced, next_replaced, next_kept, all_replaced}
 use Rattle.vpg_hope.specs.Hope.{hopeful_game, cautious_game, product_game}
-use Rattle.vpg_kept.specs.declared.selection.Selection.{Selection}
-use Rattle.vpg_kept.specs.declared.selection.Selection.TheVariants.{Hopeful, HopefulOfDual, Cautious, CautiousOfDual, Product}
+use Rattle.vpg_hope.specs.declared.selection.Selection.{Selection}
+use Rattle.vpg_hope.specs.declared.selection.Selection.TheVariants.{Hopeful, HopefulOfDual, Cautious, CautiousOfDual, Product}
 
 -- ---- what a game's edges and priorities keep
 

@@ -2,7 +2,7 @@
 use Rattle.std.proofs.Common.{◌≡◌, ℕ, zero, suc, List, [], ◌∷◌, Bool, false, IfOk, Result, Ok, Err, get_or, map, refl, ap}
 use Rattle.vpg_game.specs.Game.{vertex_in}
 use Rattle.vpg_game.specs.Guarded.{GuardedEdge, GuardedGame, dual}
-use Rattle.vpg_players.specs.Players.{opponent}
+use Rattle.vpg_sides.specs.Players.{opponent}
 use Rattle.vpg_guards.specs.Formula.{Formula}
 use Rattle.vpg_guards.specs.Known.{kleene}
 use Rattle.vpg_guards.specs.declared.tri.Tri.{Tri}

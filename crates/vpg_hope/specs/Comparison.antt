@@ -1,7 +1,7 @@
 -- Games that favour Even more, and the dual of a plain game.
 use Rattle.std.specs.Prelude.{◌≡◌, ℕ, suc, length, map}
-use Rattle.vpg_players.specs.declared.player.Player.TheVariants.{Even, Odd}
-use Rattle.vpg_players.specs.Players.{opponent}
+use Rattle.vpg_sides.specs.declared.player.Player.TheVariants.{Even, Odd}
+use Rattle.vpg_sides.specs.Players.{opponent}
 use Rattle.vpg_hope.specs.Games.{Game, HasEdge, owner_of, priority_of}
 
 -- the first game is the second with no fewer edges for Even and no more for Odd

@@ -5,7 +5,7 @@ use Rattle.vpg_game.specs.Guarded.{GuardedGame}
 use Rattle.vpg_hope.specs.Arena.{row_vertices, AreRows}
 use Rattle.vpg_hope.specs.Selection.{vertex_under, IsHeldUnmarked}
 use Rattle.vpg_hope.specs.declared.arena.Row.{Row}
-use Rattle.vpg_kept.specs.declared.selection.Selection.{Selection}
+use Rattle.vpg_hope.specs.declared.selection.Selection.{Selection}
 
 -- its vertices without a mark are as the selection has them, and its own list is short
 pub record IsHeldDraft (selection : Selection) (marks : List Bool) (graph : GuardedGame Formula)

@@ -1,8 +1,8 @@
 -- Plain parity games: a list of vertices, named by their places. Jurdzinski 2000, but that a vertex may have no
 -- successor.
 use Rattle.std.specs.Prelude.{ℕ, ◌<◌, List, [], length, map, slice_index_or, Contains, All}
-use Rattle.vpg_players.specs.declared.player.Player.{Player}
-use Rattle.vpg_players.specs.declared.player.Player.TheVariants.{Even}
+use Rattle.vpg_sides.specs.declared.player.Player.{Player}
+use Rattle.vpg_sides.specs.declared.player.Player.TheVariants.{Even}
 
 -- a vertex of a plain parity game
 pub record Vertex : Type 0 where

@@ -2,11 +2,11 @@
 -- game are this project's own.
 use Rattle.vpg_game.specs.Guarded.{GuardedGame, AllGuards}
 use Rattle.std.specs.Prelude.{◌≡◌, Bool, true, false, map, filter, if◌then◌else◌}
-use Rattle.vpg_players.specs.declared.player.Player.{Player}
+use Rattle.vpg_sides.specs.declared.player.Player.{Player}
 use Rattle.vpg_guards.specs.declared.tri.Tri.{Tri}
 use Rattle.vpg_guards.specs.declared.tri.Tri.TheVariants.{No, Yes}
-use Rattle.vpg_players.specs.Players.{opponent}
-pub use Rattle.vpg_kept.specs.Selection.{keeps_in_hope}
+use Rattle.vpg_sides.specs.Players.{opponent}
+pub use Rattle.vpg_hope.specs.Kept.{keeps_in_hope}
 use Rattle.vpg_hope.specs.Games.{Game}
 
 -- the plain game with the edges of guards that a test keeps; the test may depend on who moves

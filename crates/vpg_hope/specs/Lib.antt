@@ -11,3 +11,4 @@ pub mod PlainParts
 pub mod Selection
 pub mod Strategies
 pub mod Unmarked
+pub mod Kept

@@ -5,8 +5,8 @@ use Rattle.vpg_guards.specs.Known.{kleene}
 use Rattle.vpg_guards.specs.declared.tri.Tri.{Tri}
 use Rattle.vpg_game.specs.Game.{vertex_in}
 use Rattle.vpg_game.specs.Guarded.{GuardedEdge, GuardedVertex, GuardedGame}
-use Rattle.vpg_kept.specs.declared.selection.Selection.{Selection}
-use Rattle.vpg_kept.specs.Selection.{owner_under, priority_under, kept_under}
+use Rattle.vpg_hope.specs.declared.selection.Selection.{Selection}
+use Rattle.vpg_hope.specs.Kept.{owner_under, priority_under, kept_under}
 use Rattle.vpg_hope.specs.Games.{Vertex, Game, isolated}
 
 abbrev pub vertex_under : Selection → GuardedVertex Formula → Vertex

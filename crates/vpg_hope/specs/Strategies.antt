@@ -1,8 +1,8 @@
 -- Positional strategies, the plays that they allow, and winning. The standard of parity games; that a player who cannot
 -- move loses is this project's own.
 use Rattle.std.specs.Prelude.{◌≡◌, ◌≢◌, ℕ, suc, ◌≤◌, max, Option, Some, List, [], ◌∷◌, map, All, AllPairs, Contains}
-use Rattle.vpg_players.specs.declared.player.Player.{Player}
-use Rattle.vpg_players.specs.Players.{WinsAt}
+use Rattle.vpg_sides.specs.declared.player.Player.{Player}
+use Rattle.vpg_sides.specs.Players.{WinsAt}
 use Rattle.vpg_hope.specs.Games.{Game, HasEdge, owner_of, priority_of}
 
 -- at most one successor for each vertex; only the choices at the player's own vertices count

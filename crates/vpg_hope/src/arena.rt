@@ -7,15 +7,15 @@ ghost use Rattle.vpg_game.specs.Guarded.{dual};
 ghost use Rattle.vpg_hope.specs.Arena.{vertex_at, row_vertices, AreRows};
 ghost use Rattle.vpg_hope.specs.Drafts.{IsHeldDraft, IsSelectedDraft};
 ghost use Rattle.vpg_hope.specs.Hope.{hopeful_game, cautious_game};
-ghost use Rattle.vpg_kept.specs.Selection.{features_under, owner_under, priority_under, kept_under};
+ghost use Rattle.vpg_hope.specs.Kept.{features_under, owner_under, priority_under, kept_under};
 ghost use Rattle.vpg_hope.specs.Selection.{vertex_under, IsHeldUnmarked};
 
+use crate::Selection;
 use crate::changes::concerned;
 use std::alloc::{AllocError, Global};
 use std::marker::Model;
 use std::sync::ArcSlice;
 use vpg_game::{GuardedGame, Player};
-use vpg_kept::Selection;
 use vpg_partial::Partial;
 
 /// A vertex: its successors are those from `start` up to `end` in the arena's own list, or in the one that it shares.

@@ -13,8 +13,8 @@
 //! Definitions: `specs/Games` (plain games); `specs/Strategies` (positional strategies and winning, after Jurdzinski
 //! 2000); `specs/Hope` (the game of a product after FASE 2020, the hopeful and the cautious game); `specs/Comparison`
 //! (games that favour Even more, the dual); `specs/Plain` (identifiers and the text, in PGSolver's format). [`laws`]
-//! states the theorems about them. `specs/Arena`, `specs/Drafts`, `specs/Selection` and `specs/PlainParts` serve
-//! private contracts alone.
+//! states the theorems about them. `specs/Kept` says which edges a game keeps ([`Selection`]). `specs/Arena`,
+//! `specs/Drafts`, `specs/Selection` and `specs/PlainParts` serve private contracts alone.
 #![tactic(auto)]
 
 pub mod arena;
@@ -22,9 +22,11 @@ mod changes;
 pub mod laws;
 mod plain;
 mod projection;
+mod selection;
 mod unmarked;
 
 pub use arena::Arena;
 pub use plain::PlainGame;
 pub use projection::{ProjectFault, project};
+pub use selection::Selection;
 pub use unmarked::concerned_vertices;

@@ -12,7 +12,7 @@ use Rattle.vpg_features.proofs.Held.{both_true}
 use Rattle.vpg_game.specs.Grammar.{Number, Bracket, Successor, Successors, one, comma, Name, Entry, Heading, File, number_text, bracket_text, successor_text, successors_text, all_successors_text, name_text, entry_text, heading_text, entries_text, file_text, IsNumber, IsBracket, IsSuccessor, AreSuccessors, AreAllSuccessors, AreOther, IsName, IsEntry, AreEntries, IsHeading, IsFile, entry_of, entries_of, SpellsEntries}
 use Rattle.vpg_game.specs.Spelled.{SpelledEntry}
 use Rattle.vpg_game.specs.Game.{NamedVertex, NamedGame, SpellsGame, entry_ids, vertex_of}
-use Rattle.vpg_names.specs.Spelled.{Told, name_bytes, start_of, told_by}
+use Rattle.vpg_game.specs.SpelledNames.{Told, name_bytes, start_of, told_by}
 use Rattle.vpg_labels.specs.declared.labels.Mode.{Mode}
 use Rattle.vpg_labels.specs.declared.labels.Mode.TheVariants.{Front, Header, Start, Between, Guard, Quoted}
 use Rattle.vpg_labels.specs.Labels.{is_plain, label_of, labels_from, name_blanks, labelled_entry, labelled_entries, heading_blanks, start_behind, first_blanks, first_behind, blanks_between, labelled_file, start_told, SpellsNamed}

@@ -3,7 +3,7 @@
 use Rattle.std.specs.Prelude.{◌≡◌, ℕ, zero, suc, List, [], ◌∷◌, ◌++◌, Bool, true, false, not, ◌&&◌, ◌==◌, Option, Some, None, filter, slice_index_or}
 use Rattle.vpg_game.specs.Game.{NamedGame, SpellsGame}
 use Rattle.vpg_game.specs.Grammar.{Number, Name, Entry, Heading, File, IsFile, file_text}
-use Rattle.vpg_names.specs.Spelled.{Told, told_by}
+use Rattle.vpg_game.specs.SpelledNames.{Told, told_by}
 
 -- ---- names
 

@@ -10,7 +10,7 @@ use Rattle.vpg_measure.specs.Numbers.{number_of, measure_of}
 use Rattle.vpg_measure.specs.Lifts.{IsTableOf, IsProgressTable, lift_of}
 use Rattle.vpg_measure.proofs.Numbers.{numbers_are_measures, order_is_numeric}
 use Rattle.vpg_measure.proofs.Rounds.{lift_stays_below}
-use Rattle.vpg_players.specs.declared.player.Player.{Player}
+use Rattle.vpg_sides.specs.declared.player.Player.{Player}
 use Rattle.vpg_hope.specs.Games.{priorities}
 use Rattle.vpg_hope.specs.Strategies.{Strategy, Wins}
 use Rattle.vpg_measure.specs.Measures.{IsMeasure, AtMost, Top}

@@ -1,7 +1,7 @@
 -- The definitions at a small game: Even's vertex 0 of priority 1 with edges to 1, under a guard f, and to itself; Odd's vertex 1
 -- of priority 2 with edges to 0, under a guard g, and to itself. A guard is what is known of it.
 use Rattle.std.proofs.Common.{◌≡◌, ℕ, zero, suc, ◌<◌, ◌⊎◌, inl, inr, [], ◌∷◌, refl, subst, Contains, arith}
-use Rattle.vpg_players.specs.declared.player.Player.TheVariants.{Even, Odd}
+use Rattle.vpg_sides.specs.declared.player.Player.TheVariants.{Even, Odd}
 use Rattle.vpg_guards.specs.declared.tri.Tri.{Tri}
 use Rattle.vpg_guards.specs.declared.tri.Tri.TheVariants.{No, Unknown, Yes}
 use Rattle.vpg_hope.specs.Games.{Game, IsClosed}

@@ -1,7 +1,7 @@
 -- Each game has a least progress table.
 use Rattle.std.proofs.Common.{◌≡◌, ◌≢◌, ℕ, zero, suc, ◌+◌, ◌*◌, ◌<◌, ◌≤◌, ◌⊎◌, inl, inr, List, [], ◌∷◌, length, refl, sym, subst, mul-le-mul_right, arith}
 use Rattle.std.proofs.lemmas.Bool.{cases_eq}
-use Rattle.vpg_players.specs.declared.player.Player.TheVariants.{Even}
+use Rattle.vpg_sides.specs.declared.player.Player.TheVariants.{Even}
 use Rattle.vpg_hope.specs.Games.{Game, priorities}
 use Rattle.vpg_hope.specs.Strategies.{Strategy, Wins}
 use Rattle.vpg_measure.specs.Measures.{Shape, IsShape, Measure, IsMeasure, LexBelow, LexAtMost, AtMost, Top, Components}

@@ -4,7 +4,7 @@ use Rattle.std.proofs.lemmas.Bool.{cases_Bool, cases_eq, and_parts, and_cases, e
 use Rattle.std.proofs.lemmas.List.Sums.{get_or-le-sum_by, sum_by-cons}
 use Rattle.std.proofs.lemmas.List.Elements.{Contains-get_or, All-cons, All-nil}
 use Rattle.vpg_game.specs.Levels.{is_odd, count_of, levels_below, bound_of, levels_of}
-use Rattle.vpg_players.specs.Players.{IsOdd}
+use Rattle.vpg_sides.specs.Players.{IsOdd}
 use Rattle.vpg_game.specs.declared.levels.Level.{Level}
 use Rattle.vpg_measure.specs.Measures.{Shape, IsShape}
 use Rattle.vpg_hope.proofs.Edges.{Contains-first, Contains-later, Contains-cases, not_in_nil}

@@ -1,7 +1,7 @@
 -- Lifts: they exist, they are the least or the greatest prog, and they keep tables below every progress table.
 use Rattle.std.proofs.Common.{◌≡◌, ℕ, ◌<◌, ◌⊎◌, ◌↔◌, inl, inr, List, [], ◌∷◌, length, refl, sym, subst, Contains}
-use Rattle.vpg_players.specs.declared.player.Player.{Player}
-use Rattle.vpg_players.specs.declared.player.Player.TheVariants.{Even, Odd}
+use Rattle.vpg_sides.specs.declared.player.Player.{Player}
+use Rattle.vpg_sides.specs.declared.player.Player.TheVariants.{Even, Odd}
 use Rattle.vpg_hope.specs.Games.{Game, HasEdge, owner_of, priority_of, successors_of}
 use Rattle.vpg_measure.specs.Measures.{Shape, Measure, IsMeasure, AtMost, Fits, zero_measure, Top, Components}
 use Rattle.vpg_measure.specs.Tables.{Table, IsTable, zero_table, IsProg, IsLift, IsProgressMeasure, IsBelow, IsBelowAllAt, IsBelowAllProgress, IsLeastProgress, FitsFor, FitsAt, IsLeastOfProgs, IsGreatestOfProgs}

@@ -5,7 +5,7 @@ use Rattle.vpg_game.specs.declared.levels.Level.{Level}
 use Rattle.vpg_game.specs.Levels.{top_of, levels_of}
 use Rattle.vpg_hope.specs.Arena.{Vertex as Node, IsClosed as IsClosedArena}
 use Rattle.vpg_measure.specs.Lifts.{AreChoices, IsTableOf, IsProgressTable}
-use Rattle.vpg_players.specs.declared.player.Player.{Player}
+use Rattle.vpg_sides.specs.declared.player.Player.{Player}
 use Rattle.vpg_guards.specs.declared.tri.Tri.{Tri}
 use Rattle.vpg_guards.specs.declared.tri.Tri.TheVariants.{No, Yes}
 use Rattle.vpg_hope.specs.Games.{priorities}

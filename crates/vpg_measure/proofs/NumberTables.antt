@@ -3,7 +3,7 @@ use Rattle.std.proofs.Common.{ext_get_or, subst, ◌≡◌, ◌≢◌, ℕ, ◌<
 use Rattle.std.proofs.lemmas.Bool.{cases_lt}
 use Rattle.std.proofs.lemmas.List.{get_or_past}
 use Rattle.std.proofs.lemmas.List.Elements.{All-contains, Contains-get_or}
-use Rattle.vpg_players.specs.declared.player.Player.{Player}
+use Rattle.vpg_sides.specs.declared.player.Player.{Player}
 use Rattle.vpg_game.specs.declared.levels.Level.{Level}
 use Rattle.vpg_game.specs.Levels.{top_of}
 use Rattle.vpg_hope.specs.Arena.{Vertex as Node, vertex_at}

@@ -4,7 +4,7 @@ use Rattle.std.specs.List.{range_with_len}
 use Rattle.std.proofs.lemmas.Bool.{cases_lt}
 use Rattle.std.proofs.lemmas.List.Elements.{All-from_get_or}
 use Rattle.std.proofs.lemmas.List.FromFn.{length-map-range_with_len, get_or-map-range_with_len}
-use Rattle.vpg_players.specs.declared.player.Player.{Player}
+use Rattle.vpg_sides.specs.declared.player.Player.{Player}
 use Rattle.vpg_game.specs.declared.levels.Level.{Level}
 use Rattle.vpg_game.specs.Levels.{top_of, levels_of}
 use Rattle.vpg_hope.specs.Arena.{Vertex as Node, vertex_at, IsClosed as IsClosedArena}

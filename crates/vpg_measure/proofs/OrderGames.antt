@@ -6,7 +6,7 @@ use Rattle.vpg_game.specs.declared.levels.Level.{Level}
 use Rattle.vpg_hope.specs.Games.{Game}
 use Rattle.vpg_partial.specs.Known.{literal_of}
 use Rattle.vpg_measure.specs.declared.order.Order.TheInside.{Inside}
-use Rattle.vpg_verdict.specs.declared.which.Which.{Which}
+use Rattle.vpg_sides.specs.declared.which.Which.{Which}
 use Rattle.vpg_measure.specs.Games.{GamesView, games_levels, games_arena}
 use Rattle.vpg_measure.specs.OrderFields.{order_of, AreFields}
 use Rattle.vpg_measure.specs.Lifts.{IsTableOf}

@@ -1,9 +1,9 @@
 -- A winning strategy wins every infinite play that it allows.
 use Rattle.std.proofs.Common.{◌≡◌, ℕ, zero, suc, ◌+◌, ◌-◌, ◌≤◌, ◌%◌, ◌==◌, ◌⊎◌, inl, inr, get_or, max, ◌∙◌, subst, eq-eqb, count_by, add-zero, arith}
 use Rattle.std.proofs.lemmas.List.{get_or-map, length-map}
-use Rattle.vpg_players.specs.declared.player.Player.{Player}
-use Rattle.vpg_players.specs.declared.player.Player.TheVariants.{Even, Odd}
-use Rattle.vpg_players.specs.Players.{WinsAt}
+use Rattle.vpg_sides.specs.declared.player.Player.{Player}
+use Rattle.vpg_sides.specs.declared.player.Player.TheVariants.{Even, Odd}
+use Rattle.vpg_sides.specs.Players.{WinsAt}
 use Rattle.vpg_hope.specs.Games.{Game, Vertex, isolated, priority_of, priorities}
 use Rattle.vpg_hope.specs.Strategies.{Strategy, AllowsMove, Reaches, Walk, Wins, IsPlay, IsGreatestRecurring, here, move, moves}
 use Rattle.vpg_hope.proofs.Edges.{edge_inside}

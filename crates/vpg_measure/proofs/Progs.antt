@@ -6,8 +6,8 @@ use Rattle.std.proofs.lemmas.List.{get_or_past, nil_from_length}
 use Rattle.std.proofs.lemmas.List.Elements.{All-head, All-tail, All-cons, All-nil}
 use Rattle.std.proofs.Math.Nat.{le-div_iff_mul-le, div-mul-le_self, mul-le-mul_right, min-eq_left, min-eq_right, max-eq_left, max-eq_right}
 use Rattle.vpg_game.specs.declared.levels.Level.{Level}
-use Rattle.vpg_players.specs.declared.player.Player.{Player}
-use Rattle.vpg_players.specs.declared.player.Player.TheVariants.{Even, Odd}
+use Rattle.vpg_sides.specs.declared.player.Player.{Player}
+use Rattle.vpg_sides.specs.declared.player.Player.TheVariants.{Even, Odd}
 use Rattle.vpg_game.specs.Levels.{is_odd, top_of, weight_of, prog_of}
 use Rattle.vpg_hope.specs.Arena.{Vertex}
 use Rattle.vpg_measure.specs.Lifts.{IsBelowTable, NumberFitsEdge, FitsEdges, least_of, greatest_of, best_for, lift_of}

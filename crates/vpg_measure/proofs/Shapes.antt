@@ -2,7 +2,7 @@
 use Rattle.std.proofs.Common.{◌≡◌, ℕ, zero, suc, ◌<◌, ◌%◌, ◌⊎◌, inl, inr, List, [], ◌∷◌, get_or, map, max, refl, sym, ap, ◌∙◌, subst, Contains, All, AllPairs, count_by, ◌==◌, arith}
 use Rattle.std.proofs.lemmas.Bool.{cases_eq}
 use Rattle.std.proofs.lemmas.List.Elements.{All-head, All-tail, All-cons, All-nil, All-contains, All-map, Contains-get_or}
-use Rattle.vpg_players.specs.Players.{IsOdd}
+use Rattle.vpg_sides.specs.Players.{IsOdd}
 use Rattle.vpg_game.specs.declared.levels.Level.{Level}
 use Rattle.vpg_measure.specs.Measures.{Shape, IsShape}
 use Rattle.vpg_measure.proofs.Signature.{IsFalling, falling_by_recursion, below_all}

@@ -7,8 +7,8 @@ use Rattle.vpg_diagram.specs.declared.clause.Literal.{Literal}
 use Rattle.vpg_game.specs.Game.{NamedGame, IsGame, IsAtLimit, graph_of}
 use Rattle.vpg_partial.specs.TableLaws.{IsKnownTable}
 use Rattle.vpg_measure.specs.declared.games.SideGame.{SideGame}
-use Rattle.vpg_verdict.specs.declared.which.Which.{Which}
-use Rattle.vpg_verdict.specs.declared.which.Which.TheVariants.{Hopeful, Dual}
+use Rattle.vpg_sides.specs.declared.which.Which.{Which}
+use Rattle.vpg_sides.specs.declared.which.Which.TheVariants.{Hopeful, Dual}
 use Rattle.vpg_measure.specs.Games.{GamesView, ArePageGames, games_levels, games_arena}
 use Rattle.vpg_measure.specs.GamesFields.{IsSideGame}
 use Rattle.vpg_measure.specs.TwoGames.{levels_for, arena_for}

@@ -13,8 +13,8 @@ use Rattle.vpg_measure.specs.Games.{GamesView, games_levels, games_arena}
 use Rattle.vpg_measure.specs.Lifts.{IsTableOf, IsProgressTable, lift_of}
 use Rattle.vpg_measure.specs.Still.{AreGamesOver, AreBothProgress, IsProgressUnmarked}
 use Rattle.vpg_measure.specs.TwoGames.{IsProgressOf, levels_for, arena_for}
-use Rattle.vpg_verdict.specs.declared.which.Which.{Which}
-use Rattle.vpg_verdict.specs.declared.which.Which.TheVariants.{Hopeful, Dual}
+use Rattle.vpg_sides.specs.declared.which.Which.{Which}
+use Rattle.vpg_sides.specs.declared.which.Which.TheVariants.{Hopeful, Dual}
 use Rattle.vpg_measure.proofs.Rounds.{progress_at}
 use Rattle.vpg_measure.proofs.TwoGames.{arena_length}
 

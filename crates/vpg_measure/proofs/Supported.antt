@@ -8,9 +8,9 @@ use Rattle.std.proofs.lemmas.List.{length-map, get_or-map}
 use Rattle.std.proofs.lemmas.List.Elements.{All-map, All-from_get_or, All-contains, All-cons, All-nil}
 use Rattle.std.proofs.lemmas.List.FromFn.{length-map-range_with_len, get_or-map-range_with_len}
 use Rattle.vpg_game.specs.declared.levels.Level.{Level}
-use Rattle.vpg_players.specs.declared.player.Player.{Player}
+use Rattle.vpg_sides.specs.declared.player.Player.{Player}
 use Rattle.vpg_game.specs.Levels.{top_of, prog_of}
-use Rattle.vpg_players.specs.Players.{opponent}
+use Rattle.vpg_sides.specs.Players.{opponent}
 use Rattle.vpg_hope.specs.Arena.{Vertex as Node, vertex_at, IsClosed}
 use Rattle.vpg_hope.specs.Comparison.{dual_game}
 use Rattle.vpg_hope.specs.Games.{isolated}

@@ -1,8 +1,8 @@
 -- A progress table gives a winning strategy of Even.
 use Rattle.std.proofs.Common.{◌≡◌, ◌≢◌, ℕ, ◌<◌, ◌≤◌, ◌%◌, ◌⊎◌, inl, inr, List, length, refl, subst, Some, arith}
 use Rattle.std.proofs.lemmas.Bool.{cases_eq}
-use Rattle.vpg_players.specs.declared.player.Player.TheVariants.{Even, Odd}
-use Rattle.vpg_players.specs.Players.{IsOdd, WinsAt}
+use Rattle.vpg_sides.specs.declared.player.Player.TheVariants.{Even, Odd}
+use Rattle.vpg_sides.specs.Players.{IsOdd, WinsAt}
 use Rattle.vpg_hope.specs.Games.{Game, HasEdge, owner_of, priority_of}
 use Rattle.vpg_hope.specs.Strategies.{Strategy, AllowsMove, Reaches, Walk, Wins}
 use Rattle.vpg_hope.specs.Strategies.{here, onward}

@@ -7,7 +7,7 @@ use Rattle.vpg_hope.specs.Comparison.{dual_game}
 use Rattle.vpg_measure.specs.Bounds.{AreSupported}
 use Rattle.vpg_measure.specs.Lifts.{IsTableOf, IsProgressTable, IsBelowTable}
 use Rattle.vpg_measure.specs.Orders.{OrderView, IsOrder, IsRaised, order_table, order_levels, order_arena}
-use Rattle.vpg_verdict.specs.declared.which.Which.{Which}
+use Rattle.vpg_sides.specs.declared.which.Which.{Which}
 
 -- where a progress table of the dual game is below the top, every progress table of the game is at the top; the two
 -- games may have any levels

@@ -5,7 +5,7 @@ use Rattle.vpg_guards.specs.Known.{kleene}
 use Rattle.vpg_game.specs.Game.{NamedGame, graph_of}
 use Rattle.vpg_measure.specs.declared.games.SideGame.{SideGame}
 use Rattle.vpg_measure.specs.declared.games.PageGames.TheInside.{Inside}
-use Rattle.vpg_verdict.specs.declared.which.Which.{Which}
+use Rattle.vpg_sides.specs.declared.which.Which.{Which}
 use Rattle.vpg_measure.specs.Games.{GamesView}
 use Rattle.vpg_measure.specs.TwoGames.{levels_for, arena_for}
 

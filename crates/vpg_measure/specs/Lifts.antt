@@ -3,8 +3,8 @@
 use Rattle.std.specs.Prelude.{ℕ, zero, suc, ◌≡◌, ◌≢◌, ◌<◌, ◌≤◌, ◌==◌, nat_lt, ◌&&◌, Bool, true, false, if◌then◌else◌, min, max, List, [], ◌∷◌, length, map, ◌⊎◌, Option, None, Some, slice_get, slice_index, slice_set, All, Any}
 use Rattle.std.specs.List.{find}
 use Rattle.vpg_game.specs.declared.levels.Level.{Level}
-use Rattle.vpg_players.specs.declared.player.Player.{Player}
-use Rattle.vpg_players.specs.declared.player.Player.TheVariants.{Even, Odd}
+use Rattle.vpg_sides.specs.declared.player.Player.{Player}
+use Rattle.vpg_sides.specs.declared.player.Player.TheVariants.{Even, Odd}
 use Rattle.vpg_measure.specs.declared.lifts.Outcome.{Outcome}
 use Rattle.vpg_measure.specs.declared.lifts.Outcome.TheVariants.{Settled, RanOut}
 use Rattle.vpg_game.specs.Levels.{top_of, prog_of}

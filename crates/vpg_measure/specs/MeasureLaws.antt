@@ -1,9 +1,9 @@
 -- The laws, as statements.
 use Rattle.std.specs.Prelude.{◌≡◌, ◌≢◌, ℕ, ◌<◌, ◌⊎◌, ◌↔◌, Bool, List, length}
-use Rattle.vpg_players.specs.declared.player.Player.{Player}
-use Rattle.vpg_players.specs.declared.player.Player.TheVariants.{Even, Odd}
+use Rattle.vpg_sides.specs.declared.player.Player.{Player}
+use Rattle.vpg_sides.specs.declared.player.Player.TheVariants.{Even, Odd}
 use Rattle.vpg_guards.specs.declared.tri.Tri.{Tri}
-use Rattle.vpg_players.specs.Players.{WinsAt}
+use Rattle.vpg_sides.specs.Players.{WinsAt}
 use Rattle.vpg_hope.specs.Games.{Game, IsClosed, owner_of, priorities}
 use Rattle.vpg_hope.specs.Strategies.{Strategy, Reaches, Walk, Wins, IsPlay, IsGreatestRecurring, IsSimpleCycle}
 use Rattle.vpg_measure.specs.Measures.{Shape, IsShape, Measure, IsMeasure, AtMost, Top}

@@ -1,7 +1,7 @@
 -- Progress measures as tuples, greatest priority first. Jurdzinski 2000, mirrored for max-parity.
 use Rattle.std.specs.Prelude.{⊤, ◌≡◌, ℕ, ◌<◌, ◌≤◌, ◌⊎◌, if◌then◌else◌, List, [], ◌∷◌, map, All, AllPairs, Contains, count_by, nat_le, ◌==◌}
 use Rattle.std.specs.List.{AllZip}
-use Rattle.vpg_players.specs.Players.{IsOdd}
+use Rattle.vpg_sides.specs.Players.{IsOdd}
 use Rattle.vpg_game.specs.declared.levels.Level.{Level}
 
 -- the shape that a measure counts by: a place for each odd priority that occurs, with its count

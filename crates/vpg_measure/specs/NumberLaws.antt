@@ -7,7 +7,7 @@ use Rattle.vpg_measure.specs.Numbers.{value_of, number_of, measure_of}
 use Rattle.vpg_measure.specs.Tables.{IsProg}
 use Rattle.vpg_hope.specs.Arena.{Vertex, vertex_at}
 use Rattle.vpg_measure.specs.Lifts.{IsTableOf, IsProgressTable, IsBelowTable, NumberFitsAt, NumberFitsEdge, lift_of, round_of, after_rounds, choice_of}
-use Rattle.vpg_players.specs.declared.player.Player.TheVariants.{Even}
+use Rattle.vpg_sides.specs.declared.player.Player.TheVariants.{Even}
 
 -- a measure has a number up to the top, and is the measure of that number
 abbrev pub MeasuresHaveNumbers : Type 0

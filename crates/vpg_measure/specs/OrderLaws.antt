@@ -3,7 +3,7 @@ use Rattle.std.specs.Prelude.{◌≡◌, ℕ, List, length, replicate}
 use Rattle.vpg_diagram.specs.DiagramText.{NamedDiagram}
 use Rattle.vpg_game.specs.Game.{NamedGame}
 use Rattle.vpg_partial.specs.declared.decision.Decision.{Decision}
-use Rattle.vpg_verdict.specs.declared.which.Which.{Which}
+use Rattle.vpg_sides.specs.declared.which.Which.{Which}
 use Rattle.vpg_measure.specs.Orders.{IsOpeningTable}
 
 -- a table of zeros, one for each vertex, may stand in an order

@@ -11,7 +11,7 @@ use Rattle.vpg_hope.specs.Arena.{vertex_at}
 use Rattle.vpg_measure.specs.Games.{GamesView, AreGamesOf}
 use Rattle.vpg_measure.specs.Lifts.{lift_of}
 use Rattle.vpg_measure.specs.TwoGames.{IsProgressOf}
-use Rattle.vpg_verdict.specs.declared.which.Which.TheVariants.{Hopeful, Dual}
+use Rattle.vpg_sides.specs.declared.which.Which.TheVariants.{Hopeful, Dual}
 
 -- the games that some choices of features make of the game, over the features of a diagram
 pub record AreGamesOver (game : NamedGame) (games : GamesView) : Type 0 where

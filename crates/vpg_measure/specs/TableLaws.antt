@@ -5,7 +5,7 @@ use Rattle.vpg_game.specs.Levels.{levels_of, top_of}
 use Rattle.vpg_hope.specs.Arena.{Vertex as Node, IsClosed, vertex_at}
 use Rattle.vpg_measure.specs.Lifts.{IsTableOf, IsProgressTable, AreChoices, lift_of}
 use Rattle.vpg_measure.specs.Least.{IsBelowProgressTables, IsValueBelow, IsLeastTable}
-use Rattle.vpg_players.specs.declared.player.Player.{Player}
+use Rattle.vpg_sides.specs.declared.player.Player.{Player}
 use Rattle.vpg_hope.specs.Games.{priorities}
 use Rattle.vpg_hope.specs.Strategies.{Strategy, Wins}
 use Rattle.vpg_measure.specs.Measures.{IsShape}

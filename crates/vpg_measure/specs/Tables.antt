@@ -1,7 +1,7 @@
 -- Tables of measures: measures that fit at a vertex, lifts, progress tables and the least one. Jurdzinski 2000.
 use Rattle.std.specs.Prelude.{◌≡◌, ◌≢◌, ℕ, ◌<◌, ◌⊎◌, length, Some}
-use Rattle.vpg_players.specs.declared.player.Player.{Player}
-use Rattle.vpg_players.specs.declared.player.Player.TheVariants.{Even, Odd}
+use Rattle.vpg_sides.specs.declared.player.Player.{Player}
+use Rattle.vpg_sides.specs.declared.player.Player.TheVariants.{Even, Odd}
 use Rattle.vpg_hope.specs.Games.{Game, HasEdge, owner_of, priority_of}
 use Rattle.vpg_hope.specs.Strategies.{Strategy}
 use Rattle.vpg_measure.specs.Measures.{Shape, Measure, IsMeasure, AtMost, Fits, zero_measure, Top}

@@ -6,8 +6,8 @@ use Rattle.vpg_game.specs.Levels.{levels_of, top_of}
 use Rattle.vpg_game.specs.Guarded.{GuardedGame, guarded_priorities, dual}
 use Rattle.vpg_hope.specs.Games.{Game}
 use Rattle.vpg_hope.specs.Hope.{hopeful_game}
-use Rattle.vpg_verdict.specs.declared.which.Which.{Which}
-use Rattle.vpg_verdict.specs.declared.which.Which.TheVariants.{Hopeful, Dual}
+use Rattle.vpg_sides.specs.declared.which.Which.{Which}
+use Rattle.vpg_sides.specs.declared.which.Which.TheVariants.{Hopeful, Dual}
 use Rattle.vpg_measure.specs.Lifts.{IsTableOf, IsProgressTable}
 use Rattle.vpg_measure.specs.Least.{IsBelowProgressTables}
 

@@ -20,7 +20,7 @@ use vpg_diagram::Diagram;
 use vpg_game::GuardedGame;
 use vpg_hope::Arena;
 use vpg_partial::{Decision, Partial, PartialFault};
-use vpg_verdict::Which;
+use vpg_sides::Which;
 
 /// The shape and the kept edges of one of the two games.
 struct SideGame {

@@ -8,7 +8,7 @@ use crate::lifts::is_progress;
 use crate::order::Order;
 use crate::table::Table;
 use std::marker::Model;
-use vpg_verdict::Which;
+use vpg_sides::Which;
 
 /// An order, and two tables on or above its own, below every progress table of its two games.
 ///

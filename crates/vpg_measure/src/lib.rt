@@ -42,4 +42,4 @@ pub use lifts::{Outcome, StrategyFault, is_progress, lift, settle_alone, strateg
 pub use order::{Order, Refused};
 pub use shape::{Shape, prog};
 pub use table::Table;
-pub use vpg_verdict::{Verdict, Which};
+pub use vpg_sides::{Verdict, Which};

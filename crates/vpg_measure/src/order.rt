@@ -27,7 +27,7 @@ use vpg_diagram::Diagram;
 use vpg_game::GuardedGame;
 use vpg_hope::Arena;
 use vpg_partial::Decision;
-use vpg_verdict::Which;
+use vpg_sides::Which;
 
 /// The game, the diagram, the decisions and both tables of a page, with all that lifters need: the page's games, and
 /// room for two raised tables. It may hold a note that its tables are progress tables; then `check` looks at no edge.

@@ -10,7 +10,7 @@ ghost use Rattle.vpg_measure.specs.TwoGames.{levels_for};
 use std::alloc::{AllocError, Global};
 use std::marker::Model;
 use vpg_game::{GuardedGame, Level, TOP_LIMIT, odd_counts};
-use vpg_verdict::Which;
+use vpg_sides::Which;
 
 /// The levels of a game, greatest priority first.
 pub struct Shape {

@@ -13,7 +13,7 @@ use crate::table::Table;
 use std::alloc::{AllocError, Global};
 use vpg_game::GuardedGame;
 use vpg_hope::concerned_vertices;
-use vpg_verdict::Which;
+use vpg_sides::Which;
 
 impl PageGames {
     /// Whether both tables are progress tables of these games, if they are progress tables of the games before, of the

@@ -1,7 +1,7 @@
 -- The game that is built is a model of the formulas of its roots, and decides them.
 use Rattle.std.proofs.Common.{◌≡◌, refl, ℕ, zero, suc, ◌<◌, Bool, List, [], ◌∷◌, length, get_or, map, ◌∙◌, ap, ap₂, arith}
 use Rattle.std.specs.List.{AllZip}
-use Rattle.vpg_players.specs.declared.player.Player.TheVariants.{Even}
+use Rattle.vpg_sides.specs.declared.player.Player.TheVariants.{Even}
 use Rattle.vpg_requirement.specs.NormalForms.{NormalForm}
 use Rattle.vpg_requirement.specs.Situations.{Binder, Situation, situation, situation_at}
 use Rattle.vpg_guards.specs.Formula.{Formula as Guard}

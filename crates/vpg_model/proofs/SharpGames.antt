@@ -8,8 +8,8 @@ use Rattle.vpg_guards.specs.Formula.{Formula as Guard, truth}
 use Rattle.vpg_guards.specs.Writing.{IsReadable}
 use Rattle.vpg_blake.specs.Blake.{IsShort}
 use Rattle.vpg_blake.specs.Sharp.{IsSharp}
-use Rattle.vpg_edges.specs.Edges.{GuardedEdge, join_edge, no_edge}
-use Rattle.vpg_edges.proofs.Joining.{join_new}
+use Rattle.vpg_game.specs.Edges.{GuardedEdge, join_edge, no_edge}
+use Rattle.vpg_game.proofs.Joining.{join_new}
 use Rattle.vpg_game.specs.Guarded.{AllGuards}
 use Rattle.vpg_game.specs.Spelled.{SpelledSuccessor, SpelledEntry, named_in}
 use Rattle.vpg_game.specs.Building.{AreReadable, AreLimited, IsLimited}

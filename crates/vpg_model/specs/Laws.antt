@@ -2,7 +2,7 @@
 -- own.
 use Rattle.std.specs.Prelude.{◌≡◌, ℕ, ◌<◌, List, [], map, length, Bool, false, slice_index}
 use Rattle.std.specs.List.{AllZip}
-use Rattle.vpg_players.specs.declared.player.Player.TheVariants.{Even}
+use Rattle.vpg_sides.specs.declared.player.Player.TheVariants.{Even}
 use Rattle.vpg_guards.specs.Formula.{Formula as Guard, truth}
 use Rattle.vpg_diagram.specs.FeatureDiagram.{Line, IsProduct}
 use Rattle.vpg_game.specs.Guarded.{GuardedGame}

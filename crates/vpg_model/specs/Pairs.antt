@@ -2,8 +2,8 @@
 -- reached, and when it is refused. This project's own.
 use Rattle.std.specs.Prelude.{◌≡◌, ℕ, ◌<◌, ◌⊎◌, List, [], ◌∷◌, length, map, filter, sum_by, Bool, false, All, Contains, slice_index_or}
 use Rattle.std.specs.List.{AllZip}
-use Rattle.vpg_players.specs.declared.player.Player.{Player}
-use Rattle.vpg_players.specs.declared.player.Player.TheVariants.{Even, Odd}
+use Rattle.vpg_sides.specs.declared.player.Player.{Player}
+use Rattle.vpg_sides.specs.declared.player.Player.TheVariants.{Even, Odd}
 use Rattle.vpg_guards.specs.Formula.{Formula as Guard, always}
 use Rattle.vpg_guards.specs.Writing.{IsReadable}
 use Rattle.vpg_game.specs.Game.{IsNarrow}

@@ -5,7 +5,7 @@ use Rattle.std.specs.List.{AllZip}
 use Rattle.vpg_guards.specs.Formula.{Formula as Guard, truth}
 use Rattle.vpg_blake.specs.Blake.{IsShort}
 use Rattle.vpg_blake.specs.Sharp.{IsSharp}
-use Rattle.vpg_edges.specs.Edges.{GuardedEdge}
+use Rattle.vpg_game.specs.Edges.{GuardedEdge}
 use Rattle.vpg_game.specs.Guarded.{GuardedGame, AllGuards}
 use Rattle.vpg_game.specs.Spelled.{SpelledSuccessor, SpelledEntry}
 use Rattle.vpg_game.specs.Game.{NamedVertex}

@@ -7,8 +7,7 @@ ghost use Rattle.vpg_model.specs.Sharpening.{IsSameGame, AreSharp, IsSharpSucces
 
 use std::alloc::{AllocError, Global};
 use vpg_blake::sharp_form;
-use vpg_edges::Edge;
-use vpg_game::{Entry, GuardedGame, Successor};
+use vpg_game::{Edge, Entry, GuardedGame, Successor};
 
 /// Returns an edge as a successor, with a sharp guard.
 fn sharp_successor(alloc: Global, edge: &Edge, features: usize) -> Result<Successor, AllocError>

@@ -7,7 +7,7 @@ ghost use Rattle.vpg_model.specs.Pairs.{pair_for, owner_of_part, priority_of_par
 use std::marker::Model;
 use vpg_guards::Guard;
 use vpg_parts::{FALSE_PLACE, Part, Permitted, TRUE_PLACE};
-use vpg_players::Player;
+use vpg_sides::Player;
 
 /// A transition from a known state.
 #[derive(Drop)]

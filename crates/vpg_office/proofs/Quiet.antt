@@ -8,7 +8,7 @@ use Rattle.std.proofs.lemmas.List.{drop-map}
 use Rattle.std.proofs.lemmas.List.Folds.{list_any_more}
 use Rattle.vpg_diagram.specs.DiagramText.{NamedDiagram}
 use Rattle.vpg_game.specs.Game.{NamedGame}
-use Rattle.vpg_verdict.specs.declared.verdict.Verdict.{Verdict as Said}
+use Rattle.vpg_sides.specs.declared.verdict.Verdict.{Verdict as Said}
 use Rattle.vpg_trail.specs.Page.{Which, Hopeful, Dual, Entry, Decided, Lifted, same_table, value_at}
 use Rattle.vpg_trail.specs.Shown.{entry_of}
 use Rattle.vpg_trail.specs.declared.entry.Entry.{Entry as Written}

@@ -6,7 +6,7 @@ use lib.ListN.{get_elem?}
 use mathlib.Core.List.{IsPrefix}
 use Rattle.vpg_diagram.specs.DiagramText.{NamedDiagram}
 use Rattle.vpg_game.specs.Game.{NamedGame, graph_of, unnamed}
-use Rattle.vpg_verdict.specs.declared.verdict.Verdict.{Verdict as Said}
+use Rattle.vpg_sides.specs.declared.verdict.Verdict.{Verdict as Said}
 use Rattle.boxcar.specs.Table.{Shelves}
 use Rattle.vpg_desk.specs.Book.{Family, Book, Settled, IsSettled, Verdict, VerdictIs, opened, IsReply}
 use Rattle.vpg_desk.specs.Desk.{family_of}

@@ -4,7 +4,7 @@ use Rattle.std.proofs.Common.{sym, ap, ◌∙◌, append-nil, append_assoc, leng
 use mathlib.Core.List.{IsPrefix}
 use Rattle.vpg_diagram.specs.DiagramText.{NamedDiagram}
 use Rattle.vpg_game.specs.Game.{NamedGame}
-use Rattle.vpg_verdict.specs.declared.verdict.Verdict.{Verdict}
+use Rattle.vpg_sides.specs.declared.verdict.Verdict.{Verdict}
 use Rattle.vpg_desk.specs.History.{Event}
 use Rattle.vpg_office.specs.Sheets.{IsSheetOf}
 

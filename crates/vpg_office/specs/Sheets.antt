@@ -5,7 +5,7 @@ use lib.ListN.{get_elem?}
 use Rattle.vpg_diagram.specs.DiagramText.{NamedDiagram}
 use Rattle.vpg_game.specs.Game.{NamedGame}
 use Rattle.vpg_trail.specs.Page.{Entry}
-use Rattle.vpg_verdict.specs.declared.verdict.Verdict.{Verdict as Said}
+use Rattle.vpg_sides.specs.declared.verdict.Verdict.{Verdict as Said}
 use Rattle.vpg_desk.specs.Book.{Family, Book, Settled, IsSettled, Verdict, VerdictIs, opened, IsReply}
 use Rattle.vpg_desk.specs.Headline.{VerdictMeans}
 use Rattle.vpg_desk.specs.History.{Event, book_after, page_after}

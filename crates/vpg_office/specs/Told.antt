@@ -1,6 +1,6 @@
 -- Verdicts of a desk's page, and the calls that keep them. This project's own.
 use Rattle.std.specs.Prelude.{◌≡◌, ◌==◌, ℕ, zero, suc, nat_le, Bool, true, false, List, [], ◌∷◌, length, ⊤}
-use Rattle.vpg_verdict.specs.declared.verdict.Verdict.{Verdict as Said}
+use Rattle.vpg_sides.specs.declared.verdict.Verdict.{Verdict as Said}
 use Rattle.vpg_trail.specs.Page.{Which, Entry, Decided, Lifted, value_at}
 use Rattle.vpg_desk.specs.Book.{Book, Family, Kept, Step}
 use Rattle.vpg_desk.specs.Desk.{family_of}

@@ -8,8 +8,8 @@ use std::sync::Arc;
 use vpg_desk::Desk;
 use vpg_faults::{Never, Returned};
 use vpg_measure::{Order, PageGames};
+use vpg_sides::Verdict;
 use vpg_trail::Page;
-use vpg_verdict::Verdict;
 
 /// Whether both tables of the present page are progress tables.
 #[derive(Drop)]

@@ -21,8 +21,8 @@ use std::marker::Model;
 use std::sync::Arc;
 use vpg_desk::Desk;
 use vpg_faults::Returned;
+use vpg_sides::Which;
 use vpg_trail::Entry;
-use vpg_verdict::Which;
 use vpg_watch::Verdicts;
 
 /// A desk, with the verdicts last read of its page. Contracts see the desk.

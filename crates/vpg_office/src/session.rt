@@ -40,8 +40,8 @@ use std::sync::{Arc, MutexGuard, Wait};
 use vpg_desk::{CommitFault, DecideFault, RedoFault, ResetFault, RetractFault, UndoFault};
 use vpg_faults::{Never, Returned};
 use vpg_measure::{Harvest, Order, PageGames};
+use vpg_sides::Verdict;
 use vpg_trail::Page;
-use vpg_verdict::Verdict;
 
 /// A session of an office. It can't be copied. Contracts see its number, from 1 to 1,024, and how many calls of the log
 /// are its own. A call counts if it is done, or refused by the desk; one that answers `LogFull`, `Doubled` or `Memory`

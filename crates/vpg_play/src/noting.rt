@@ -4,8 +4,8 @@ use std::fmt::{Display, Write};
 use vpg_measure::{Harvest, Order, Table};
 use vpg_office::{Fault, Terms};
 use vpg_partial::Decision;
+use vpg_sides::{Verdict, Which};
 use vpg_trail::{Assumed, Entry, Page};
-use vpg_verdict::{Verdict, Which};
 
 /// Lines of words, one for each call.
 #[derive(Drop)]

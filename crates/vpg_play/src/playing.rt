@@ -15,7 +15,7 @@ use std::thread::{Threads, for_each_mut, yield_now};
 use vpg_board::{OpenGate, sweep};
 use vpg_measure::{Harvest, Order};
 use vpg_office::{Fault, Front, Office, Returned, Terms, read};
-use vpg_verdict::Which;
+use vpg_sides::Which;
 use vpg_watch::Watch;
 
 /// The manner in which sessions play.

@@ -12,7 +12,7 @@ use std::thread::Threads;
 use vpg_configuration::ConfigurationForm;
 use vpg_family::{Fault, Known, Paths, Texts, read_script};
 use vpg_report::{End, drawn_after, ended, exported_after, system_drawn_after, traced_after};
-use vpg_serving::Ending;
+use vpg_script::Ending;
 use vpg_terminal::Picture;
 
 /// Returns the picture of the family of some files on the page that a script of a file leaves, and the script's end.

@@ -11,8 +11,7 @@ use std::sync::Wait;
 use std::thread::Threads;
 use vpg_family::{Context, Family, Fault, Known, Paths, Pictured, Texts, open_script, read_script};
 use vpg_report::{DIAGRAM, End, GAME, end_of, run_script};
-use vpg_script::{Device, Sink, Source};
-use vpg_serving::{Form, Manner};
+use vpg_script::{Device, Form, Manner, Sink, Source};
 use vpg_terminal::Named;
 
 /// A run of a script's file.

@@ -10,7 +10,7 @@ use std::sync::Wait;
 use std::thread::Threads;
 use vpg_family::{Fault, Texts, explained, explained_diagram, explained_set};
 use vpg_report::End;
-use vpg_serving::Manner;
+use vpg_script::Manner;
 use vpg_terminal::Task;
 
 /// Carries out the task of the words. The texts of its files are kept in `texts`, to explain a fault. The parser takes

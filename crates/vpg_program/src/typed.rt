@@ -12,8 +12,7 @@ use std::sync::Wait;
 use std::thread::Threads;
 use vpg_family::{Family, Fault, Known, Paths, Texts};
 use vpg_report::End;
-use vpg_script::{Device, Sink, Source};
-use vpg_serving::{Form, Manner};
+use vpg_script::{Device, Form, Manner, Sink, Source};
 use vpg_terminal::{Ear, Heard, Setting, Typed, command_list};
 
 /// A session at a terminal.

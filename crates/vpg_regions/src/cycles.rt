@@ -5,7 +5,7 @@ use crate::found::Found;
 use crate::per_vertex::PerVertex;
 use crate::solution::{Solution, player_of};
 use std::alloc::{AllocError, Global};
-use vpg_players::Player;
+use vpg_sides::Player;
 
 struct Cycles {
     player: Player,

@@ -1,7 +1,7 @@
 //! Flat parity games, for guesses.
 use crate::per_vertex::PerVertex;
 use std::alloc::{AllocError, Global};
-use vpg_players::Player;
+use vpg_sides::Player;
 
 /// A list for each vertex, one after another.
 struct Lists {

@@ -3,7 +3,7 @@ use crate::budget::Budget;
 use crate::found::Found;
 use crate::solution::{Solution, player_of};
 use std::alloc::{AllocError, Global};
-use vpg_players::Player;
+use vpg_sides::Player;
 
 // A game on the stack: its vertices, and those found to be won by the player against whom its greatest priority is.
 struct Game {

@@ -1,6 +1,6 @@
 //! The winners of a game, as they are guessed.
 use crate::per_vertex::{Choices, PerVertex};
-use vpg_players::Player;
+use vpg_sides::Player;
 
 /// The guessed winner of each vertex, and the winner's choices.
 pub struct Regions {

@@ -4,7 +4,7 @@ use crate::found::Found;
 use crate::graph::Graph;
 use crate::per_vertex::{Choices, PerVertex};
 use std::alloc::{AllocError, Global};
-use vpg_players::Player;
+use vpg_sides::Player;
 
 /// Returns the player that a priority is of.
 pub fn player_of(priority: u32) -> Player {

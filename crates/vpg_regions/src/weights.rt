@@ -11,7 +11,7 @@ use crate::per_vertex::PerVertex;
 use crate::solution::Solution;
 use std::alloc::{AllocError, Global};
 use std::collections::VecDeque;
-use vpg_players::Player;
+use vpg_sides::Player;
 
 /// The weight if no stop can be reached.
 const UNREACHED: i128 = i128::MAX;

@@ -8,8 +8,8 @@ use Rattle.vpg_diagram.specs.FeatureDiagram.{feature_count}
 use Rattle.vpg_measure.specs.Orders.{OrderView, IsOrder}
 use Rattle.vpg_texts.specs.Changed.{verdicts_by}
 use Rattle.vpg_trail.specs.Page.{Decision, literal_of}
-use Rattle.vpg_verdict.specs.declared.verdict.Verdict.{Verdict}
-use Rattle.vpg_serving.specs.declared.serving.Ending.{Ending}
+use Rattle.vpg_sides.specs.declared.verdict.Verdict.{Verdict}
+use Rattle.vpg_script.specs.declared.serving.Ending.{Ending}
 use Rattle.vpg_family.specs.Pages.{IsPageDrawn}
 use Rattle.vpg_family.specs.Systems.{IsSystemFault, IsSystemOn}
 use Rattle.vpg_family.specs.declared.drawing.Subject.{Subject}

@@ -5,8 +5,8 @@ use Rattle.std.specs.List.{remove, insert}
 use Rattle.vpg_desk.specs.Book.{Family, Book, Undo, Redo, Keep, Forget, Undone, Redone, Spent, IsReply, has_serial}
 use Rattle.vpg_desk.specs.Desk.{family_of}
 use Rattle.vpg_desk.specs.State.{setting_of}
-use Rattle.vpg_serving.specs.Answer.{IsGiven, done}
-use Rattle.vpg_serving.specs.declared.tone.Tone.{Tone}
+use Rattle.vpg_script.specs.Answer.{IsGiven, done}
+use Rattle.vpg_script.specs.declared.tone.Tone.{Tone}
 use Rattle.vpg_report.specs.Client.{IsLogged}
 use Rattle.vpg_script.specs.Script as script
 use Rattle.vpg_report.specs.Held.{if_among, undo_meant, redo_meant, without}

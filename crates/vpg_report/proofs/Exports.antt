@@ -6,7 +6,7 @@ use Rattle.vpg_configuration.specs.Forms.{exported_in}
 use Rattle.vpg_configuration.specs.declared.form.ConfigurationForm.{ConfigurationForm}
 use Rattle.vpg_diagram.specs.DiagramText.{NamedDiagram}
 use Rattle.vpg_game.specs.Game.{NamedGame}
-use Rattle.vpg_serving.specs.declared.serving.Ending.{Ending}
+use Rattle.vpg_script.specs.declared.serving.Ending.{Ending}
 use Rattle.vpg_family.specs.declared.known.Context.{Context}
 use Rattle.vpg_report.specs.Left.{plain}
 use Rattle.vpg_report.specs.Runs.{IsRun}

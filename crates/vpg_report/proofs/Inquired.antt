@@ -11,8 +11,8 @@ use Rattle.vpg_measure.specs.Orders.{OrderView, IsOrder}
 use Rattle.vpg_desk.specs.Book.{Call, Order, Ordered, Reply}
 use Rattle.vpg_faults.specs.declared.refusal.Refusal.{Refusal}
 use Rattle.vpg_desk.specs.Commit.{IsOrderOf}
-use Rattle.vpg_serving.specs.Answer.{Gives, IsGiven, refused}
-use Rattle.vpg_serving.specs.declared.tone.Tone.{Tone}
+use Rattle.vpg_script.specs.Answer.{Gives, IsGiven, refused}
+use Rattle.vpg_script.specs.declared.tone.Tone.{Tone}
 use Rattle.vpg_report.specs.Client.{IsLogged}
 use Rattle.vpg_report.specs.Faults.{Tells}
 use Rattle.vpg_report.specs.declared.fault.ClientFault.{ClientFault}

@@ -12,12 +12,12 @@ use Rattle.vpg_desk.specs.State.{IsOpened, setting_of}
 use Rattle.vpg_faults.specs.declared.fault.OpenFault.{OpenFault}
 use Rattle.vpg_faults.specs.declared.fault.OpenFault.TheVariants as opens
 use Rattle.vpg_faults.specs.declared.refusal.Refusal.{Refusal}
-use Rattle.vpg_serving.specs.Manners.{Leaves, MannerOutcome}
-use Rattle.vpg_serving.specs.Output.{Machine}
-use Rattle.vpg_serving.specs.declared.fault.RunFault.{RunFault}
-use Rattle.vpg_serving.specs.declared.fault.RunFault.TheVariants as stops
-use Rattle.vpg_serving.specs.declared.serving.Ending.{Ending}
-use Rattle.vpg_serving.specs.declared.serving.Ending.TheVariants as endings
+use Rattle.vpg_script.specs.Manners.{Leaves, MannerOutcome}
+use Rattle.vpg_script.specs.Output.{Machine}
+use Rattle.vpg_script.specs.declared.fault.RunFault.{RunFault}
+use Rattle.vpg_script.specs.declared.fault.RunFault.TheVariants as stops
+use Rattle.vpg_script.specs.declared.serving.Ending.{Ending}
+use Rattle.vpg_script.specs.declared.serving.Ending.TheVariants as endings
 use Rattle.vpg_family.specs.declared.known.Context.{Context}
 use Rattle.vpg_family.specs.declared.fault.Fault.{Fault}
 use Rattle.vpg_family.specs.declared.fault.Fault.TheVariants as told

@@ -6,8 +6,8 @@ use Rattle.vpg_guards.specs.Known.{kleene}
 use Rattle.vpg_game.specs.Game.{graph_of}
 use Rattle.vpg_partial.specs.Known.{literal_of}
 use Rattle.vpg_partial.specs.TableLaws.{IsKnownTable}
-use Rattle.vpg_verdict.specs.declared.which.Which.{Which}
-use Rattle.vpg_verdict.specs.declared.which.Which.TheVariants.{Hopeful, Dual}
+use Rattle.vpg_sides.specs.declared.which.Which.{Which}
+use Rattle.vpg_sides.specs.declared.which.Which.TheVariants.{Hopeful, Dual}
 use Rattle.vpg_measure.specs.Lifts.{raised}
 use Rattle.vpg_measure.specs.Orders.{OrderView, HarvestView, IsOrder, IsSameOrder, order_table, harvest_table, order_levels, order_arena, other_table}
 use Rattle.vpg_measure.specs.TwoGames.{IsTableBelow}
@@ -20,8 +20,8 @@ use Rattle.vpg_faults.specs.declared.fault.CommitFault.{CommitFault}
 use Rattle.vpg_desk.specs.Desk.{family_of}
 use Rattle.vpg_desk.specs.Lawful.{harvested}
 use Rattle.vpg_desk.specs.State.{DeskState, setting_between, setting_of}
-use Rattle.vpg_serving.specs.Answer.{IsGiven, done}
-use Rattle.vpg_serving.specs.declared.tone.Tone.{Tone}
+use Rattle.vpg_script.specs.Answer.{IsGiven, done}
+use Rattle.vpg_script.specs.declared.tone.Tone.{Tone}
 use Rattle.vpg_report.specs.Client.{ClientState, IsLogged}
 use Rattle.vpg_report.specs.Faults.{Tells}
 use Rattle.vpg_report.specs.declared.fault.ClientFault.{ClientFault}

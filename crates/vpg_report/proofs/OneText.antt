@@ -17,9 +17,9 @@ use Rattle.vpg_desk.specs.Desk.{family_of}
 use Rattle.vpg_desk.specs.Lawful.{harvested}
 use Rattle.vpg_script.specs.Script as script
 use Rattle.vpg_script.specs.Script.{Said, Request, said}
-use Rattle.vpg_serving.specs.Answer.{Answer, IsDone}
-use Rattle.vpg_serving.specs.Output.{Speaks, Answered}
-use Rattle.vpg_serving.proofs.Given.{done_one}
+use Rattle.vpg_script.specs.Answer.{Answer, IsDone}
+use Rattle.vpg_script.specs.Output.{Speaks, Answered}
+use Rattle.vpg_script.proofs.Given.{done_one}
 use Rattle.vpg_report.specs.Held.{Held, undo_meant, redo_meant, harvest_kept, after_change, after_undo, after_redo, after_keep, after_forget, with_harvest, without_harvest, with_seen}
 use Rattle.vpg_texts.specs.Scene.{Scene, UnderKnown, TellsFeature, table_in}
 use Rattle.vpg_texts.specs.Sights.{has_vertices}

@@ -11,7 +11,7 @@ use Rattle.vpg_game.specs.Game.{NamedGame, unnamed, graph_of, vertex_ids}
 use Rattle.vpg_diagram.specs.FeatureDiagram.{feature_count}
 use Rattle.vpg_partial.specs.TableLaws.{AreChoicesOf, IsKnownTable}
 use Rattle.vpg_partial.proofs.Closing.{table_exists}
-use Rattle.vpg_verdict.specs.declared.verdict.Verdict.{Verdict}
+use Rattle.vpg_sides.specs.declared.verdict.Verdict.{Verdict}
 use Rattle.vpg_measure.specs.Games.{GamesView, ArePageGames}
 use Rattle.vpg_measure.specs.TwoGames.{top_for, IsTableBelow}
 use Rattle.vpg_measure.proofs.TwoGames.{arena_length}
@@ -21,9 +21,9 @@ use Rattle.vpg_desk.specs.Book.{Page as AsksPage, PageIs}
 use Rattle.vpg_desk.specs.Headline.{Tells}
 use Rattle.vpg_desk.specs.Setting.{IsSetting}
 use Rattle.vpg_desk.specs.State.{DeskState, setting_of, IsReached, Replies}
-use Rattle.vpg_serving.specs.Answer.{Gives, IsGiven, done, refused}
-use Rattle.vpg_serving.specs.declared.tone.Tone.{Tone}
-use Rattle.vpg_serving.specs.declared.tone.Tone.TheVariants as tones
+use Rattle.vpg_script.specs.Answer.{Gives, IsGiven, done, refused}
+use Rattle.vpg_script.specs.declared.tone.Tone.{Tone}
+use Rattle.vpg_script.specs.declared.tone.Tone.TheVariants as tones
 use Rattle.vpg_report.specs.Client.{IsLogged}
 use Rattle.vpg_desk.proofs.Deciding.{choices_inside}
 use Rattle.vpg_desk.proofs.Reaching.{reached_well_formed}

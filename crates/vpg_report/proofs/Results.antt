@@ -3,14 +3,14 @@ use Rattle.std.proofs.Common.{◌≡◌, ℕ, false, List, [], Option, None, Res
 use Rattle.std.proofs.Math.Path.{fun_ext}
 use Rattle.std.specs.Prelude.{IsErrOf}
 use Rattle.vpg_faults.specs.declared.fault.OpenFault.{OpenFault}
-use Rattle.vpg_serving.specs.Output.{Machine}
-use Rattle.vpg_serving.specs.Manners.{MannerOutcome}
-use Rattle.vpg_serving.specs.declared.framing.Form.TheVariants.{Plain}
-use Rattle.vpg_serving.specs.declared.serving.Manner.{Manner}
-use Rattle.vpg_serving.specs.declared.serving.Ending.{Ending}
-use Rattle.vpg_serving.specs.declared.fault.RunFault.{RunFault}
-use Rattle.vpg_serving.specs.declared.fault.RunFault.TheVariants as stops
-use Rattle.vpg_serving.proofs.MannerLemmas.{plain_outcome}
+use Rattle.vpg_script.specs.Output.{Machine}
+use Rattle.vpg_script.specs.Manners.{MannerOutcome}
+use Rattle.vpg_script.specs.declared.framing.Form.TheVariants.{Plain}
+use Rattle.vpg_script.specs.declared.serving.Manner.{Manner}
+use Rattle.vpg_script.specs.declared.serving.Ending.{Ending}
+use Rattle.vpg_script.specs.declared.fault.RunFault.{RunFault}
+use Rattle.vpg_script.specs.declared.fault.RunFault.TheVariants as stops
+use Rattle.vpg_script.proofs.MannerLemmas.{plain_outcome}
 use Rattle.vpg_report.specs.Output.{Outcome, OutcomeAs}
 use Rattle.vpg_report.specs.Results.{Opens}
 use Rattle.vpg_diagram.specs.DiagramText.{NamedDiagram}

@@ -3,8 +3,8 @@ use Rattle.std.proofs.Common.{◌≡◌, ℕ, List, Option, Result, Ok, Err, ap,
 use Rattle.std.specs.Prelude.{IfOk, OnOk}
 use Rattle.vpg_diagram.specs.DiagramText.{NamedDiagram}
 use Rattle.vpg_game.specs.Game.{NamedGame}
-use Rattle.vpg_serving.specs.Answer.{Gives}
-use Rattle.vpg_serving.specs.declared.tone.Tone.{Tone}
+use Rattle.vpg_script.specs.Answer.{Gives}
+use Rattle.vpg_script.specs.declared.tone.Tone.{Tone}
 use Rattle.vpg_report.specs.Answers.{IsOwn}
 use Rattle.vpg_report.specs.Engine.{EngineState, SweepsTo, scene_at, between_of}
 use Rattle.vpg_report.specs.Server.{AnswersTo}

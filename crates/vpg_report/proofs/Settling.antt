@@ -9,8 +9,8 @@ use Rattle.vpg_diagram.specs.DiagramText.{NamedDiagram}
 use Rattle.vpg_partial.specs.Known.{literal_of}
 use Rattle.vpg_partial.specs.TableLaws.{IsKnownTable}
 use Rattle.vpg_partial.proofs.Tables.{conflicts_stay}
-use Rattle.vpg_verdict.specs.declared.which.Which.{Which}
-use Rattle.vpg_verdict.specs.declared.which.Which.TheVariants.{Hopeful, Dual}
+use Rattle.vpg_sides.specs.declared.which.Which.{Which}
+use Rattle.vpg_sides.specs.declared.which.Which.TheVariants.{Hopeful, Dual}
 use Rattle.vpg_measure.specs.Lifts.{IsBelowTable}
 use Rattle.vpg_measure.specs.Orders.{OrderView, HarvestView, IsOrder, IsSettledHarvest, order_table, harvest_table}
 use Rattle.vpg_measure.specs.TwoGames.{IsTableBelow}
@@ -25,8 +25,8 @@ use Rattle.vpg_desk.proofs.Lawful.{harvests_are_lawful}
 use Rattle.vpg_desk.proofs.Deciding.{setting_stands, known_is_consistent}
 use Rattle.vpg_desk.specs.State.{DeskState, setting_between, setting_of}
 use Rattle.vpg_script.specs.Script as script
-use Rattle.vpg_serving.specs.Answer.{IsGiven, done}
-use Rattle.vpg_serving.specs.declared.tone.Tone.{Tone}
+use Rattle.vpg_script.specs.Answer.{IsGiven, done}
+use Rattle.vpg_script.specs.declared.tone.Tone.{Tone}
 use Rattle.vpg_report.specs.Held.{with_harvest}
 use Rattle.vpg_report.specs.Engine.{EngineState, SweepsTo}
 use Rattle.vpg_report.specs.Made.{IsMadeBy}

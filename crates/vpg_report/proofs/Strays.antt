@@ -12,8 +12,8 @@ use Rattle.vpg_desk.specs.State.{setting_of}
 use Rattle.vpg_faults.specs.declared.fault.CommitFault.{CommitFault}
 use Rattle.vpg_faults.specs.Refusals.{never_refused}
 use Rattle.vpg_script.specs.View.{command_shown}
-use Rattle.vpg_serving.specs.declared.serving.ServeFault.{ServeFault}
-use Rattle.vpg_serving.specs.declared.serving.ServeFault.TheVariants as unserved
+use Rattle.vpg_script.specs.declared.serving.ServeFault.{ServeFault}
+use Rattle.vpg_script.specs.declared.serving.ServeFault.TheVariants as unserved
 use Rattle.vpg_report.specs.Client.{ClientState, IsLogged}
 use Rattle.vpg_report.specs.Engine.{EngineState}
 use Rattle.vpg_report.specs.Faults.{Tells, CommitTells, HasStrayed, IsAstray}

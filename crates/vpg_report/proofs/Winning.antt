@@ -10,7 +10,7 @@ use Rattle.std.proofs.lemmas.List.Quantifiers.{position-Some}
 use Rattle.std.proofs.lemmas.Grind.{flat_map-append}
 use Rattle.vpg_game.specs.Game.{unnamed}
 use Rattle.vpg_measure.specs.TwoGames.{top_for}
-use Rattle.vpg_verdict.specs.declared.verdict.Verdict.{Verdict}
+use Rattle.vpg_sides.specs.declared.verdict.Verdict.{Verdict}
 use Rattle.vpg_trail.specs.Page.{Hopeful, Dual, Entry, literal_of, decisions_of, value_at, table_of}
 use Rattle.vpg_trail.proofs.PageLemmas.{table_of-at}
 use Rattle.vpg_desk.specs.Book.{Family, Book, opened, Page, Reply, Changed, Undone, Redone, Spent, Ordered, Added, IsSettled, VerdictIs, PageIs, Refused, IsReply}
@@ -24,9 +24,9 @@ use Rattle.vpg_script.specs.declared.command.Claim.{Claim}
 use Rattle.vpg_checking.specs.Behaviours.{Behaviour}
 use Rattle.vpg_script.specs.Script as script
 use Rattle.vpg_script.specs.Script.{Request, Said, said}
-use Rattle.vpg_serving.specs.Answer.{Answer, done}
-use Rattle.vpg_serving.specs.Output.{Speaks, Answered}
-use Rattle.vpg_serving.proofs.Given.{is_done}
+use Rattle.vpg_script.specs.Answer.{Answer, done}
+use Rattle.vpg_script.specs.Output.{Speaks, Answered}
+use Rattle.vpg_script.proofs.Given.{is_done}
 use Rattle.vpg_texts.specs.Changed.{verdict_of, verdicts_below, unseen, seen_at, changed_text}
 use Rattle.vpg_texts.specs.Scene.{Scene, scene_of}
 use Rattle.vpg_texts.specs.Sights.{IsSeen, has_vertices, line_at, named_lines, verdicts_at, verdicts_answer}

@@ -1,6 +1,6 @@
 -- Lines that are written piece by piece.
 use Rattle.std.proofs.Common.{◌≡◌, ℕ, List, [], ◌∷◌, ◌++◌, ap, ◌∙◌, append_assoc, codes}
-use Rattle.vpg_serving.specs.Answer.{refused}
+use Rattle.vpg_script.specs.Answer.{refused}
 use Rattle.vpg_report.specs.Answers.{line_of}
 
 -- a text, and what is written behind it

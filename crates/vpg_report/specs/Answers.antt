@@ -5,7 +5,7 @@ use Rattle.vpg_guards.specs.declared.tri.Tri.{Tri}
 use Rattle.vpg_features.specs.Names.{index_of}
 use Rattle.vpg_guards.specs.Known.{kleene}
 use Rattle.vpg_partial.specs.TableLaws.{IsKnownTable}
-use Rattle.vpg_verdict.specs.declared.verdict.Verdict.{Verdict}
+use Rattle.vpg_sides.specs.declared.verdict.Verdict.{Verdict}
 use Rattle.vpg_measure.specs.Lifts.{raised}
 use Rattle.vpg_measure.specs.Orders.{other_table}
 use Rattle.vpg_measure.specs.TwoGames.{levels_for, arena_for}
@@ -19,7 +19,7 @@ use Rattle.vpg_desk.specs.Setting.{Setting}
 use Rattle.vpg_desk.specs.Desk.{family_of}
 use Rattle.vpg_report.specs.Held.{Held, undo_meant, redo_meant, harvest_kept, after_change, after_undo, after_redo, after_keep, after_forget, with_harvest, without_harvest, with_seen}
 use Rattle.vpg_script.specs.Script as script
-use Rattle.vpg_serving.specs.Answer.{Answer, IsDone, done, refused}
+use Rattle.vpg_script.specs.Answer.{Answer, IsDone, done, refused}
 use Rattle.vpg_texts.specs.Text.{blank_number, blank_name}
 use Rattle.vpg_texts.specs.Scene.{Scene, table_in, TellsFeature}
 use Rattle.vpg_texts.specs.Changed.{changed_text, verdicts_by}

@@ -11,7 +11,7 @@ use Rattle.vpg_script.specs.Calling.{meant}
 use Rattle.vpg_script.specs.Script as commands
 use Rattle.vpg_script.specs.Script.{Request, said}
 use Rattle.vpg_script.specs.declared.command.VertexQuestion.TheVariants as questions
-use Rattle.vpg_serving.specs.declared.serving.Ending.{Ending}
+use Rattle.vpg_script.specs.declared.serving.Ending.{Ending}
 use Rattle.vpg_family.specs.Pages.{IsPageDrawn}
 use Rattle.vpg_family.specs.Systems.{IsSystemFault, IsSystemOn}
 use Rattle.vpg_family.specs.declared.drawing.Subject.{Subject}

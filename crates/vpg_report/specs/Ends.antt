@@ -4,8 +4,8 @@ use Rattle.std.specs.Fmt.{decimal}
 use Rattle.vpg_report.specs.declared.ending.End.{End}
 use Rattle.vpg_report.specs.declared.ending.End.TheVariants as ends
 use Rattle.vpg_family.specs.declared.fault.Fault.{Fault}
-use Rattle.vpg_serving.specs.declared.serving.Ending.{Ending}
-use Rattle.vpg_serving.specs.declared.serving.Ending.TheVariants as endings
+use Rattle.vpg_script.specs.declared.serving.Ending.{Ending}
+use Rattle.vpg_script.specs.declared.serving.Ending.TheVariants as endings
 
 -- the program's end after this end of a script
 abbrev pub ended : Ending → End

@@ -19,8 +19,8 @@ use Rattle.vpg_report.specs.Line.{Between, beginning}
 use Rattle.vpg_report.specs.Made.{AreMadeBy}
 use Rattle.vpg_report.specs.Setting.{setting_in}
 use Rattle.vpg_texts.specs.Scene.{Scene, scene_of}
-use Rattle.vpg_serving.specs.Answer.{Answer, IsGiven, refused}
-use Rattle.vpg_serving.specs.declared.tone.Tone.{Tone}
+use Rattle.vpg_script.specs.Answer.{Answer, IsGiven, refused}
+use Rattle.vpg_script.specs.declared.tone.Tone.{Tone}
 use Rattle.vpg_script.specs.Script as script
 use Rattle.vpg_script.specs.Script.{Request}
 

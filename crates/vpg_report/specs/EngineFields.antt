@@ -6,7 +6,7 @@ use Rattle.vpg_diagram.specs.FeatureDiagram.{feature_count}
 use Rattle.vpg_game.specs.Game.{NamedGame}
 use Rattle.vpg_partial.specs.Known.{literal_of}
 use Rattle.vpg_partial.specs.TableLaws.{AreChoicesOf}
-use Rattle.vpg_verdict.specs.declared.verdict.Verdict.{Verdict}
+use Rattle.vpg_sides.specs.declared.verdict.Verdict.{Verdict}
 use Rattle.vpg_measure.specs.Orders.{HarvestView}
 use Rattle.vpg_desk.specs.Book.{Harvest}
 use Rattle.vpg_desk.specs.Commit.{handed_in}

@@ -2,7 +2,7 @@
 -- reported last.
 use Rattle.std.specs.Prelude.{ℕ, zero, suc, ◌-◌, max, ◌==◌, if◌then◌else◌, List, [], ◌∷◌, ◌++◌, length, Option, Some, None, slice_get, slice_index_or, slice_set}
 use Rattle.std.specs.List.{reduce}
-use Rattle.vpg_verdict.specs.declared.verdict.Verdict.{Verdict}
+use Rattle.vpg_sides.specs.declared.verdict.Verdict.{Verdict}
 use Rattle.vpg_desk.specs.Book.{Harvest, has_serial}
 
 pub record Held : Type 0 where

@@ -5,13 +5,13 @@ use Rattle.vpg_game.specs.Game.{NamedGame, graph_of}
 use Rattle.vpg_measure.specs.Orders.{OrderView}
 use Rattle.vpg_trail.specs.Page.{Which, Hopeful, Dual, decisions_of, table_of}
 use Rattle.vpg_desk.specs.State.{IsOpened}
-use Rattle.vpg_serving.specs.Manners.{Leaves, MannerOutcome}
-use Rattle.vpg_serving.specs.Output.{Machine}
-use Rattle.vpg_serving.specs.declared.fault.RunFault.{RunFault}
-use Rattle.vpg_serving.specs.declared.fault.RunFault.TheVariants as stops
-use Rattle.vpg_serving.specs.declared.framing.Form.TheVariants.{Plain}
-use Rattle.vpg_serving.specs.declared.serving.Manner.{Manner}
-use Rattle.vpg_serving.specs.declared.serving.Ending.{Ending}
+use Rattle.vpg_script.specs.Manners.{Leaves, MannerOutcome}
+use Rattle.vpg_script.specs.Output.{Machine}
+use Rattle.vpg_script.specs.declared.fault.RunFault.{RunFault}
+use Rattle.vpg_script.specs.declared.fault.RunFault.TheVariants as stops
+use Rattle.vpg_script.specs.declared.framing.Form.TheVariants.{Plain}
+use Rattle.vpg_script.specs.declared.serving.Manner.{Manner}
+use Rattle.vpg_script.specs.declared.serving.Ending.{Ending}
 use Rattle.vpg_family.specs.declared.known.Context.{Context}
 use Rattle.vpg_family.specs.declared.fault.Fault.{Fault}
 use Rattle.vpg_family.specs.declared.fault.Fault.TheVariants.{LogFull}

@@ -1,6 +1,6 @@
 -- How the harvests of lines were made: by how many sweeps, of how many lifters.
 use Rattle.std.specs.Prelude.{◌≡◌, ℕ, ◌≤◌, List, ◌∷◌, ◌++◌, [], Option, Some, true, ⊤}
-use Rattle.vpg_verdict.specs.declared.which.Which.{Which}
+use Rattle.vpg_sides.specs.declared.which.Which.{Which}
 use Rattle.vpg_measure.specs.Orders.{OrderView, HarvestView, order_table, harvest_table}
 use Rattle.vpg_trail.specs.Page.{Decision}
 use Rattle.vpg_desk.specs.Book.{Harvest, Call, Commit, Reply, Ordered}

@@ -1,12 +1,12 @@
 -- How the text that a run writes depends on the one that it reads.
 use Rattle.std.specs.Prelude.{◌≡◌, ℕ, List, Option, Result, Err}
 use Rattle.vpg_faults.specs.declared.fault.OpenFault.{OpenFault}
-use Rattle.vpg_serving.specs.Output.{Machine, ScriptOutcome}
-use Rattle.vpg_serving.specs.Manners.{MannerOutcome}
-use Rattle.vpg_serving.specs.declared.serving.Manner.{Manner}
-use Rattle.vpg_serving.specs.declared.serving.Ending.{Ending}
-use Rattle.vpg_serving.specs.declared.fault.RunFault.{RunFault}
-use Rattle.vpg_serving.specs.declared.fault.RunFault.TheVariants as stops
+use Rattle.vpg_script.specs.Output.{Machine, ScriptOutcome}
+use Rattle.vpg_script.specs.Manners.{MannerOutcome}
+use Rattle.vpg_script.specs.declared.serving.Manner.{Manner}
+use Rattle.vpg_script.specs.declared.serving.Ending.{Ending}
+use Rattle.vpg_script.specs.declared.fault.RunFault.{RunFault}
+use Rattle.vpg_script.specs.declared.fault.RunFault.TheVariants as stops
 
 -- A run's result with the texts read and written: that of the script's lines, or a refused opening, which comes before
 -- any line.

@@ -1,7 +1,7 @@
 -- The facts that a run's result states.
 use Rattle.std.specs.Prelude.{Result, Ok, Err, ⊤}
-use Rattle.vpg_serving.specs.declared.fault.RunFault.{RunFault}
-use Rattle.vpg_serving.specs.declared.fault.RunFault.TheVariants as stops
+use Rattle.vpg_script.specs.declared.fault.RunFault.{RunFault}
+use Rattle.vpg_script.specs.declared.fault.RunFault.TheVariants as stops
 
 -- This holds of each run that opened an office: of each except one that ends in Open, or in Memory, which may have come
 -- before.

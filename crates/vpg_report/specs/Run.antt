@@ -7,8 +7,8 @@ use Rattle.vpg_report.specs.Held.{Held, nothing_held}
 use Rattle.vpg_report.specs.Made.{AreMadeBy}
 pub use Rattle.vpg_report.specs.Line.{Between, begun}
 use Rattle.vpg_report.specs.Setting.{setting_in}
-use Rattle.vpg_serving.specs.Answer.{Answer}
-use Rattle.vpg_serving.specs.Output.{Machine, Answered}
+use Rattle.vpg_script.specs.Answer.{Answer}
+use Rattle.vpg_script.specs.Output.{Machine, Answered}
 use Rattle.vpg_diagram.specs.DiagramText.{NamedDiagram}
 use Rattle.vpg_game.specs.Game.{NamedGame}
 use Rattle.vpg_checking.specs.Behaviours.{Behaviour}

@@ -12,10 +12,10 @@ use Rattle.vpg_report.specs.Output.{OutcomeAs}
 use Rattle.vpg_report.specs.Results.{Opens}
 use Rattle.vpg_report.specs.Run.{answering_called, called_in, begun}
 use Rattle.vpg_family.specs.declared.known.Context.{Context}
-use Rattle.vpg_serving.specs.declared.fault.RunFault.{RunFault}
-use Rattle.vpg_serving.specs.declared.fault.RunFault.TheVariants as stops
-use Rattle.vpg_serving.specs.declared.serving.Manner.{Manner}
-use Rattle.vpg_serving.specs.declared.serving.Ending.{Ending}
+use Rattle.vpg_script.specs.declared.fault.RunFault.{RunFault}
+use Rattle.vpg_script.specs.declared.fault.RunFault.TheVariants as stops
+use Rattle.vpg_script.specs.declared.serving.Manner.{Manner}
+use Rattle.vpg_script.specs.declared.serving.Ending.{Ending}
 use Rattle.vpg_family.specs.declared.fault.Fault.{Fault}
 use Rattle.vpg_family.specs.declared.fault.Fault.TheVariants as told
 

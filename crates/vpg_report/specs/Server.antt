@@ -11,7 +11,7 @@ use Rattle.vpg_report.specs.declared.lines.Missing.{Missing}
 use Rattle.vpg_checking.specs.Behaviours.{Behaviour}
 use Rattle.vpg_report.specs.Requests.{Continues, first_call}
 use Rattle.vpg_script.specs.Script.{Request}
-use Rattle.vpg_serving.specs.declared.tone.Tone.{Tone}
+use Rattle.vpg_script.specs.declared.tone.Tone.{Tone}
 
 -- the query by places, or the kind of name that is missing
 abbrev pub IsQuery : Result Query Own → Result Query Missing → Type 0

@@ -7,8 +7,8 @@ use Rattle.vpg_answers.specs.Looked.{HasMetLimit}
 use Rattle.vpg_desk.specs.Desk.{family_of}
 use Rattle.vpg_report.specs.Answers.{Checks, settled_text}
 use Rattle.vpg_report.specs.Held.{Held}
-use Rattle.vpg_serving.specs.Answer.{Answer}
-use Rattle.vpg_serving.specs.Output.{Machine, Answered}
+use Rattle.vpg_script.specs.Answer.{Answer}
+use Rattle.vpg_script.specs.Output.{Machine, Answered}
 use Rattle.vpg_report.specs.Output.{Outcome}
 use Rattle.vpg_report.specs.Results.{IsThrough}
 use Rattle.vpg_report.specs.Run.{Between, begun, calling, as_meant}
@@ -16,7 +16,7 @@ use Rattle.vpg_checking.specs.Behaviours.{Behaviour}
 use Rattle.vpg_script.specs.Script as script
 use Rattle.vpg_script.specs.Script.{Request}
 use Rattle.vpg_texts.specs.Scene.{Scene}
-use Rattle.vpg_serving.specs.declared.fault.RunFault.{RunFault}
+use Rattle.vpg_script.specs.declared.fault.RunFault.{RunFault}
 use Rattle.vpg_report.specs.Setting.{setting_in}
 
 -- A settle is answered `settled`, and a question about the page without a doubt: no limit was met. Nor was one in the

@@ -4,7 +4,7 @@ ghost use Rattle.vpg_report.specs.Faults.{IsAstray};
 ghost use Rattle.vpg_report.specs.Server.{AnswersTo};
 ghost use Rattle.vpg_report.specs.Run.{answering};
 ghost use Rattle.vpg_report.specs.Engine.{between_of, scene_at};
-ghost use Rattle.vpg_serving.specs.Answer.{Gives};
+ghost use Rattle.vpg_script.specs.Answer.{Gives};
 ghost use Rattle.vpg_script.specs.Script.{Ask};
 ghost use Rattle.vpg_script.specs.View.{inquiry_shown, request_shown};
 
@@ -18,8 +18,7 @@ use vpg_answers::Limits;
 use vpg_checking::Behaviour;
 use vpg_family::Context;
 use vpg_office::Terms;
-use vpg_script::{Command, Inquiry, Request, meant};
-use vpg_serving::{ServeFault, Server, Tone};
+use vpg_script::{Command, Inquiry, Request, ServeFault, Server, Tone, meant};
 
 /// The limits of a question about the page. The bounds of a trial's table may look at 2^27 edges and vertices; if they
 /// do not settle it, it has 1,000 rounds of lifts. A search has 10,000 trials.

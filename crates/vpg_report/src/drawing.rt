@@ -25,13 +25,12 @@ use vpg_diagram::Diagram;
 use vpg_family::{Context, Family, Fault, Subject, Texts, page_drawn, system_on};
 use vpg_game::GuardedGame;
 use vpg_measure::Order;
-use vpg_script::{Command, ReadFault, Request, meant, read_line};
-use vpg_serving::Ending;
+use vpg_script::{Command, Ending, ReadFault, Request, meant, read_line};
+use vpg_sides::Verdict;
 use vpg_steps::path_at;
 use vpg_system_draw::Path;
 use vpg_texts::verdicts_by;
 use vpg_trace::put_answer;
-use vpg_verdict::Verdict;
 
 /// Returns each vertex's verdict on the page of an order.
 fn verdicts_on(alloc: Global, order: &Order) -> Result<Vec<Verdict>, AllocError>

@@ -6,7 +6,7 @@ ghost use Rattle.vpg_report.specs.Ends.{ended, status_of, refused_text};
 use std::alloc::{AllocError, Global};
 use std::process::ExitCode;
 use vpg_family::Fault;
-use vpg_serving::Ending;
+use vpg_script::Ending;
 
 /// The program's end if it doesn't fail.
 #[derive(Clone, Copy)]

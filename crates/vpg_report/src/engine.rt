@@ -39,11 +39,10 @@ use vpg_guards::Names;
 use vpg_guess::Groundwork;
 use vpg_measure::{Harvest, Order};
 use vpg_office::{Never, NotOpened, Redo, Site, Terms, Undo};
-use vpg_script::{Command, Lookup, Request, Vertex};
-use vpg_serving::{ServeFault, Tone};
+use vpg_script::{Command, Lookup, Request, ServeFault, Tone, Vertex};
 use vpg_settle::swept;
+use vpg_sides::{Verdict, Which};
 use vpg_texts::{has_vertices, put_changed, put_known_over, verdicts_over, vertex_at};
-use vpg_verdict::{Verdict, Which};
 
 /// The number of calls that the log of a run's office takes.
 pub(crate) const ROOM: u32 = 1_048_576;

@@ -10,8 +10,7 @@ use std::sync::Wait;
 use std::thread::Threads;
 use vpg_configuration::{ConfigurationForm, asking, exported_in};
 use vpg_family::{Context, Family, Fault};
-use vpg_script::Device;
-use vpg_serving::{Ending, Form, Manner};
+use vpg_script::{Device, Ending, Form, Manner};
 
 /// Returns the script with the lines at its end whose answers tell of a configuration.
 fn with_asking(alloc: Global, form: ConfigurationForm, script: &[u8]) -> Result<Vec<u8>, AllocError>

@@ -3,7 +3,7 @@ ghost use Rattle.std.specs.Prelude.{◌≡◌, ◌+◌, ◌-◌, ◌<◌, ◌≤
 ghost use Rattle.std.specs.List.{reduce, remove, insert};
 ghost use Rattle.vpg_report.specs.Faults.{UnlessStray};
 ghost use Rattle.vpg_office.specs.Token.{TokenView};
-ghost use Rattle.vpg_serving.specs.Answer.{IsGiven, done};
+ghost use Rattle.vpg_script.specs.Answer.{IsGiven, done};
 ghost use Rattle.vpg_report.specs.Answers.{numbered};
 ghost use Rattle.vpg_report.specs.Engine.{IsPlaceOf};
 ghost use Rattle.vpg_report.specs.Held.{undo_meant, redo_meant, harvest_kept};
@@ -15,7 +15,7 @@ use std::alloc::AllocError;
 use vpg_desk::CommitFault;
 use vpg_measure::Harvest;
 use vpg_office::{Redo, Terms, Undo};
-use vpg_serving::{ServeFault, Tone};
+use vpg_script::{ServeFault, Tone};
 
 /// Returns the place of the undo that a command means: that of the serial, or without one that of the greatest.
 pub(crate) fn undo_place<L: Terms>(undos: &[Undo<L>], serial: Option<u64>) -> Option<usize>

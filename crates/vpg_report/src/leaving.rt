@@ -5,7 +5,7 @@ ghost use Rattle.vpg_diagram.specs.FeatureDiagram.{feature_count};
 ghost use Rattle.vpg_report.specs.Engine.{between_of, scene_at};
 ghost use Rattle.vpg_report.specs.Left.{HandsOver, IsHanded, IsLeft, IsRunStopped, IsStopped, IsUnleft, plain};
 ghost use Rattle.vpg_report.specs.Run.{answering_called, called_at};
-ghost use Rattle.vpg_serving.specs.Manners.{Leaves};
+ghost use Rattle.vpg_script.specs.Manners.{Leaves};
 
 use crate::answering::Answering;
 use crate::engine::Engine;
@@ -22,8 +22,7 @@ use vpg_family::{Context, Family, Fault};
 use vpg_game::GuardedGame;
 use vpg_measure::Order;
 use vpg_office::{Site, Terms};
-use vpg_script::{Device, Failed, Sink, Source};
-use vpg_serving::{Ending, Form, Manner, RunFault, answer_script_as};
+use vpg_script::{Device, Ending, Failed, Form, Manner, RunFault, Sink, Source, answer_script_as};
 
 /// A sink that drops each answer.
 #[derive(Drop)]

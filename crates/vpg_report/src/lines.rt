@@ -2,14 +2,14 @@
 ghost use Rattle.std.specs.Prelude.{◌≡◌, ◌++◌, ◌∷◌, ◌<◌, ℕ, List, length, codes, IfOk, OnOk, IsErrOf, IsOkUnless};
 ghost use Rattle.vpg_report.specs.Answers.{full_log, numbered, own_text, refusal_text, settled_text};
 ghost use Rattle.vpg_report.specs.Engine.{IsFaultWithin, IsNamedWithin, TellsFault, own_of};
-ghost use Rattle.vpg_serving.specs.Answer.{IsGiven, done, refused};
+ghost use Rattle.vpg_script.specs.Answer.{IsGiven, done, refused};
 ghost use Rattle.vpg_texts.specs.Text.{blank_number, blank_name};
 
 use crate::fault::ClientFault;
 use thiserror::Error;
 use vpg_faults::{Refusal, Refuses};
 use vpg_guards::Names;
-use vpg_serving::{ServeFault, Tone};
+use vpg_script::{ServeFault, Tone};
 use vpg_texts::{blank_name, blank_number};
 
 /// A kind of name in a line that the game, or the diagram, lacks; or the system that a line needs and doesn't have.

@@ -11,8 +11,7 @@ use std::thread::Threads;
 use vpg_desk::OpenFault;
 use vpg_diagram::Diagram;
 use vpg_family::{Context, Family, Fault, conflict};
-use vpg_script::{Sink, Source};
-use vpg_serving::{Ending, Manner, RunFault};
+use vpg_script::{Ending, Manner, RunFault, Sink, Source};
 
 /// Returns the fault that reports a refused opening. A conflict names the root.
 pub(crate) fn not_opened(alloc: Global, diagram: &Diagram, fault: OpenFault) -> Fault

@@ -7,7 +7,7 @@ ghost use Rattle.vpg_report.specs.Server.{IsOpenRefusal};
 ghost use Rattle.vpg_report.specs.Output.{Outcome, OutcomeAs};
 ghost use Rattle.vpg_report.specs.Results.{Opens};
 ghost use Rattle.vpg_report.specs.Run.{answering, answering_called, begun, called_in};
-ghost use Rattle.vpg_serving.specs.Results.{UnlessReaderFails, UnlessWriterFails};
+ghost use Rattle.vpg_script.specs.Results.{UnlessReaderFails, UnlessWriterFails};
 ghost use Rattle.vpg_texts.specs.Scene.{scene_of};
 
 use crate::answering::Answering;
@@ -21,8 +21,7 @@ use vpg_diagram::Diagram;
 use vpg_family::Context;
 use vpg_game::GuardedGame;
 use vpg_office::{Site, Terms};
-use vpg_script::{Sink, Source};
-use vpg_serving::{Ending, Form, Manner, RunFault, answer_script_as};
+use vpg_script::{Ending, Form, Manner, RunFault, Sink, Source, answer_script_as};
 
 /// Opens an office on the game and the diagram, reads a script, and answers its lines in order, each before the next is
 /// read. A label is a session of the office. 1 to 64 lifters sweep at once, in threads of their own.

@@ -5,12 +5,12 @@ use Rattle.std.specs.List.{AllZip}
 use Rattle.std.proofs.lemmas.Bool.{cases_Bool, or_cases, or_left, or_right, eqb-true}
 use Rattle.std.proofs.lemmas.List.{length-map}
 use Rattle.std.proofs.lemmas.List.Elements.{All-cons, All-nil}
-use Rattle.vpg_players.specs.declared.player.Player.{Player}
-use Rattle.vpg_players.specs.declared.player.Player.TheVariants.{Even}
+use Rattle.vpg_sides.specs.declared.player.Player.{Player}
+use Rattle.vpg_sides.specs.declared.player.Player.TheVariants.{Even}
 use Rattle.vpg_guards.specs.Formula.{Formula as Guard, truth}
 use Rattle.vpg_guards.specs.Grammar.{either as either_guard}
 use Rattle.vpg_guards.proofs.LawProofs.{joined_guards_mean_both}
-use Rattle.vpg_edges.specs.Edges.{join_edge}
+use Rattle.vpg_game.specs.Edges.{join_edge}
 use Rattle.vpg_game.specs.Guarded.{GuardedEdge, GuardedVertex, GuardedGame}
 use Rattle.vpg_hope.specs.Games.{Game, Vertex, HasEdge, owner_of, priority_of, successors_of}
 use Rattle.vpg_hope.specs.Hope.{product_game}

@@ -3,9 +3,9 @@ use Rattle.std.proofs.Common.{◌≡◌, ℕ, zero, suc, ◌<◌, ◌⊎◌, inl
 use Rattle.std.proofs.lemmas.Bool.{cases_Bool}
 use Rattle.std.proofs.lemmas.List.{length-map, drop-map}
 use Rattle.std.proofs.lemmas.List.Elements.{All-head, All-tail, All-cons}
-use Rattle.vpg_players.specs.declared.player.Player.{Player}
-use Rattle.vpg_players.specs.declared.player.Player.TheVariants.{Even, Odd}
-use Rattle.vpg_players.specs.Players.{opponent}
+use Rattle.vpg_sides.specs.declared.player.Player.{Player}
+use Rattle.vpg_sides.specs.declared.player.Player.TheVariants.{Even, Odd}
+use Rattle.vpg_sides.specs.Players.{opponent}
 use Rattle.vpg_hope.specs.Games.{Game, Vertex, HasEdge, owner_of, priority_of, successors_of}
 use Rattle.vpg_hope.specs.Comparison.{dual_game}
 use Rattle.vpg_hope.specs.Strategies.{Strategy, Wins}

@@ -1,7 +1,7 @@
 -- The game of the small family.
 use Rattle.std.proofs.Common.{ℕ, ◌<◌, [], ◌∷◌, Bool, true, false, refl, arith}
 use Rattle.std.proofs.lemmas.List.Elements.{All-cons, All-nil}
-use Rattle.vpg_players.specs.declared.player.Player.TheVariants.{Even}
+use Rattle.vpg_sides.specs.declared.player.Player.TheVariants.{Even}
 use Rattle.vpg_guards.specs.Formula.{Formula as Guard, always as sure, feature, truth}
 use Rattle.vpg_hope.proofs.Edges.{Contains-first, not_in_nil}
 use Rattle.vpg_requirement.specs.Actions.{action}

@@ -1,8 +1,8 @@
 -- Where a requirement holds Even wins its game.
 use Rattle.std.proofs.Common.{◌≡◌, ℕ, zero, suc, ◌+◌, ◌<◌, ◌≤◌, ◌⊎◌, inl, inr, true, false, List, [], ◌∷◌, length, Option, Some, None, sym, ◌∙◌, subst, ap, Contains, arith}
 use Rattle.std.proofs.lemmas.Bool.{cases_Bool, cases_lt}
-use Rattle.vpg_players.specs.declared.player.Player.{Player}
-use Rattle.vpg_players.specs.declared.player.Player.TheVariants.{Even, Odd}
+use Rattle.vpg_sides.specs.declared.player.Player.{Player}
+use Rattle.vpg_sides.specs.declared.player.Player.TheVariants.{Even, Odd}
 use Rattle.vpg_hope.specs.Games.{Game, HasEdge, owner_of, priority_of}
 use Rattle.vpg_hope.specs.Strategies.{Strategy, AllowsMove, Wins}
 use Rattle.vpg_hope.proofs.Edges.{AreEdgesInside, edges_inside}

@@ -3,10 +3,10 @@
 -- van Loo, de Vink and Willemse), where such games are made from featured transition systems and formulas.
 use Rattle.std.specs.Prelude.{◌≡◌, ℕ, ◌<◌, ◌⊎◌, List, [], ◌∷◌, length, map, filter, ◌&&◌, ◌==◌, Bool, Contains}
 use Rattle.std.specs.List.{AllZip}
-use Rattle.vpg_players.specs.declared.player.Player.{Player}
+use Rattle.vpg_sides.specs.declared.player.Player.{Player}
 use Rattle.vpg_guards.specs.Formula.{Formula as Guard, always, truth}
 use Rattle.vpg_game.specs.Guarded.{GuardedEdge, GuardedVertex, GuardedGame}
-use Rattle.vpg_edges.specs.Edges.{join_edge}
+use Rattle.vpg_game.specs.Edges.{join_edge}
 use Rattle.vpg_requirement.specs.Actions.{ActionFormula, permits}
 use Rattle.vpg_requirement.specs.Systems.{Transition, System}
 use Rattle.vpg_requirement.specs.NormalForms.{NormalForm, met, unmet, both, either, some_step, every_step, fixpoint, variable}

@@ -3,7 +3,7 @@
 -- only the situations that can be reached. A program may make it otherwise; its game has to satisfy `IsBuiltOf`. This
 -- project's own.
 use Rattle.std.specs.Prelude.{◌≡◌, ℕ, zero, suc, ◌<◌, List, [], ◌∷◌, ◌++◌, length, map, Bool, true, false, ◌&&◌, ◌==◌, if◌then◌else◌, nat_lt, Option, Some, None}
-use Rattle.vpg_players.specs.declared.player.Player.{Player}
+use Rattle.vpg_sides.specs.declared.player.Player.{Player}
 use Rattle.vpg_guards.specs.Formula.{Formula as Guard}
 use Rattle.vpg_game.specs.Guarded.{GuardedEdge, GuardedVertex, GuardedGame}
 use Rattle.vpg_requirement.specs.Actions.{ActionFormula, every_action, action, other_than, both_of, either_of}

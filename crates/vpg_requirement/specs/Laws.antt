@@ -2,8 +2,8 @@
 -- whether the formula holds in the product's system. For plain systems and games it is that of Emerson and Jutla 1991
 -- and of Stirling 1995; for families FASE 2020's.
 use Rattle.std.specs.Prelude.{◌≡◌, ℕ, ◌<◌, ◌↔◌, List, [], length, Bool, false}
-use Rattle.vpg_players.specs.declared.player.Player.{Player}
-use Rattle.vpg_players.specs.declared.player.Player.TheVariants.{Even, Odd}
+use Rattle.vpg_sides.specs.declared.player.Player.{Player}
+use Rattle.vpg_sides.specs.declared.player.Player.TheVariants.{Even, Odd}
 use Rattle.vpg_guards.specs.Formula.{Formula as Guard, truth}
 use Rattle.vpg_diagram.specs.FeatureDiagram.{Line, IsProduct}
 use Rattle.vpg_game.specs.Guarded.{GuardedGame}

@@ -2,8 +2,8 @@
 -- of Stirling (Local model checking games, CONCUR 1995) with priorities. A situation is a state, a part of the normal
 -- form, and the fixpoints that the part stands in, innermost first; these are kept in place of names.
 use Rattle.std.specs.Prelude.{◌≡◌, ℕ, ◌<◌, List, [], ◌∷◌, length, map, drop, slice_index_or, Contains}
-use Rattle.vpg_players.specs.declared.player.Player.{Player}
-use Rattle.vpg_players.specs.declared.player.Player.TheVariants.{Even, Odd}
+use Rattle.vpg_sides.specs.declared.player.Player.{Player}
+use Rattle.vpg_sides.specs.declared.player.Player.TheVariants.{Even, Odd}
 use Rattle.vpg_hope.specs.Games.{Game, HasEdge, IsClosed, owner_of, priority_of}
 use Rattle.vpg_requirement.specs.Systems.{PlainSystem, successors}
 use Rattle.vpg_requirement.specs.Fixpoints.{Kind}

@@ -6,3 +6,7 @@ pub mod Nameless
 pub mod Unquoted
 pub mod Whole
 pub mod OneByOne
+pub mod Framed
+pub mod Given
+pub mod MannerLemmas
+pub mod ScriptLemmas

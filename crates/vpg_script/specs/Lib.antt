@@ -3,3 +3,8 @@ pub mod Devices
 pub mod Lines
 pub mod Script
 pub mod View
+pub mod Answer
+pub mod Framing
+pub mod Manners
+pub mod Output
+pub mod Results

@@ -4,8 +4,8 @@ use Rattle.std.specs.List.{list_all, list_any, prefix_len, slice_split}
 use Rattle.std.specs.Char.{is_ascii_digit}
 use Rattle.std.specs.Str.Parse.{digits_value}
 use Rattle.vpg_features.specs.Names.{starts_as_name, is_name_byte, constant_of}
-use Rattle.vpg_verdict.specs.declared.which.Which.{Which}
-use Rattle.vpg_verdict.specs.declared.which.Which.TheVariants.{Hopeful, Dual}
+use Rattle.vpg_sides.specs.declared.which.Which.{Which}
+use Rattle.vpg_sides.specs.declared.which.Which.TheVariants.{Hopeful, Dual}
 use Rattle.vpg_script.specs.declared.command.Verb.{Verb}
 use Rattle.vpg_script.specs.declared.command.Verb.TheVariants as verbs
 use Rattle.vpg_script.specs.declared.command.Claim.{Claim}

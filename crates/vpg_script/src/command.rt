@@ -13,7 +13,7 @@ use crate::words::{is_nonempty, words_of};
 use std::alloc::{AllocError, Global};
 use thiserror::Error;
 use vpg_features::is_feature_name;
-use vpg_verdict::Which;
+use vpg_sides::Which;
 
 /// The most bytes of a line before its end.
 pub const LONGEST_LINE: usize = 4096;

@@ -1,4 +1,4 @@
-//! Scripts of commands: their sources, how they are cut into lines, and the request of each line.
+//! Scripts of commands: how they are cut into lines, the request of each line, and how a script is answered.
 //!
 //! A script is read from a `Source`, a piece at a time, and `next_line` returns its next line. A line is blank, a
 //! comment, or a command with its arguments, under a label from 1 to 64 or none; `read_line` says which. The commands
@@ -13,20 +13,32 @@
 //! A vertex is named by its identifier, or by a name. `Callings` are the names of vertices, and `meant` returns the
 //! request with the identifier of each vertex in place of its name.
 //!
-//! This crate carries nothing out: the crate of serving above answers lines, to a `Sink`. `Device` makes a `Source` of
-//! each reader, and a `Sink` of each writer.
+//! This crate carries nothing out and knows no desk: a `Server` carries requests out, and what is proved here holds for
+//! each server. Each of its answers has a text, and a `Tone`: the line was carried out, was refused, or asserts what
+//! doesn't hold. `answer_script` reads a script from a `Source` line by line and writes each answer whole to a `Sink`
+//! before it reads on; `answer_script_as` also ends at the first refusal, or goes on after a line with a fault, as a
+//! `Manner` says. The manner also has the `Form` of the answers: plain, or an object of JSON a line. The result is an
+//! `Ending`, or a `RunFault` if the script was not carried out to its end. Tones decide what goes on and how a script
+//! ends: no text is read for it. `Device` makes a `Source` of each reader, and a `Sink` of each writer.
 //!
 //! The meaning of a line is defined in `specs/Script`, that of its names in `specs/Calling`, the next line of a text in
-//! `specs/Lines`, and a failed write in `specs/Devices`. All are this project's own.
+//! `specs/Lines`, and a failed write in `specs/Devices`. Answers are defined in `specs/Answer`, their forms in
+//! `specs/Framing`, the output in `specs/Output`, that of scripts in a manner in `specs/Manners`, and results in
+//! `specs/Results`. All are this project's own.
 #![tactic(auto)]
 
+mod answering;
 mod calling;
 mod command;
 mod device;
 mod exact;
+mod fault;
+mod framing;
 pub mod laws;
 mod lines;
 mod meaning;
+mod serving;
+mod tone;
 mod words;
 
 pub use calling::Callings;
@@ -36,5 +48,9 @@ pub use command::{
 };
 pub use device::{Device, Failed, Sink, Source};
 pub use exact::ExactVerdict;
+pub use fault::RunFault;
+pub use framing::Form;
 pub use lines::{MOST_READS, Next, NextFault, next_line, pass_line};
 pub use meaning::meant;
+pub use serving::{Ending, Manner, ServeFault, Server, answer_script, answer_script_as};
+pub use tone::{Tone, done};

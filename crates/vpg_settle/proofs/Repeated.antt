@@ -3,8 +3,8 @@ use Rattle.std.proofs.Common.{◌≡◌, ℕ, ◌+◌, ◌<◌, ◌≤◌, List,
 use Rattle.std.specs.Prelude.{Option, Some, None, IfSome, sum}
 use Rattle.vpg_guards.specs.Known.{kleene}
 use Rattle.vpg_game.specs.Game.{graph_of}
-use Rattle.vpg_verdict.specs.declared.which.Which.{Which}
-use Rattle.vpg_verdict.specs.declared.which.Which.TheVariants.{Hopeful, Dual}
+use Rattle.vpg_sides.specs.declared.which.Which.{Which}
+use Rattle.vpg_sides.specs.declared.which.Which.TheVariants.{Hopeful, Dual}
 use Rattle.vpg_measure.specs.Lifts.{IsProgressTable, IsBelowTable, after_rounds}
 use Rattle.vpg_measure.specs.Orders.{OrderView, HarvestView, IsOrder, IsHarvest, IsSameOrder, IsOrderAgain, IsSettledOrder, IsSettledHarvest, order_table, harvest_table, order_levels, order_arena}
 use Rattle.vpg_measure.specs.TwoGames.{levels_for, arena_for}

@@ -12,7 +12,7 @@ use std::thread::Threads;
 use vpg_board::{Gate, Predecessors, sweep_along};
 use vpg_guess::{Groundwork, harvest_by_bounds, harvest_by_bounds_at_once};
 use vpg_measure::{Harvest, Order, Table};
-use vpg_verdict::Which;
+use vpg_sides::Which;
 
 /// The greatest number of a line that asks for sweeps alone.
 pub const FEW_SWEEPS: u64 = 4;

@@ -7,8 +7,8 @@ use Rattle.vpg_parts.specs.Parts.{resolved_part}
 use Rattle.vpg_model.specs.Departures.{Departure}
 use Rattle.vpg_model.specs.Pairs.{pair_at}
 use Rattle.vpg_checking.specs.Behaviours.{Behaviour}
-use Rattle.vpg_verdict.specs.declared.which.Which.{Which}
-use Rattle.vpg_verdict.specs.declared.which.Which.TheVariants.{Hopeful, Dual}
+use Rattle.vpg_sides.specs.declared.which.Which.{Which}
+use Rattle.vpg_sides.specs.declared.which.Which.TheVariants.{Hopeful, Dual}
 use Rattle.vpg_why.specs.declared.question.Limits.{Limits}
 use Rattle.vpg_trace.specs.Answering.{HasVerdict, IsTooShort, Page, TellsWalk, walk_along}
 use Rattle.vpg_trace.specs.Texts.{state_of, step_from}

@@ -13,9 +13,9 @@ use crate::path::path_of;
 use std::alloc::{AllocError, Global};
 use vpg_checking::Behaviour;
 use vpg_measure::{Order, PageGames};
+use vpg_sides::Which;
 use vpg_system_draw::Path;
 use vpg_trace::follow;
-use vpg_verdict::Which;
 use vpg_why::{Limits, Moves, caution, winning_moves};
 
 /// Whether the page's table has the top at the vertex.

@@ -6,10 +6,10 @@
 //! tangles. One without an escape is won. The others help in the next round.
 use crate::tangles::{Member, Tangles};
 use std::alloc::{AllocError, Global};
-use vpg_players::Player;
 use vpg_regions::{
     Budget, Components, Found, Graph, Moves, PerVertex, Solution, player_of, win_cycles,
 };
+use vpg_sides::Player;
 
 /// The region of a vertex that the round has left.
 const FREE: u32 = 0;

@@ -1,7 +1,7 @@
 //! The tangles that were learnt.
 use std::alloc::{AllocError, Global};
-use vpg_players::Player;
 use vpg_regions::{Found, PerVertex};
+use vpg_sides::Player;
 
 /// A vertex of a tangle. If the tangle's player owns it, it chooses a move.
 #[derive(Clone, Copy)]

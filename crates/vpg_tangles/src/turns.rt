@@ -2,10 +2,10 @@
 //! If the recursion's first turn does not end, strongly connected components are solved one by one.
 use crate::learning::solve_by_tangles;
 use std::alloc::{AllocError, Global};
-use vpg_players::Player;
 use vpg_regions::{
     Budget, Components, Graph, Moves, Regions, Solution, solve_by_recursion, solve_by_weights,
 };
+use vpg_sides::Player;
 
 /// The number of times that the recursion may look at a whole game in its first turn, and at a component. At a small
 /// component it may look as often as the others do before their first step. Where few vertices are left of a graph it

@@ -9,8 +9,7 @@ ghost use Rattle.vpg_script.specs.Script.{number_of, largest_identifier};
 ghost use Rattle.vpg_terminal.specs.Naming.{is_within_word, first_word, behind_word, name_of, is_empty, shown_byte, quoted, beside, beside_both, is_of_move, is_of_lift, is_of_verdict, is_of_fact, is_of_vertex, is_step, labels_of, named_line, is_line_end, named_lines, is_count, named_text};
 
 use std::alloc::{AllocError, Global};
-use vpg_game::GuardedGame;
-use vpg_names::VertexNames;
+use vpg_game::{GuardedGame, VertexNames};
 use vpg_script::{Failed, Sink};
 
 /// One more than the greatest identifier: it stands for all numbers that are greater.

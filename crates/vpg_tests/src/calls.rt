@@ -12,7 +12,7 @@ use std::sync::Wait;
 use std::test::*;
 use vpg_desk::{CommitFault, DecideFault, RedoFault, ResetFault, RetractFault, UndoFault};
 use vpg_measure::{Harvest, Order};
-use vpg_verdict::Which;
+use vpg_sides::Which;
 
 /// Which of two sessions makes a call.
 #[derive(Clone, Copy)]

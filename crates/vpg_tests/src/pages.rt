@@ -2,8 +2,8 @@
 use std::alloc::Global;
 use std::fmt::{Display, Write};
 use vpg_measure::Table;
+use vpg_sides::Which;
 use vpg_trail::{Assumed, Entry, Page};
-use vpg_verdict::Which;
 
 /// A text that is written. If memory runs out this is noted, and reported once the text is whole.
 #[derive(Drop)]

@@ -23,7 +23,7 @@ use crate::line::Line;
 use crate::putting::{put_demand, put_found, put_why, put_why_lost};
 use vpg_measure::Order;
 use vpg_partial::Decision;
-use vpg_verdict::Which;
+use vpg_sides::Which;
 use vpg_why::{Aim, Limits, find, needs, why_conflict, why_known, why_lost, why_within};
 
 /// The question of a word.

@@ -9,7 +9,7 @@ use crate::putting::{put_retraction, put_verdict, put_verdicts};
 use vpg_diagram::Literal;
 use vpg_measure::Order;
 use vpg_partial::Decision;
-use vpg_verdict::Which;
+use vpg_sides::Which;
 use vpg_why::{Foresight, Limits, Shown, foresee, no_findings, verdict_shown};
 
 /// Returns whether these decisions alone make the vertex hopeless, or sure.

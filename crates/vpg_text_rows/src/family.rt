@@ -8,12 +8,11 @@ use crate::line::Line;
 use std::alloc::{AllocError, Global};
 use vpg_diagram::Diagram;
 use vpg_draw::{draw_features, draw_game};
-use vpg_game::GuardedGame;
-use vpg_names::VertexNames;
+use vpg_game::{GuardedGame, VertexNames};
 use vpg_partial::{Decision, Partial};
+use vpg_sides::Verdict;
 use vpg_system::System;
 use vpg_system_draw::{Marks, Path, Step, draw_system, reachable};
-use vpg_verdict::Verdict;
 
 /// A diagram with each form of line, to look for mistakes in games over it.
 pub(crate) const DIAGRAM: &[u8] = b"root node\nmandatory node f\nor f: g h\ngroup node 0 1: i

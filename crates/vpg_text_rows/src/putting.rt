@@ -5,7 +5,7 @@ use std::alloc::AllocError;
 use vpg_diagram::{Diagram, Literal};
 use vpg_measure::Order;
 use vpg_partial::Decision;
-use vpg_verdict::Which;
+use vpg_sides::Which;
 use vpg_why::{Demand, Example, Explanation, Forced, Found, Shown, WhyLost};
 
 /// Writes a feature with its value: `+f` or `-f`, and a blank before it.

@@ -10,7 +10,7 @@ use Rattle.vpg_measure.specs.Games.{GamesView, ArePageGames}
 use Rattle.vpg_measure.specs.TwoGames.{top_for}
 use Rattle.vpg_script.specs.Script as script
 use Rattle.vpg_trail.specs.Page.{Hopeful, Dual, Decision, literal_of}
-use Rattle.vpg_serving.specs.Answer.{Answer}
+use Rattle.vpg_script.specs.Answer.{Answer}
 use Rattle.vpg_texts.specs.Scene.{AreSettledTables, IsCounted, scene_of}
 use Rattle.vpg_texts.specs.Sights.{IsAsserted, assertion_answer}
 use Rattle.vpg_texts.specs.Text.{count_text}

@@ -6,9 +6,9 @@ use Rattle.vpg_game.specs.Game.{NamedGame, unnamed, graph_of}
 use Rattle.vpg_game.specs.Levels.{top_of}
 use Rattle.vpg_measure.specs.Games.{GamesView, games_levels}
 use Rattle.vpg_measure.specs.TwoGames.{levels_for}
-use Rattle.vpg_verdict.specs.declared.verdict.Verdict.{Verdict}
-use Rattle.vpg_verdict.specs.declared.which.Which.{Which}
-use Rattle.vpg_verdict.specs.declared.which.Which.TheVariants.{Hopeful, Dual}
+use Rattle.vpg_sides.specs.declared.verdict.Verdict.{Verdict}
+use Rattle.vpg_sides.specs.declared.which.Which.{Which}
+use Rattle.vpg_sides.specs.declared.which.Which.TheVariants.{Hopeful, Dual}
 use Rattle.vpg_texts.specs.Changed.{change_count, change_line, change_lines, same_verdicts, seen_at, verdicts_below, verdicts_by}
 
 -- the verdicts by the games of a page

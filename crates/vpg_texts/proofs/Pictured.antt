@@ -9,7 +9,7 @@ use Rattle.vpg_game.specs.Game.{NamedVertex, NamedGame, unnamed, graph_of, verte
 use Rattle.vpg_guards.specs.declared.tri.Tri.{Tri}
 use Rattle.vpg_measure.specs.Games.{GamesView, ArePageGames}
 use Rattle.vpg_measure.specs.TwoGames.{top_for}
-use Rattle.vpg_verdict.specs.declared.verdict.Verdict.{Verdict}
+use Rattle.vpg_sides.specs.declared.verdict.Verdict.{Verdict}
 use Rattle.vpg_trail.specs.Page.{Hopeful, Dual, Decision, literal_of}
 use Rattle.vpg_texts.specs.Changed.{verdict_of, verdicts_below, verdicts_by}
 use Rattle.vpg_texts.specs.Picture.{IsDrawn, named_game, named_vertices}

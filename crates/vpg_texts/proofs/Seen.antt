@@ -13,9 +13,9 @@ use Rattle.vpg_measure.specs.Games.{GamesView, ArePageGames}
 use Rattle.vpg_measure.specs.TwoGames.{arena_for, top_for}
 use Rattle.vpg_script.specs.Script as script
 use Rattle.vpg_trail.specs.Page.{Hopeful, Dual, Decision, Entry, literal_of}
-use Rattle.vpg_serving.specs.Answer.{Answer, Gives, IsDone, done_if}
-use Rattle.vpg_serving.specs.declared.tone.Tone.{Tone}
-use Rattle.vpg_serving.proofs.Given.{done_gives, done_one}
+use Rattle.vpg_script.specs.Answer.{Answer, Gives, IsDone, done_if}
+use Rattle.vpg_script.specs.declared.tone.Tone.{Tone}
+use Rattle.vpg_script.proofs.Given.{done_gives, done_one}
 use Rattle.vpg_texts.specs.Plan.{IsPlanned, PlansUnder}
 use Rattle.vpg_texts.specs.Scene.{Scene, UnderKnown, TellsUnder, IsShown, shown_lines, IsCounted, counted_lines, TellsKnown, scene_of}
 use Rattle.vpg_texts.specs.Sights.{IsAsserted, IsPlanAnswer, IsSeen, Shows, asserted_answer, named_lines}

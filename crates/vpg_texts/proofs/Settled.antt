@@ -12,8 +12,8 @@ use Rattle.vpg_diagram.specs.DiagramText.{NamedDiagram}
 use Rattle.vpg_diagram.specs.declared.clause.Literal.{Literal}
 use Rattle.vpg_hope.specs.Games.{Game}
 use Rattle.vpg_measure.specs.Games.{GamesView, ArePageGames, games_levels, games_arena}
-use Rattle.vpg_verdict.specs.declared.which.Which.{Which}
-use Rattle.vpg_verdict.specs.declared.which.Which.TheVariants.{Hopeful, Dual}
+use Rattle.vpg_sides.specs.declared.which.Which.{Which}
+use Rattle.vpg_sides.specs.declared.which.Which.TheVariants.{Hopeful, Dual}
 use Rattle.vpg_measure.specs.Lifts.{IsTableOf, IsProgressTable}
 use Rattle.vpg_measure.specs.TwoGames.{levels_for, top_for, arena_for, IsProgressOf}
 use Rattle.vpg_measure.proofs.TwoGames.{arena_length}

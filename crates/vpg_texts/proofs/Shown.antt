@@ -9,7 +9,7 @@ use Rattle.vpg_game.specs.Game.{NamedGame, graph_of, vertex_ids}
 use Rattle.vpg_game.specs.Levels.{top_of}
 use Rattle.vpg_guards.specs.Known.{AreAllKnown}
 use Rattle.vpg_measure.specs.Games.{GamesView, ArePageGames}
-use Rattle.vpg_verdict.specs.declared.which.Which.TheVariants.{Hopeful, Dual}
+use Rattle.vpg_sides.specs.declared.which.Which.TheVariants.{Hopeful, Dual}
 use Rattle.vpg_measure.specs.TwoGames.{top_for}
 use Rattle.vpg_diagram.specs.declared.clause.Literal.{Literal}
 use Rattle.vpg_partial.specs.declared.decision.Decision.{Decision}

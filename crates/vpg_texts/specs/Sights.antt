@@ -5,7 +5,7 @@ use Rattle.vpg_script.specs.declared.command.Claim.{Claim}
 use Rattle.vpg_script.specs.declared.command.Claim.TheVariants as claims
 use Rattle.vpg_script.specs.Script as script
 use Rattle.vpg_measure.specs.TwoGames.{top_for}
-use Rattle.vpg_serving.specs.Answer.{Answer, IsDone, done, failed, refused}
+use Rattle.vpg_script.specs.Answer.{Answer, IsDone, done, failed, refused}
 use Rattle.vpg_trail.specs.Page.{Hopeful, Dual, Decision, Entry}
 use Rattle.vpg_texts.specs.declared.showing.plans.PlanFault.TheVariants.{NotFull, NotSettled}
 use Rattle.vpg_texts.specs.Picture.{IsDrawn}

@@ -8,7 +8,7 @@ use crate::text::{count_line, hopeless, identifier, number};
 use std::alloc::{AllocError, Global};
 use vpg_game::GuardedGame;
 use vpg_measure::{PageGames, Table};
-use vpg_verdict::{Verdict, Which};
+use vpg_sides::{Verdict, Which};
 
 /// Each vertex of the opening page is possible and unsure.
 const UNSEEN: Verdict = Verdict {

@@ -4,16 +4,15 @@ ghost use Rattle.std.specs.List.{list_all};
 ghost use Rattle.vpg_game.specs.Game.{vertex_ids};
 ghost use Rattle.vpg_game.specs.Levels.{top_of};
 ghost use Rattle.vpg_script.specs.View.{assertion_shown, lookup_shown, vertex_shown};
-ghost use Rattle.vpg_serving.specs.Answer.{IsGiven, failed};
+ghost use Rattle.vpg_script.specs.Answer.{IsGiven, failed};
 ghost use Rattle.vpg_texts.specs.Sights.{assertion_answer, claim_text, failing_text, full_answer, has_asserted, has_vertices, holding, holds, is_open, is_vertex, named_lines, open_text, settled_answer, verdicts_answer, vertex_of};
 
 use crate::text;
 use std::alloc::AllocError;
 use vpg_game::GuardedGame;
 use vpg_measure::{PageGames, Table};
-use vpg_script::{Assertion, Claim, Lookup, Vertex};
-use vpg_serving::Tone;
-use vpg_verdict::Which;
+use vpg_script::{Assertion, Claim, Lookup, Tone, Vertex};
+use vpg_sides::Which;
 
 /// Returns the place of the vertex of an identifier.
 fn found(game: &GuardedGame, identifier: u32) -> Option<u32>

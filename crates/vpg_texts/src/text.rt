@@ -15,8 +15,8 @@ use vpg_game::GuardedGame;
 use vpg_guards::{Names, Tri};
 use vpg_measure::{PageGames, Table};
 use vpg_partial::{Decision, Partial};
+use vpg_sides::Which;
 use vpg_trail::Entry;
-use vpg_verdict::Which;
 
 /// Appends a number in decimal.
 pub(crate) fn number(n: u64, out: &mut Vec<u8>) -> Result<(), AllocError>

@@ -2,7 +2,7 @@
 use Rattle.std.proofs.Common.{◌≡◌, ℕ, zero, suc, ◌<◌, ◌⊎◌, inl, inr, Bool, List, ◌++◌, length, Option, refl, sym, ap, ◌∙◌, subst, arith, append_assoc}
 use Rattle.std.specs.Prelude.{OnOk, Result, Ok, Err}
 use Rattle.std.proofs.lemmas.Bool.{cases_eq}
-use Rattle.vpg_players.specs.declared.player.Player.TheVariants.{Even}
+use Rattle.vpg_sides.specs.declared.player.Player.TheVariants.{Even}
 use Rattle.vpg_hope.specs.Games.{Game, owner_of}
 use Rattle.vpg_hope.specs.Strategies.{Reaches, Wins}
 use Rattle.vpg_hope.specs.Strategies as plays
@@ -13,8 +13,8 @@ use Rattle.vpg_game.specs.Game.{graph_of}
 use Rattle.vpg_checking.specs.Behaviours.{Behaviour}
 use Rattle.vpg_partial.specs.TableLaws.{IsKnownTable}
 use Rattle.vpg_measure.specs.Orders.{OrderView, other_table}
-use Rattle.vpg_verdict.specs.declared.which.Which.{Which}
-use Rattle.vpg_verdict.specs.declared.which.Which.TheVariants.{Hopeful, Dual}
+use Rattle.vpg_sides.specs.declared.which.Which.{Which}
+use Rattle.vpg_sides.specs.declared.which.Which.TheVariants.{Hopeful, Dual}
 use Rattle.vpg_why.specs.Explained.{choices}
 use Rattle.vpg_why.specs.Moves.{AreWinning}
 use Rattle.vpg_why.specs.declared.question.Limits.{Limits}

@@ -8,8 +8,8 @@ use Rattle.vpg_game.specs.Guarded.{GuardedGame}
 use Rattle.vpg_partial.specs.TableLaws.{IsKnownTable}
 use Rattle.vpg_partial.specs.declared.decision.Decision.{Decision}
 use Rattle.vpg_checking.specs.Behaviours.{Behaviour}
-use Rattle.vpg_verdict.specs.declared.which.Which.{Which}
-use Rattle.vpg_verdict.specs.declared.which.Which.TheVariants.{Hopeful, Dual}
+use Rattle.vpg_sides.specs.declared.which.Which.{Which}
+use Rattle.vpg_sides.specs.declared.which.Which.TheVariants.{Hopeful, Dual}
 use Rattle.vpg_measure.specs.Orders.{OrderView, other_table}
 use Rattle.vpg_measure.specs.TwoGames.{top_for}
 use Rattle.vpg_why.specs.Explained.{choices}

@@ -1,6 +1,6 @@
 -- Laws of the reported steps, and of who wins. This project's own; products' systems after Classen et al. 2010.
 use Rattle.std.specs.Prelude.{◌≡◌, ℕ, ◌<◌, Bool, false, Option, List, length, Contains}
-use Rattle.vpg_players.specs.declared.player.Player.TheVariants.{Even}
+use Rattle.vpg_sides.specs.declared.player.Player.TheVariants.{Even}
 use Rattle.vpg_guards.specs.declared.tri.Tri.{Tri}
 use Rattle.vpg_guards.specs.Formula.{Formula as Guard, truth}
 use Rattle.vpg_diagram.specs.FeatureDiagram.{Line, IsDiagram}

@@ -1,7 +1,7 @@
 -- The meaning of a walk: a part of the tree of all plays that the moves allow. Strategies and the plays that they allow
 -- are the standard of parity games; the walk is this project's own.
 use Rattle.std.specs.Prelude.{◌≡◌, ◌≢◌, ℕ, ◌<◌, ◌≤◌, Option, Some, None, List, length}
-use Rattle.vpg_players.specs.declared.player.Player.TheVariants.{Even}
+use Rattle.vpg_sides.specs.declared.player.Player.TheVariants.{Even}
 use Rattle.vpg_hope.specs.Games.{Game}
 use Rattle.vpg_hope.specs.Strategies.{AllowsMove}
 use Rattle.vpg_measure.specs.Views.{strategy_of}

@@ -1,8 +1,8 @@
 -- A walk over the plays that moves of Even allow, with Odd moving along any edge: a depth-first search (Tarjan 1972),
 -- within bounds. This project's own.
 use Rattle.std.specs.Prelude.{◌≡◌, ℕ, zero, suc, ◌||◌, ◌==◌, nat_lt, Bool, true, false, if◌then◌else◌, Option, Some, None, List, [], ◌∷◌, ◌++◌, length, filter, position, slice_index_or}
-use Rattle.vpg_players.specs.declared.player.Player.{Player}
-use Rattle.vpg_players.specs.declared.player.Player.TheVariants.{Even, Odd}
+use Rattle.vpg_sides.specs.declared.player.Player.{Player}
+use Rattle.vpg_sides.specs.declared.player.Player.TheVariants.{Even, Odd}
 use Rattle.vpg_hope.specs.Games.{Game, owner_of, successors_of}
 use Rattle.vpg_measure.specs.Views.{strategy_of}
 use Rattle.vpg_trace.specs.declared.walking.End.{End}

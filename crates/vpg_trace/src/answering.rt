@@ -15,7 +15,7 @@ use crate::writing::{put_number, put_trace};
 use std::alloc::{AllocError, Global};
 use vpg_checking::Behaviour;
 use vpg_measure::{Order, PageGames};
-use vpg_verdict::Which;
+use vpg_sides::Which;
 use vpg_why::{Limits, Moves, caution, winning_moves};
 
 /// Whether the page's table has the top at the vertex.

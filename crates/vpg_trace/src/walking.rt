@@ -6,7 +6,7 @@ ghost use Rattle.vpg_trace.specs.Walks.{IsWalkFrom, allows, deeper, end_of, end_
 
 use std::alloc::{AllocError, Global};
 use vpg_hope::Arena;
-use vpg_players::Player;
+use vpg_sides::Player;
 
 /// The greatest number of visits in a walk.
 pub const MOST_VISITS: usize = 1_000;

@@ -5,8 +5,8 @@ use Rattle.std.proofs.lemmas.Bool.{cond-true, cond-false}
 use Rattle.std.proofs.lemmas.List.Elements.{filter-append, All-take, All-drop}
 use Rattle.std.proofs.lemmas.List.{map_push, get_or_read, map_more}
 use Rattle.std.specs.declared.sync.Arc.{Arc}
-use Rattle.vpg_verdict.specs.declared.which.Which.{Which}
-use Rattle.vpg_verdict.specs.declared.which.Which.TheVariants.{Hopeful, Dual}
+use Rattle.vpg_sides.specs.declared.which.Which.{Which}
+use Rattle.vpg_sides.specs.declared.which.Which.TheVariants.{Hopeful, Dual}
 use Rattle.vpg_trail.specs.Page.{Literal, Decision, same_table, Entry as Step, Lift as Raise, Decided, Lifted, value_at, table_of, reset, reset_all, raises, raise_to}
 use Rattle.vpg_trail.specs.Shown.{entry_of, VertexBelow, after_entry, keeps, lift_stays, what_stays, with_old, picked}
 use Rattle.vpg_trail.specs.declared.entry.Entry.{Entry}

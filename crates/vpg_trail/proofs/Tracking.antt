@@ -5,7 +5,7 @@ use Rattle.std.proofs.lemmas.List.Elements.{All-push, All-append, All-map, All-t
 use Rattle.std.proofs.Math.Seq.{drop-append_seam}
 use Rattle.vpg_measure.specs.Measures.{Shape}
 use Rattle.vpg_measure.specs.Numbers.{AreZeroMeasures}
-use Rattle.vpg_verdict.specs.declared.which.Which.TheVariants.{Hopeful, Dual}
+use Rattle.vpg_sides.specs.declared.which.Which.TheVariants.{Hopeful, Dual}
 use Rattle.vpg_trail.specs.Page.{Which, Entry as Step, table_of}
 use Rattle.vpg_trail.specs.declared.entry.Entry.{Entry}
 use Rattle.vpg_trail.specs.Shown.{entry_of, VertexBelow, IsTracked, after_entry}

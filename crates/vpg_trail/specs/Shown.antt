@@ -1,8 +1,8 @@
 -- Entries as contracts see them, and tables entry by entry.
 use Rattle.std.specs.Prelude.{ℕ, ◌≡◌, ◌<◌, Bool, not, max, slice_index, slice_set, if◌then◌else◌, List, [], ◌∷◌, length, ◌==◌, All, Option, Some, None, ⊤}
 use Rattle.std.specs.List.{list_any}
-use Rattle.vpg_verdict.specs.declared.which.Which.{Which}
-use Rattle.vpg_verdict.specs.declared.which.Which.TheVariants.{Hopeful, Dual}
+use Rattle.vpg_sides.specs.declared.which.Which.{Which}
+use Rattle.vpg_sides.specs.declared.which.Which.TheVariants.{Hopeful, Dual}
 use Rattle.vpg_trail.specs.Page.{Literal, assumes, is_free, same_table, table_of, Entry as Step, Decided, Lifted}
 use Rattle.vpg_trail.specs.WellFormed.{LiftsStandAfter}
 use Rattle.vpg_trail.specs.declared.entry.Entry.{Entry}

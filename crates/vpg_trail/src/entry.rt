@@ -7,7 +7,7 @@ use std::marker::Model;
 use std::sync::Arc;
 use vpg_diagram::Literal;
 use vpg_partial::Decision;
-use vpg_verdict::Which;
+use vpg_sides::Which;
 
 /// The decisions that a lift rests on, without their serials, in the order of the page that they were read from.
 #[derive(Drop)]

@@ -7,7 +7,7 @@ use crate::entry::{Assumed, Entry};
 use std::alloc::{AllocError, Global};
 use std::sync::Arc;
 use vpg_measure::Table;
-use vpg_verdict::Which;
+use vpg_sides::Which;
 
 /// Returns one lift for each value above the present one, in the order of the vertices: the lifts of every page that
 /// has this present table.

@@ -7,7 +7,7 @@ ghost use Rattle.vpg_trail.specs.WellFormed.{LiftsStandAfter};
 use crate::entry::Entry;
 use std::alloc::{AllocError, Global};
 use vpg_measure::Table;
-use vpg_verdict::Which;
+use vpg_sides::Which;
 
 /// Raises a value.
 fn raise(values: &mut Table, vertex: u32, new: u64)

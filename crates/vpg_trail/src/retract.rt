@@ -8,7 +8,7 @@ use crate::entry::{Assumed, Entry};
 use crate::replay::{replay, take_in};
 use std::alloc::{AllocError, Global};
 use vpg_measure::Table;
-use vpg_verdict::Which;
+use vpg_sides::Which;
 
 /// Whether a lift that assumed these decisions stays.
 fn lift_stays(under: &Assumed, feature: Option<u16>) -> bool

@@ -4,8 +4,8 @@ use crate::improve::Guess;
 use crate::subgame::{Solved, Subgame};
 use crate::values::Evaluation;
 use std::alloc::{AllocError, Global};
-use vpg_players::Player;
 use vpg_regions::{Budget, Choices, Found, PerVertex, Regions};
+use vpg_sides::Player;
 
 // Values that a table is to be raised to, and the vertices at which they exceed it.
 struct Raises {

@@ -3,8 +3,8 @@ use crate::ground::value_in;
 use crate::scale::Scale;
 use crate::subgame::{Solved, Subgame};
 use std::alloc::{AllocError, Global};
-use vpg_players::Player;
 use vpg_regions::{Budget, Found, Graph, PerVertex};
+use vpg_sides::Player;
 
 /// The values of a strategy, and the table that they lie above.
 #[derive(Drop)]

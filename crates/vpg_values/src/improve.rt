@@ -7,8 +7,8 @@ use crate::ground::{GuessGround, value_in};
 use crate::scale::Scale;
 use crate::values::Evaluation;
 use std::alloc::{AllocError, Global};
-use vpg_players::Player;
 use vpg_regions::{Budget, Choices, Found, Graph, PerVertex, Regions};
+use vpg_sides::Player;
 
 /// A guess of values, and choices. Odd's choices are those that win, at vertices with the top.
 pub struct Guess {

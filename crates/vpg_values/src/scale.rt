@@ -1,7 +1,7 @@
 //! How numbers of measures grow along the edges of a graph.
 use std::alloc::{AllocError, Global};
-use vpg_players::Player;
 use vpg_regions::PerVertex;
+use vpg_sides::Player;
 
 /// The measures by which one player wins: those of the game for Even, those of its dual for Odd.
 pub struct Scale {

@@ -1,7 +1,7 @@
 //! Games over some of a graph's vertices.
 use std::alloc::{AllocError, Global};
-use vpg_players::Player;
 use vpg_regions::{Budget, Choices, Draft, Graph, Regions};
+use vpg_sides::Player;
 use vpg_tangles::solve_regions;
 
 /// Some vertices of a graph under numbers of their own, and after them a dead end of Even, where Odd wins.

@@ -1,6 +1,6 @@
 //! Fronts, as far as sheets need them: the trait of a type that sheets may stand for.
 ghost use Rattle.std.specs.Prelude.{◌≡◌, ◌≤◌, ℕ, Bool, List};
-ghost use Rattle.vpg_verdict.specs.declared.verdict.Verdict.{Verdict};
+ghost use Rattle.vpg_sides.specs.declared.verdict.Verdict.{Verdict};
 
 /// A front: a number of first calls of some row of calls. A row only grows at its end, so of two fronts of one row one
 /// begins with the other.

@@ -4,7 +4,7 @@ ghost use Rattle.std.specs.Prelude.{◌≡◌, ◌^◌, ◌<◌};
 use crate::follows::Follows;
 use std::marker::Model;
 use std::sync::Arc;
-use vpg_verdict::Verdict;
+use vpg_sides::Verdict;
 
 /// A verdict for each vertex, in file order. Contracts see it as a list; it is a `Vec` inside, one verdict in two
 /// bytes.
@@ -15,7 +15,7 @@ pub struct Verdicts {
 
 impl Model for Verdicts {
     ghost use Rattle.std.specs.Prelude.{List};
-    ghost use Rattle.vpg_verdict.specs.declared.verdict.Verdict.{Verdict};
+    ghost use Rattle.vpg_sides.specs.declared.verdict.Verdict.{Verdict};
 
     ghost Value = { List Verdict };
 

@@ -13,7 +13,7 @@ use Rattle.vpg_partial.specs.KnownLaws.{IsRemaining}
 use Rattle.vpg_partial.specs.TableLaws.{AreChoicesOf}
 use Rattle.vpg_measure.specs.Orders.{OrderView, IsOrder, order_table}
 use Rattle.vpg_measure.specs.TwoGames.{top_for}
-use Rattle.vpg_verdict.specs.declared.which.Which.{Which}
+use Rattle.vpg_sides.specs.declared.which.Which.{Which}
 use Rattle.vpg_why.specs.declared.foreseeing.Findings.{Findings}
 use Rattle.vpg_why.specs.declared.foreseeing.Side.{Side}
 use Rattle.vpg_why.specs.declared.question.Aim.{Aim}

@@ -8,7 +8,7 @@ use Rattle.vpg_guards.proofs.Full.{full_values_decide}
 use Rattle.vpg_diagram.specs.DiagramText.{NamedDiagram, IsNamedDiagram}
 use Rattle.vpg_diagram.specs.FeatureDiagram.{feature_count}
 use Rattle.vpg_diagram.specs.declared.clause.Literal.{Literal}
-use Rattle.vpg_players.specs.declared.player.Player.{Player}
+use Rattle.vpg_sides.specs.declared.player.Player.{Player}
 use Rattle.vpg_game.specs.Game.{NamedGame, IsGame, graph_of}
 use Rattle.vpg_game.specs.Guarded.{GuardedGame, AllGuards, IsClosedGuarded}
 use Rattle.vpg_game.proofs.Graphs.{games_have_graphs, same_count}
@@ -19,8 +19,8 @@ use Rattle.vpg_hope.proofs.Guards.{same_count as hope_count}
 use Rattle.vpg_partial.specs.KnownLaws.{IsRemaining}
 use Rattle.vpg_partial.specs.TableLaws.{IsKnownTable}
 use Rattle.vpg_partial.proofs.Tables.{remaining_products_complete}
-use Rattle.vpg_verdict.specs.declared.which.Which.{Which}
-use Rattle.vpg_verdict.specs.declared.which.Which.TheVariants.{Hopeful, Dual}
+use Rattle.vpg_sides.specs.declared.which.Which.{Which}
+use Rattle.vpg_sides.specs.declared.which.Which.TheVariants.{Hopeful, Dual}
 use Rattle.vpg_measure.specs.Measures.{Top}
 use Rattle.vpg_measure.specs.Tables.{IsProgressMeasure}
 use Rattle.vpg_measure.specs.TwoGames.{levels_for, arena_for}

@@ -7,8 +7,8 @@ use Rattle.vpg_guards.specs.Formula.{Formula, truth}
 use Rattle.vpg_guards.specs.Known.{kleene}
 use Rattle.vpg_diagram.specs.DiagramText.{NamedDiagram, IsNamedDiagram}
 use Rattle.vpg_diagram.specs.declared.clause.Literal.{Literal}
-use Rattle.vpg_players.specs.declared.player.Player.{Player}
-use Rattle.vpg_players.specs.Players.{opponent}
+use Rattle.vpg_sides.specs.declared.player.Player.{Player}
+use Rattle.vpg_sides.specs.Players.{opponent}
 use Rattle.vpg_game.specs.Game.{NamedGame, IsGame, graph_of}
 use Rattle.vpg_game.specs.Guarded.{GuardedGame, IsClosedGuarded, guarded_priorities, dual}
 use Rattle.vpg_game.specs.Levels.{levels_of, top_of}
@@ -22,8 +22,8 @@ use Rattle.vpg_hope.proofs.Guards.{restrict_closed, restrict_priorities, same_co
 use Rattle.vpg_hope.proofs.Pages.{remaining_products_are_easier}
 use Rattle.vpg_partial.specs.KnownLaws.{IsRemaining}
 use Rattle.vpg_partial.specs.TableLaws.{IsKnownTable}
-use Rattle.vpg_verdict.specs.declared.which.Which.{Which}
-use Rattle.vpg_verdict.specs.declared.which.Which.TheVariants.{Hopeful, Dual}
+use Rattle.vpg_sides.specs.declared.which.Which.{Which}
+use Rattle.vpg_sides.specs.declared.which.Which.TheVariants.{Hopeful, Dual}
 use Rattle.vpg_measure.specs.Least.{IsLeastTable, IsBelowProgressTables}
 use Rattle.vpg_measure.specs.Lifts.{IsTableOf, AreChoices}
 use Rattle.vpg_measure.specs.Views.{strategy_of}

@@ -8,7 +8,7 @@ use Rattle.vpg_game.specs.declared.levels.Level.{Level}
 use Rattle.vpg_game.specs.Game.{graph_of}
 use Rattle.vpg_hope.specs.Arena.{Vertex as Node}
 use Rattle.vpg_partial.specs.TableLaws.{IsKnownTable}
-use Rattle.vpg_verdict.specs.declared.which.Which.{Which}
+use Rattle.vpg_sides.specs.declared.which.Which.{Which}
 use Rattle.vpg_measure.specs.Games.{GamesView, ArePageGames, games_arena, games_levels}
 use Rattle.vpg_measure.specs.Least.{IsBelowProgressTables}
 use Rattle.vpg_measure.specs.Lifts.{IsTableOf}

@@ -6,7 +6,7 @@ use Rattle.vpg_guards.specs.Known.{kleene}
 use Rattle.vpg_game.specs.Game.{graph_of}
 use Rattle.vpg_game.proofs.Graphs.{games_have_graphs, same_count as graph_count}
 use Rattle.vpg_partial.specs.TableLaws.{IsKnownTable}
-use Rattle.vpg_verdict.specs.declared.which.Which.{Which}
+use Rattle.vpg_sides.specs.declared.which.Which.{Which}
 use Rattle.vpg_measure.specs.Orders.{OrderView, IsOrder, order_table, other_table}
 use Rattle.vpg_measure.specs.TwoGames.{top_for}
 use Rattle.vpg_determined.specs.ProductLaws.{HasWinningMoves}

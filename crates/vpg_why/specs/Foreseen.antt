@@ -3,8 +3,8 @@ use Rattle.std.specs.Prelude.{◌≡◌, ◌≢◌, ℕ, Bool, List, Contains}
 use Rattle.vpg_diagram.specs.DiagramText.{NamedDiagram}
 use Rattle.vpg_diagram.specs.declared.clause.Literal.{Literal}
 use Rattle.vpg_game.specs.Game.{NamedGame}
-use Rattle.vpg_verdict.specs.declared.which.Which.{Which}
-use Rattle.vpg_verdict.specs.declared.which.Which.TheVariants.{Hopeful, Dual}
+use Rattle.vpg_sides.specs.declared.which.Which.{Which}
+use Rattle.vpg_sides.specs.declared.which.Which.TheVariants.{Hopeful, Dual}
 use Rattle.vpg_partial.specs.KnownLaws.{HasConflictOf, IsRemaining}
 use Rattle.vpg_partial.specs.TableLaws.{AreChoicesOf}
 use Rattle.vpg_why.specs.declared.foreseeing.Findings.{Findings}

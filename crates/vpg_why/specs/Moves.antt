@@ -6,14 +6,14 @@ use Rattle.vpg_guards.specs.Formula.{Formula, truth}
 use Rattle.vpg_guards.specs.Known.{kleene}
 use Rattle.vpg_diagram.specs.FeatureDiagram.{Line}
 use Rattle.vpg_diagram.specs.declared.clause.Literal.{Literal}
-use Rattle.vpg_players.specs.declared.player.Player.{Player}
+use Rattle.vpg_sides.specs.declared.player.Player.{Player}
 use Rattle.vpg_game.specs.Guarded.{GuardedGame}
 use Rattle.vpg_hope.specs.Games.{Game}
 use Rattle.vpg_hope.specs.Hope.{product_game, cautious_game}
 use Rattle.vpg_hope.specs.Strategies.{Strategy, Wins}
 use Rattle.vpg_partial.specs.KnownLaws.{IsRemaining}
 use Rattle.vpg_partial.specs.TableLaws.{IsKnownTable}
-use Rattle.vpg_verdict.specs.declared.which.Which.{Which}
+use Rattle.vpg_sides.specs.declared.which.Which.{Which}
 use Rattle.vpg_measure.specs.Least.{IsLeastTable}
 use Rattle.vpg_measure.specs.Lifts.{IsProgressTable, AreChoices, after_rounds}
 use Rattle.vpg_measure.specs.TwoGames.{game_for, levels_for, top_for}

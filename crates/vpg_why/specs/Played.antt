@@ -1,8 +1,8 @@
 -- The moves of a player that a play can come to. This project's own; plays and strategies are the standard of parity
 -- games.
 use Rattle.std.specs.Prelude.{◌≡◌, ◌↔◌, ℕ, true, false, Bool, Option, Some, None, List, length, slice_index_or}
-use Rattle.vpg_players.specs.declared.player.Player.{Player}
-use Rattle.vpg_players.specs.declared.player.Player.TheVariants.{Even, Odd}
+use Rattle.vpg_sides.specs.declared.player.Player.{Player}
+use Rattle.vpg_sides.specs.declared.player.Player.TheVariants.{Even, Odd}
 use Rattle.vpg_hope.specs.Games.{Game, owner_of}
 use Rattle.vpg_hope.specs.Strategies.{Reaches}
 use Rattle.vpg_measure.specs.Views.{strategy_of}

@@ -15,7 +15,7 @@ use Rattle.vpg_partial.specs.TableLaws.{AreAmong, IsKnownTable}
 use Rattle.vpg_measure.specs.Least.{IsValueBelow}
 use Rattle.vpg_measure.specs.Lifts.{IsProgressTable, after_rounds}
 use Rattle.vpg_measure.specs.TwoGames.{levels_for, arena_for, top_for, IsProgressOf}
-use Rattle.vpg_verdict.specs.declared.which.Which.{Which}
+use Rattle.vpg_sides.specs.declared.which.Which.{Which}
 use Rattle.vpg_why.specs.Products.{NoneMeetsIn}
 use Rattle.vpg_why.specs.declared.question.Aim.{Aim}
 use Rattle.vpg_why.specs.declared.question.Aim.TheVariants as aims

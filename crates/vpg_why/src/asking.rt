@@ -17,7 +17,7 @@ use std::alloc::{AllocError, Global};
 use vpg_guards::Tri;
 use vpg_measure::{Order, OrderFault, PageGames, Shape, Table, known_under};
 use vpg_partial::{Decision, Partial, PartialFault};
-use vpg_verdict::Which;
+use vpg_sides::Which;
 
 // Whether the second value of a feature is the first, if that is known.
 fn stays(known: Tri, more: Tri) -> bool

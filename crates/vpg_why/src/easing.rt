@@ -12,7 +12,7 @@ use crate::question::{Aim, Limits, Shown};
 use std::alloc::{AllocError, Global};
 use vpg_measure::{Order, PageGames};
 use vpg_partial::Decision;
-use vpg_verdict::Which;
+use vpg_sides::Which;
 
 /// Returns the other table.
 pub(crate) fn opposite(which: Which) -> Which

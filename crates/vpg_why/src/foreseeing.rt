@@ -21,7 +21,7 @@ use crate::seeking::{has, is_small};
 use std::alloc::{AllocError, Global};
 use vpg_diagram::Literal;
 use vpg_measure::Order;
-use vpg_verdict::Which;
+use vpg_sides::Which;
 
 /// The findings of a line's searches for one aim.
 #[derive(Drop)]

@@ -19,7 +19,7 @@ use vpg_guards::Tri;
 use vpg_hope::Arena;
 use vpg_measure::{Order, PageGames};
 use vpg_partial::{Decision, Partial};
-use vpg_verdict::Which;
+use vpg_sides::Which;
 
 /// Returns the decisions that are marked.
 pub(crate) fn kept_by(

@@ -25,7 +25,7 @@ use std::alloc::{AllocError, Global};
 use vpg_guards::Tri;
 use vpg_measure::{Order, PageGames};
 use vpg_partial::{Decision, Partial};
-use vpg_verdict::Which;
+use vpg_sides::Which;
 
 /// The outlook of some decisions on an aim.
 #[derive(Drop)]

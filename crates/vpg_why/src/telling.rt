@@ -18,7 +18,7 @@ use crate::seeking::is_small;
 use std::alloc::{AllocError, Global};
 use vpg_measure::Order;
 use vpg_partial::Decision;
-use vpg_verdict::Which;
+use vpg_sides::Which;
 
 /// Returns the decisions of the page that make the vertex hopeless, by the hopeful table, or sure, by the dual one, with
 /// the looks that a line has left. Returns nothing if the page's table does not have it so.

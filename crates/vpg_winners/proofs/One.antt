@@ -2,7 +2,7 @@
 use Rattle.std.proofs.Common.{◌≡◌, ◌≢◌, ℕ, zero, suc, ◌<◌, ◌⊎◌, inl, inr, Bool, true, false, List, [], ◌∷◌, ◌++◌, length, map, get_or, refl, sym, ap, ◌∙◌, subst, arith}
 use Rattle.std.specs.List.{remove}
 use Rattle.std.proofs.lemmas.Bool.{cases_order}
-use Rattle.vpg_players.specs.declared.player.Player.TheVariants.{Even, Odd}
+use Rattle.vpg_sides.specs.declared.player.Player.TheVariants.{Even, Odd}
 use Rattle.vpg_guards.specs.Formula.{Formula, truth}
 use Rattle.vpg_diagram.specs.FeatureDiagram.{Line, feature_count}
 use Rattle.vpg_diagram.specs.declared.clause.Literal.{Literal}

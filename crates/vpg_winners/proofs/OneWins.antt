@@ -1,6 +1,6 @@
 -- Who wins in the products that are left, by what two searches found.
 use Rattle.std.proofs.Common.{ℕ, ◌<◌, ◌⊎◌, inl, inr, Bool, List, length, sym, subst, ◌∙◌}
-use Rattle.vpg_players.specs.declared.player.Player.TheVariants.{Even, Odd}
+use Rattle.vpg_sides.specs.declared.player.Player.TheVariants.{Even, Odd}
 use Rattle.vpg_guards.specs.Formula.{Formula, truth}
 use Rattle.vpg_diagram.specs.DiagramText.{NamedDiagram}
 use Rattle.vpg_diagram.specs.declared.clause.Literal.{Literal}
@@ -14,7 +14,7 @@ use Rattle.vpg_why.specs.declared.searching.Found.{Found}
 use Rattle.vpg_why.specs.declared.searching.Found.TheVariants as founds
 use Rattle.vpg_why.specs.Found.{IsFound, IsFoundExact}
 use Rattle.vpg_why.specs.Products.{NoneMeets}
-use Rattle.vpg_verdict.specs.declared.which.Which.TheVariants.{Hopeful, Dual}
+use Rattle.vpg_sides.specs.declared.which.Which.TheVariants.{Hopeful, Dual}
 use Rattle.vpg_winners.specs.Decided.{WinsProduct, WinsEach, NoneRemains, IsDecidedAs, IsDecidedExact, decided_by}
 
 module _ (game : NamedGame) (diagram : NamedDiagram) (choices : List Literal) (vertex : ℕ) (is : IsGame game)

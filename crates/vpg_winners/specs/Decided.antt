@@ -1,8 +1,8 @@
 -- The winner at a vertex in the products that choices leave. Products: Schobbens et al. 2007; winning: the standard of
 -- parity games.
 use Rattle.std.specs.Prelude.{ℕ, ⊤, Bool, List, IsTrue}
-use Rattle.vpg_players.specs.declared.player.Player.{Player}
-use Rattle.vpg_players.specs.declared.player.Player.TheVariants.{Even, Odd}
+use Rattle.vpg_sides.specs.declared.player.Player.{Player}
+use Rattle.vpg_sides.specs.declared.player.Player.TheVariants.{Even, Odd}
 use Rattle.vpg_guards.specs.Formula.{Formula, truth}
 use Rattle.vpg_diagram.specs.FeatureDiagram.{Line}
 use Rattle.vpg_diagram.specs.declared.clause.Literal.{Literal}

@@ -9,7 +9,7 @@ ghost use Rattle.vpg_winners.specs.Decided.{IsDecidedAs, IsDecidedExact, decided
 use std::alloc::{AllocError, Global};
 use vpg_measure::Order;
 use vpg_partial::Decision;
-use vpg_verdict::Which;
+use vpg_sides::Which;
 use vpg_why::{Aim, Example, Found, Limits, Question, search_all};
 
 /// The winner at a vertex in the products that are left.

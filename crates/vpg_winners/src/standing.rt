@@ -10,7 +10,7 @@ use crate::parts::Winner;
 use std::alloc::{AllocError, Global};
 use vpg_measure::{Order, PageGames};
 use vpg_partial::Decision;
-use vpg_verdict::Which;
+use vpg_sides::Which;
 use vpg_why::{Limits, Outlook, games_with, look_at_games};
 
 /// The standing of a vertex under some decisions.

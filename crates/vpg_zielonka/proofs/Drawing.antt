@@ -1,8 +1,8 @@
 -- One step after another of an attractor, in the game of one product.
 use Rattle.std.proofs.Common.{◌≡◌, ℕ, ◌⊎◌, inl, inr, ◌↔◌, Bool, true, false, ◌||◌, refl, sym, ◌∙◌, subst}
 use Rattle.std.proofs.lemmas.Bool.{cases_eq, cases_Bool}
-use Rattle.vpg_players.specs.declared.player.Player.{Player}
-use Rattle.vpg_players.specs.Players.{opponent}
+use Rattle.vpg_sides.specs.declared.player.Player.{Player}
+use Rattle.vpg_sides.specs.Players.{opponent}
 use Rattle.vpg_hope.specs.Games.{Game, HasEdge, owner_of, successors_of}
 use Rattle.vpg_hope.proofs.Reach.{cases_player}
 use Rattle.vpg_determined.proofs.Masks.{Decided, Mask, In, Out, is_in, search_list}

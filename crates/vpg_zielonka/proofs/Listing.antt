@@ -5,7 +5,7 @@ use Rattle.std.proofs.lemmas.List.{get_or_append_left, get_or_default}
 use Rattle.std.proofs.Math.Seq.{get_or-append_seam}
 use Rattle.vpg_guards.specs.Formula.{Formula, truth, IsBelow}
 use Rattle.vpg_features.specs.Index.{NotesAlso}
-use Rattle.vpg_edges.specs.Edges.{GuardedEdge}
+use Rattle.vpg_game.specs.Edges.{GuardedEdge}
 use Rattle.vpg_game.specs.Guarded.{GuardedGame}
 use Rattle.vpg_game.specs.Game.{NamedGame, IsGame, graph_of, vertex_in, unnamed, no_vertex}
 use Rattle.vpg_game.proofs.Graphs.{games_have_graphs}

@@ -1,9 +1,9 @@
 -- Whether two players are the same.
 use denote.Enum.Bare.{sameb}
 use Rattle.std.proofs.Common.{◌≡◌, true, false, refl}
-use Rattle.vpg_players.specs.contracts.player.Player.{the_type}
-use Rattle.vpg_players.specs.declared.player.Player.{Player}
-use Rattle.vpg_players.specs.declared.player.Player.TheVariants.{Even, Odd}
+use Rattle.vpg_sides.specs.contracts.player.Player.{the_type}
+use Rattle.vpg_sides.specs.declared.player.Player.{Player}
+use Rattle.vpg_sides.specs.declared.player.Player.TheVariants.{Even, Odd}
 
 pub player_same : (a b : Player) → true ≡ sameb the_type a b → a ≡ b
 player_same Even Even e = refl

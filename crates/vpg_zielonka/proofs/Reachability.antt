@@ -2,7 +2,7 @@
 use Rattle.std.proofs.Common.{◌≡◌, ℕ, zero, suc, ◌+◌, ◌<◌, ◌≤◌, ◌⊎◌, inl, inr, List, [], ◌∷◌, Bool, true, false, ◌&&◌, nat_lt, length, get_or, set, replicate, sym, ◌∙◌, ap, subst, refl, arith}
 use Rattle.std.proofs.lemmas.Bool.{cases_eq, cases_lt, lt-ltb, le-ltb}
 use Rattle.vpg_guards.specs.Formula.{Formula}
-use Rattle.vpg_edges.specs.Edges.{GuardedEdge, no_edge}
+use Rattle.vpg_game.specs.Edges.{GuardedEdge, no_edge}
 use Rattle.vpg_game.specs.Game.{vertex_in}
 use Rattle.vpg_game.specs.Guarded.{GuardedGame}
 use Rattle.vpg_zielonka.specs.Attractors.{Vertices}

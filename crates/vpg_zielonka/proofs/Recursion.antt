@@ -1,9 +1,9 @@
 -- The loop of the recursion, in the game of one product: what is given away, and the part that goes on.
 use Rattle.std.proofs.Common.{◌≡◌, ℕ, ◌<◌, ◌≤◌, ◌⊎◌, inl, inr, Bool, true, false, not, ◌&&◌, ◌||◌, refl, sym, ◌∙◌, ap, subst, None, arith}
 use Rattle.std.proofs.lemmas.Bool.{cases_eq, cases_Bool}
-use Rattle.vpg_players.specs.declared.player.Player.{Player}
-use Rattle.vpg_players.specs.declared.player.Player.TheVariants.{Even, Odd}
-use Rattle.vpg_players.specs.Players.{WinsAt, opponent}
+use Rattle.vpg_sides.specs.declared.player.Player.{Player}
+use Rattle.vpg_sides.specs.declared.player.Player.TheVariants.{Even, Odd}
+use Rattle.vpg_sides.specs.Players.{WinsAt, opponent}
 use Rattle.vpg_hope.specs.Games.{Game, priority_of}
 use Rattle.vpg_hope.proofs.Reach.{cases_player}
 use Rattle.vpg_determined.proofs.Masks.{Mask, In, Out}

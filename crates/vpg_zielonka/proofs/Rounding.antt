@@ -1,7 +1,7 @@
 -- The steps of a round, in all products at once: from the sets that the calls return to the facts in each product.
 use Rattle.std.proofs.Common.{◌≡◌, ℕ, List, Bool, false, not, ◌&&◌, ◌||◌, length, refl, sym, ◌∙◌, ap, subst}
-use Rattle.vpg_players.specs.declared.player.Player.{Player}
-use Rattle.vpg_players.specs.Players.{opponent}
+use Rattle.vpg_sides.specs.declared.player.Player.{Player}
+use Rattle.vpg_sides.specs.Players.{opponent}
 use Rattle.vpg_guards.specs.Formula.{Formula}
 use Rattle.vpg_game.specs.Guarded.{GuardedGame}
 use Rattle.vpg_hope.proofs.Dual.{opponent_twice}

@@ -1,7 +1,7 @@
 -- Vertices without a move, in the game of one product: who moves there loses.
 use Rattle.std.proofs.Common.{◌≡◌, ℕ, ◌<◌, sym, ◌∙◌, None}
-use Rattle.vpg_players.specs.declared.player.Player.{Player}
-use Rattle.vpg_players.specs.Players.{opponent}
+use Rattle.vpg_sides.specs.declared.player.Player.{Player}
+use Rattle.vpg_sides.specs.Players.{opponent}
 use Rattle.vpg_hope.specs.Games.{Game, priority_of}
 use Rattle.vpg_hope.proofs.Reach.{not_opponent}
 use Rattle.vpg_determined.proofs.Masks.{Mask, In}

@@ -3,7 +3,7 @@ use Rattle.std.proofs.Common.{◌≡◌, ℕ, ◌+◌, ◌<◌, ◌⊎◌, inl, 
 use Rattle.std.proofs.lemmas.Bool.{cases_eq}
 use Rattle.std.proofs.lemmas.List.{get_or_append_left}
 use Rattle.std.proofs.Math.Seq.{get_or-append_seam}
-use Rattle.vpg_players.specs.declared.player.Player.{Player}
+use Rattle.vpg_sides.specs.declared.player.Player.{Player}
 use Rattle.vpg_guards.specs.Formula.{Formula}
 use Rattle.vpg_game.specs.Guarded.{GuardedGame}
 use Rattle.vpg_game.specs.Game.{vertex_in}

@@ -1,8 +1,8 @@
 -- A round of the recursion, in the game of one product: who has the parity of the greatest priority wins everywhere, or
 -- what the opponent wins in the rest it wins in the whole.
 use Rattle.std.proofs.Common.{◌≡◌, ℕ, ◌<◌, ◌≤◌, ◌⊎◌, inl, inr, false, refl, sym, ◌∙◌, subst, Option, Some, None}
-use Rattle.vpg_players.specs.declared.player.Player.{Player}
-use Rattle.vpg_players.specs.Players.{WinsAt, opponent}
+use Rattle.vpg_sides.specs.declared.player.Player.{Player}
+use Rattle.vpg_sides.specs.Players.{WinsAt, opponent}
 use Rattle.vpg_hope.specs.Games.{Game, HasEdge, owner_of, priority_of}
 use Rattle.vpg_hope.specs.Strategies.{Strategy}
 use Rattle.vpg_hope.proofs.Dual.{opponent_twice}

@@ -1,6 +1,6 @@
 -- Who wins a set of a part of a game that no edge leads out of has a strategy that wins from its vertices.
 use Rattle.std.proofs.Common.{ℕ, ◌⊎◌, inl, inr}
-use Rattle.vpg_players.specs.declared.player.Player.{Player}
+use Rattle.vpg_sides.specs.declared.player.Player.{Player}
 use Rattle.vpg_hope.specs.Games.{Game, HasEdge, priority_of}
 use Rattle.vpg_hope.specs.Strategies.{Strategy, AllowsMove, Reaches, Walk, Wins, here, onward, move, moves}
 use Rattle.vpg_determined.specs.Determined.{HasWin}

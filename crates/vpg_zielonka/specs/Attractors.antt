@@ -1,8 +1,8 @@
 -- The vertices of a part of a game from which a player draws each play into a set. Zielonka 1998; that a vertex may
 -- have no move is this project's own.
 use Rattle.std.specs.Prelude.{◌≡◌, ℕ, Bool, true, not, ◌&&◌, ◌||◌, ◌↔◌}
-use Rattle.vpg_players.specs.declared.player.Player.{Player}
-use Rattle.vpg_players.specs.Players.{opponent}
+use Rattle.vpg_sides.specs.declared.player.Player.{Player}
+use Rattle.vpg_sides.specs.Players.{opponent}
 use Rattle.vpg_hope.specs.Games.{Game, HasEdge, owner_of}
 
 -- a set of vertices, as a test

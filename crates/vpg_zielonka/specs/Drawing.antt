@@ -1,7 +1,7 @@
 -- One step after another of an attractor, in the game of one product. Zielonka 1998.
 use Rattle.std.specs.Prelude.{◌≡◌, ℕ, ◌⊎◌, true, false}
-use Rattle.vpg_players.specs.declared.player.Player.{Player}
-use Rattle.vpg_players.specs.Players.{opponent}
+use Rattle.vpg_sides.specs.declared.player.Player.{Player}
+use Rattle.vpg_sides.specs.Players.{opponent}
 use Rattle.vpg_hope.specs.Games.{Game, HasEdge, owner_of}
 use Rattle.vpg_zielonka.specs.Attractors.{Vertices, Attracted}
 

@@ -1,7 +1,7 @@
 -- The vertices that plays from a vertex can come to. This project's own.
 use Rattle.std.specs.Prelude.{◌≡◌, ℕ, ◌<◌, ◌⊎◌, List, Bool, true, false, length, slice_set, slice_index_or}
 use Rattle.vpg_guards.specs.Formula.{Formula}
-use Rattle.vpg_edges.specs.Edges.{GuardedEdge}
+use Rattle.vpg_game.specs.Edges.{GuardedEdge}
 use Rattle.vpg_game.specs.Game.{vertex_in}
 use Rattle.vpg_game.specs.Guarded.{GuardedGame}
 use Rattle.vpg_hope.specs.Games.{HasEdge}

@@ -1,7 +1,7 @@
 -- One round of the recursion of Zielonka 1998, in the game of each product (FASE 2020).
 use Rattle.std.specs.Prelude.{◌≡◌, ℕ, Bool, true, false, ◌&&◌, not}
-use Rattle.vpg_players.specs.declared.player.Player.{Player}
-use Rattle.vpg_players.specs.Players.{opponent}
+use Rattle.vpg_sides.specs.declared.player.Player.{Player}
+use Rattle.vpg_sides.specs.Players.{opponent}
 use Rattle.vpg_hope.specs.Games.{Game, HasEdge, owner_of, priority_of}
 use Rattle.vpg_zielonka.specs.Attractors.{Vertices, IsAttractor, IsRest, IsJoined}
 

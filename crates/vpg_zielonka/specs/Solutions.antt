@@ -1,7 +1,7 @@
 -- Who wins where in a part of a game. Zielonka 1998.
 use Rattle.std.specs.Prelude.{◌≡◌, ℕ, true}
-use Rattle.vpg_players.specs.declared.player.Player.{Player}
-use Rattle.vpg_players.specs.Players.{opponent}
+use Rattle.vpg_sides.specs.declared.player.Player.{Player}
+use Rattle.vpg_sides.specs.Players.{opponent}
 use Rattle.vpg_hope.specs.Games.{Game}
 use Rattle.vpg_hope.specs.Strategies.{Strategy}
 use Rattle.vpg_determined.proofs.Dominions.{IsDominion}

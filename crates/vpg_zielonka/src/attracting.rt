@@ -14,8 +14,8 @@ use crate::stop::{Stop, take_steps};
 use crate::worklist::Worklist;
 use std::alloc::{AllocError, Global};
 use vpg_game::GuardedGame;
-use vpg_players::Player;
 use vpg_sets::{Set, Sets, SetsFault};
+use vpg_sides::Player;
 
 /// The steps for a vertex that is looked at: sets are made for its edges.
 const OF_A_VERTEX: u64 = 64;

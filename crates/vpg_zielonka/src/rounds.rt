@@ -1,6 +1,6 @@
 //! The steps of one round: the greatest priority, its vertices, and what has no move.
 ghost use Rattle.std.specs.Prelude.{◌≡◌, ℕ, ◌<◌, ◌≤◌, List, Bool, true, false, IfOk, IfErr, IfSome, IfNone, ◌⊎◌, Some, length};
-ghost use Rattle.vpg_players.specs.Players.{WinsAt};
+ghost use Rattle.vpg_sides.specs.Players.{WinsAt};
 ghost use Rattle.vpg_game.specs.Game.{graph_of};
 ghost use Rattle.vpg_hope.specs.Games.{priority_of};
 ghost use Rattle.vpg_sets.specs.Sets.{IsGrown, IsTrueFault};
@@ -13,8 +13,8 @@ use crate::edges::Edges;
 use crate::parts::{push, same_for_all};
 use std::alloc::{AllocError, Global};
 use vpg_game::GuardedGame;
-use vpg_players::Player;
 use vpg_sets::{Set, Sets, SetsFault};
+use vpg_sides::Player;
 
 /// Returns the player that wins a play whose greatest recurring priority is this one.
 pub(crate) fn winner_at(priority: u32) -> Player

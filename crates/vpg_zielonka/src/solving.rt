@@ -1,6 +1,6 @@
 //! The recursion over the greatest priority.
 ghost use Rattle.std.specs.Prelude.{◌≡◌, ℕ, ◌<◌, ◌≤◌, ◌⊎◌, List, Bool, true, false, IfOk, IfErr, IfSome, IfNone, length};
-ghost use Rattle.vpg_players.specs.Players.{WinsAt, opponent};
+ghost use Rattle.vpg_sides.specs.Players.{WinsAt, opponent};
 ghost use Rattle.vpg_game.specs.Game.{graph_of};
 ghost use Rattle.vpg_hope.specs.Games.{priority_of};
 ghost use Rattle.vpg_sets.specs.Sets.{IsGrown, IsInside, has};
@@ -21,8 +21,8 @@ use crate::stop::{Stop, take_steps};
 use crate::winners::{Division, Winners};
 use std::alloc::{AllocError, Global};
 use vpg_game::GuardedGame;
-use vpg_players::Player;
 use vpg_sets::{Set, Sets};
+use vpg_sides::Player;
 
 /// Returns the part without what the player draws to its vertices of a priority.
 fn below_tops(

@@ -1,6 +1,6 @@
 //! The products that each player wins, for each vertex.
 ghost use Rattle.std.specs.Prelude.{◌≡◌, ℕ, ◌<◌, List, Bool, false, IfOk, IfErr, length};
-ghost use Rattle.vpg_players.specs.Players.{opponent};
+ghost use Rattle.vpg_sides.specs.Players.{opponent};
 ghost use Rattle.vpg_sets.specs.Sets.{IsGrown, IsTrueFault};
 ghost use Rattle.vpg_zielonka.specs.Attractors.{IsJoined};
 ghost use Rattle.vpg_zielonka.specs.Parts.{AreSets, part_in, set_at};
@@ -8,8 +8,8 @@ ghost use Rattle.vpg_zielonka.specs.Winners.{sets_of, wins_in, AreWinners};
 
 use crate::parts::{joined, same_for_all};
 use std::alloc::Global;
-use vpg_players::Player;
 use vpg_sets::{Set, Sets, SetsFault};
+use vpg_sides::Player;
 
 /// Products, divided by who wins in them from a vertex.
 #[derive(Clone, Copy, Debug, PartialEq, Eq)]

@@ -4,7 +4,7 @@ use std::sync::Wait;
 use std::sync::atomic::{AtomicU64, Ordering};
 use std::thread::yield_now;
 use vpg_office::{Front, Terms, read};
-use vpg_verdict::Verdict;
+use vpg_sides::Verdict;
 use vpg_watch::Watch;
 
 /// The number of times that a session looks whether the watcher has read its call.

@@ -12,7 +12,7 @@ use vpg_diagram::Diagram;
 use vpg_game::GuardedGame;
 use vpg_measure::Order;
 use vpg_scarce::{End, Finding, Heap, MOST_TRIES, Report, more};
-use vpg_verdict::Which;
+use vpg_sides::Which;
 
 /// More memory than a sweep by two lifters takes, hints and all.
 const PLENTY: usize = 1 << 16;

@@ -9,8 +9,8 @@ use std::sync::Wait;
 use vpg_measure::{Harvest, Order};
 use vpg_office::{Fault, Front, Office, Returned, Terms, read};
 use vpg_scarce::{End, is_same_page};
+use vpg_sides::Which;
 use vpg_trail::Page;
-use vpg_verdict::Which;
 use vpg_watch::Watch;
 
 /// A session's seat, and the answers to its calls.

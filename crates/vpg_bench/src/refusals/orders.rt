@@ -16,7 +16,7 @@ use vpg_game::GuardedGame;
 use vpg_measure::{Harvest, Order, OrderFault, Refused, Table};
 use vpg_partial::Decision;
 use vpg_scarce::{End, Heap, Report};
-use vpg_verdict::Which;
+use vpg_sides::Which;
 
 /// Drops an order. A function that does so itself takes the prover seconds.
 pub(crate) fn let_go(_order: Order) {}

@@ -21,9 +21,9 @@ use vpg_game::GuardedGame;
 use vpg_measure::{Shape, Table};
 use vpg_partial::{Partial, PartialFault};
 use vpg_scarce::{End, Finding, Heap, MOST_TRIES, Report, more};
+use vpg_sides::Which;
 use vpg_texts::{PlanFault, count, plan, products, show, trail};
 use vpg_trail::{Assumed, Decisions, Entries, Entry, Page};
-use vpg_verdict::Which;
 
 /// A text of a page.
 #[derive(Clone, Copy)]

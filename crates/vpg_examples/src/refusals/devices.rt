@@ -7,7 +7,7 @@ use std::sync::Wait;
 use std::thread::Threads;
 use vpg_report::RunFault;
 use vpg_scarce::{Heap, MOST_TRIES, more};
-use vpg_serving::Ending;
+use vpg_script::Ending;
 
 /// A script that decides, settles and shows.
 const SCRIPT: &[u8] = b"exclude f\nsettle\nshow\ntrail\n";

@@ -6,7 +6,7 @@ use std::sync::Wait;
 use std::thread::Threads;
 use vpg_report::RunFault;
 use vpg_scarce::{Finding, Heap, MOST_TRIES, Report, more};
-use vpg_serving::Ending;
+use vpg_script::Ending;
 
 /// A line for each command.
 const SCRIPT: &[u8] = b"\

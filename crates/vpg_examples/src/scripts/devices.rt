@@ -10,8 +10,7 @@ use std::sync::Wait;
 use std::thread::Threads;
 use vpg_desk::OpenFault;
 use vpg_report::RunFault;
-use vpg_script::LineFault;
-use vpg_serving::Ending;
+use vpg_script::{Ending, LineFault};
 
 /// Gives `#` and a line feed in turn, one byte a call, a number of times or for ever.
 #[derive(Drop)]

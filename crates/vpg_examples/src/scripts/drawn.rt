@@ -8,7 +8,7 @@ use std::sync::Wait;
 use std::thread::Threads;
 use vpg_family::{Fault, Known, Subject, Texts, drawn, line_of};
 use vpg_report::{DIAGRAM, drawn_after, system_drawn_after, traced_after};
-use vpg_serving::Ending;
+use vpg_script::Ending;
 
 /// The subject of a row's picture.
 #[derive(Clone, Copy)]

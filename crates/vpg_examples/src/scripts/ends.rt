@@ -7,8 +7,7 @@ use std::sync::Wait;
 use std::thread::Threads;
 use vpg_family::{Fault, Known, Texts, line_of};
 use vpg_report::{DIAGRAM, End, GAME, end_of, refused_line, run_script};
-use vpg_script::Device;
-use vpg_serving::{Ending, Manner};
+use vpg_script::{Device, Ending, Manner};
 
 /// A family, a script, and the text on standard output, or else on standard error.
 struct Row {

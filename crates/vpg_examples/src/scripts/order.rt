@@ -7,7 +7,7 @@ use std::io::{Read, Write};
 use std::sync::Wait;
 use std::sync::atomic::{AtomicU64, Ordering};
 use std::thread::Threads;
-use vpg_serving::Ending;
+use vpg_script::Ending;
 
 const SCRIPT: &[u8] = b"exclude f\n# none\nsettle\n\nshow\n";
 

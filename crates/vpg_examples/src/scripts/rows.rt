@@ -8,7 +8,7 @@ use std::fmt::Write;
 use std::sync::Wait;
 use std::thread::Threads;
 use vpg_report::{DIAGRAM, GAME};
-use vpg_serving::Ending;
+use vpg_script::Ending;
 
 /// A game of one vertex that Even wins.
 const DOT: &str = "0 0 0 0;";

@@ -7,7 +7,7 @@ use std::io::Read;
 use std::sync::Wait;
 use std::thread::Threads;
 use vpg_report::RunFault;
-use vpg_serving::{Ending, Manner};
+use vpg_script::{Ending, Manner};
 
 /// Appends a line, or a number of `#`; or answers that there was no memory.
 fn put_line(alloc: Global, line: &str, out: &mut Vec<u8>) -> bool {

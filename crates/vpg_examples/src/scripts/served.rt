@@ -4,8 +4,9 @@ use crate::devices::{Gives, Takes, then_fails, whole};
 use std::alloc::Global;
 use std::sync::Wait;
 use std::thread::Threads;
-use vpg_script::{Command, Device, LineFault, Request};
-use vpg_serving::{RunFault, ServeFault, Server, Tone, answer_script};
+use vpg_script::{
+    Command, Device, LineFault, Request, RunFault, ServeFault, Server, Tone, answer_script,
+};
 
 /// Returns the refusal of a command that needs a token or a harvest.
 fn refusal(command: &Command<'_>) -> Result<&'static [u8], ServeFault> {
@@ -26,7 +27,7 @@ struct Refuser;
 impl Server for Refuser {
     ghost use Rattle.std.specs.Prelude.{◌≡◌, true, []};
     ghost use Rattle.vpg_report.specs.Run.{Between, begun};
-    ghost use Rattle.vpg_serving.specs.Answer.{is_refusal};
+    ghost use Rattle.vpg_script.specs.Answer.{is_refusal};
     ghost use Rattle.vpg_texts.specs.Scene.{Scene as OfScene};
 
     ghost Scene = { OfScene };

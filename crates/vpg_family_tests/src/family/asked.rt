@@ -9,7 +9,7 @@ use crate::said::Said;
 use std::alloc::{AllocError, Global};
 use std::test::*;
 use vpg_family::{Family, Fault, Pictured, Subject, Texts, drawn, linted, system_drawn};
-use vpg_names::VertexNames;
+use vpg_game::VertexNames;
 use vpg_script::{Device, Sink};
 use vpg_terminal::named_text;
 

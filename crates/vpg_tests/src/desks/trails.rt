@@ -12,11 +12,11 @@ use std::test::*;
 use vpg_diagram::Literal;
 use vpg_measure::{Shape, Table};
 use vpg_partial::Decision;
+use vpg_sides::Which;
 use vpg_trail::{
     Assumed, Decisions, Entries, Entry, Trail, decided, decisions_among, kept_after, lifts,
     place_of,
 };
-use vpg_verdict::Which;
 
 const OUT: Decision = Decision {
     serial: 1,

@@ -16,8 +16,8 @@ use vpg_measure::{
     Certificate, Order, Outcome, Shape, StrategyFault, Table, is_progress, lift, lifts,
     raise_to_bounds, settle_alone, strategy,
 };
-use vpg_verdict::Which;
-use vpg_verdict::Which::{Dual, Hopeful};
+use vpg_sides::Which;
+use vpg_sides::Which::{Dual, Hopeful};
 
 /// A question to a copy of one of an order's tables, and the answer.
 #[derive(Clone, Copy)]

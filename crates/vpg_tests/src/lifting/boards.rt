@@ -11,7 +11,7 @@ use std::test::*;
 use std::thread::{Threads, join};
 use vpg_board::{Board, Seat};
 use vpg_measure::{Harvest, Order};
-use vpg_verdict::Which;
+use vpg_sides::Which;
 
 /// The work of a board's opening seat.
 #[derive(Clone, Copy)]

@@ -13,7 +13,7 @@ use vpg_board::{Gate, OpenGate};
 use vpg_guess::Groundwork;
 use vpg_measure::{Harvest, Order};
 use vpg_settle::{LAST_SWEEPS, MANY_SWEEPS, swept};
-use vpg_verdict::Which::Hopeful;
+use vpg_sides::Which::Hopeful;
 
 /// The number of vertices that climb. They have odd priorities of their own, so the top is 2^61.
 pub(crate) const CLIMBING: u32 = 61;

@@ -16,8 +16,8 @@ use vpg_board::{Gate, OpenGate, sweep};
 use vpg_guess::{Groundwork, harvest_by_bounds, harvest_by_bounds_at_once};
 use vpg_measure::{Harvest, Order};
 use vpg_settle::swept;
-use vpg_verdict::Which;
-use vpg_verdict::Which::{Dual, Hopeful};
+use vpg_sides::Which;
+use vpg_sides::Which::{Dual, Hopeful};
 
 /// The way to raise an order.
 #[derive(Clone, Copy)]

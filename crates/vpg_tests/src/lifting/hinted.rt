@@ -16,8 +16,8 @@ use std::thread;
 use std::thread::Threads;
 use vpg_board::{Board, Gate, Predecessors, Seat, sweep, sweep_along};
 use vpg_measure::{Harvest, Order};
-use vpg_verdict::Which;
-use vpg_verdict::Which::{Dual, Hopeful};
+use vpg_sides::Which;
+use vpg_sides::Which::{Dual, Hopeful};
 
 /// Three vertices of Even in a ring, of priority 1: the top of the first table is 4, that of the second is 1.
 const RING: &[u8] = b"0 1 0 1; 1 1 0 2; 2 1 0 0;";

@@ -7,7 +7,7 @@ use crate::lifting::given::{decisions_of, let_go, order_of, small};
 use std::process::Abort;
 use std::test::*;
 use vpg_measure::{Order, OrderFault, Refused};
-use vpg_verdict::Which;
+use vpg_sides::Which;
 
 /// Whether one of an order's games has top 2, and this priority and these kept edges at vertex 1.
 fn has_game(order: &Order, which: Which, priority: u32, kept: &[u32]) -> bool {

@@ -14,7 +14,7 @@ use vpg_board::{Gate, OpenGate};
 use vpg_guess::Groundwork;
 use vpg_measure::{Harvest, Order};
 use vpg_settle::{FEW_SWEEPS, LAST_SWEEPS, MANY_SWEEPS, swept};
-use vpg_verdict::Which::{Dual, Hopeful};
+use vpg_sides::Which::{Dual, Hopeful};
 
 /// The number of even priorities in a game whose dual climbs, each of one vertex.
 const LEVELS: u32 = 20;

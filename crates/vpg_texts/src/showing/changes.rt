@@ -9,8 +9,8 @@ use crate::changed;
 use std::alloc::{AllocError, Global};
 use vpg_game::GuardedGame;
 use vpg_measure::{PageGames, Table};
+use vpg_sides::{Verdict, Which};
 use vpg_trail::Page;
-use vpg_verdict::{Verdict, Which};
 
 /// Returns each vertex's verdict by two tables, in file order. The tables have one number for each vertex, and the
 /// games are those of this game: no guard and no edge is looked at.

@@ -16,8 +16,8 @@ use std::alloc::{AllocError, Global};
 use vpg_diagram::Diagram;
 use vpg_game::GuardedGame;
 use vpg_measure::PageGames;
+use vpg_sides::Which;
 use vpg_trail::Page;
-use vpg_verdict::Which;
 
 /// Appends the counts of a page as `count` does, over the games that its decisions leave: no guard is looked at. The
 /// mark ends the last line.

@@ -9,7 +9,7 @@ ghost use Rattle.vpg_measure.specs.TwoGames.{top_for};
 ghost use Rattle.vpg_partial.specs.Known.{literal_of};
 ghost use Rattle.vpg_partial.specs.TableLaws.{AreChoicesOf};
 ghost use Rattle.vpg_script.specs.View.{assertion_shown, lookup_shown, vertex_shown};
-ghost use Rattle.vpg_serving.specs.Answer.{Gives};
+ghost use Rattle.vpg_script.specs.Answer.{Gives};
 ghost use Rattle.vpg_texts.specs.Scene.{EntryIsWithin, scene_of};
 ghost use Rattle.vpg_texts.specs.Sights.{IsAsserted, IsPlanAnswer, IsSeen, has_asserted, has_vertices, is_vertex, named_lines};
 
@@ -24,10 +24,9 @@ use std::alloc::{AllocError, Global};
 use vpg_diagram::Diagram;
 use vpg_game::GuardedGame;
 use vpg_measure::PageGames;
-use vpg_script::{Assertion, Lookup, Vertex};
-use vpg_serving::{Tone, done};
+use vpg_script::{Assertion, Lookup, Tone, Vertex, done};
+use vpg_sides::Which;
 use vpg_trail::Page;
-use vpg_verdict::Which;
 
 /// Appends the lines of some vertices, as `show` has them.
 fn vertices_over(

@@ -18,8 +18,8 @@ use vpg_diagram::Diagram;
 use vpg_game::GuardedGame;
 use vpg_measure::{PageGames, Table, is_progress};
 use vpg_partial::Decision;
+use vpg_sides::Which;
 use vpg_trail::Page;
-use vpg_verdict::Which;
 
 /// Whether no lift raises one of the two tables.
 pub(crate) fn is_settled_table(games: &PageGames, which: Which, table: &Table) -> bool

@@ -11,9 +11,8 @@ use crate::showing::changes::verdicts_over;
 use std::alloc::{AllocError, Global};
 use vpg_diagram::Diagram;
 use vpg_draw::draw_game;
-use vpg_game::GuardedGame;
+use vpg_game::{GuardedGame, VertexNames};
 use vpg_measure::PageGames;
-use vpg_names::VertexNames;
 use vpg_trail::Page;
 
 /// Appends the picture of a page's game, over the games that its decisions leave: its decisions, the verdicts by its

@@ -20,8 +20,8 @@ use thiserror::Error;
 use vpg_diagram::Diagram;
 use vpg_game::GuardedGame;
 use vpg_measure::{PageGames, StrategyFault, Table, strategy};
+use vpg_sides::Which;
 use vpg_trail::Page;
-use vpg_verdict::Which;
 
 /// Why a page has no plan.
 #[derive(Clone, Copy, Debug, PartialEq, Eq, Error)]

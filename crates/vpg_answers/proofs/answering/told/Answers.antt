@@ -1,7 +1,7 @@
 use Rattle.std.proofs.lemmas.Grind.{common_steps}
 use Rattle.std.proofs.Common.{sym, subst, arith}
-use Rattle.vpg_serving.specs.Answer.{Answer, Gives}
-use Rattle.vpg_serving.proofs.Given.{done_gives, if_ok}
+use Rattle.vpg_script.specs.Answer.{Answer, Gives}
+use Rattle.vpg_script.proofs.Given.{done_gives, if_ok}
 use Rattle.vpg_texts.specs.Scene.{scene_of}
 use Rattle.vpg_answers.specs.Answers.{IsAnswer, Tells, TellsOfPage, TellsOfVertex}
 use Rattle.vpg_answers.specs.declared.query.Query.{Query}

@@ -1,5 +1,5 @@
 use Rattle.std.proofs.Common.{codes}
-use Rattle.vpg_serving.proofs.Given.{if_ok}
+use Rattle.vpg_script.proofs.Given.{if_ok}
 use Rattle.vpg_script.specs.declared.exact.ExactVerdict.TheVariants as exacts
 use Rattle.vpg_answers.specs.Asserted.{exact_answer, failing}
 use Rattle.vpg_answers.proofs.Asserted.{found_won, found_lost, found_mixed, told_empty, told_exact, told_open}

@@ -1,5 +1,5 @@
 use Rattle.std.specs.Arc.{arc_value}
-use Rattle.vpg_serving.proofs.Given.{done_gives}
+use Rattle.vpg_script.proofs.Given.{done_gives}
 use Rattle.vpg_texts.specs.Scene.{IsCounted, scene_of}
 use Rattle.vpg_answers.specs.Looked.{IsCountAnswer}
 use Rattle.vpg_answers.proofs.Looked.{counts_left}

@@ -1,7 +1,7 @@
 use Rattle.std.proofs.Common.{codes, refl, sym, ◌∙◌}
 use Rattle.std.specs.Arc.{arc_value}
 use Rattle.vpg_script.specs.View.{lookup_shown}
-use Rattle.vpg_serving.proofs.Given.{if_ok}
+use Rattle.vpg_script.proofs.Given.{if_ok}
 use Rattle.vpg_texts.specs.Scene.{scene_of}
 use Rattle.vpg_answers.specs.Asserted.{failing}
 use Rattle.vpg_answers.specs.declared.looking.Left.TheVariants as lefts

@@ -1,6 +1,6 @@
 use Rattle.std.proofs.lemmas.Grind.{common_steps}
 use Rattle.std.proofs.Common.{true, false, arith, inl, inr, refl}
-use Rattle.vpg_serving.proofs.Given.{done_gives, if_ok}
+use Rattle.vpg_script.proofs.Given.{done_gives, if_ok}
 use Rattle.vpg_texts.proofs.Shown.{on_ok}
 use Rattle.vpg_texts.specs.Scene.{scene_of}
 use Rattle.vpg_answers.specs.Answers.{TellsFeature, TellsKnownBy}

@@ -1,5 +1,5 @@
 use Rattle.std.proofs.Common.{◌<◌, sym, subst}
-use Rattle.vpg_verdict.specs.declared.which.Which.TheVariants.{Hopeful}
+use Rattle.vpg_sides.specs.declared.which.Which.TheVariants.{Hopeful}
 use Rattle.vpg_measure.proofs.OrderLemmas.{table_count}
 use Rattle.vpg_answers.proofs.repairs.is_hopeless.Goals as goal
 

@@ -1,6 +1,6 @@
 use Rattle.std.proofs.Common.{◌≡◌, length}
 use Rattle.std.specs.Arc.{arc_value}
-use Rattle.vpg_verdict.specs.declared.which.Which.TheVariants.{Hopeful, Dual}
+use Rattle.vpg_sides.specs.declared.which.Which.TheVariants.{Hopeful, Dual}
 use Rattle.vpg_bench.proofs.family.order_of.Goals as goal
 
 count : (c : goal.In_ok-dual) → c.vertices-vertices.result ≡ length (arc_value c.args.game).vertices

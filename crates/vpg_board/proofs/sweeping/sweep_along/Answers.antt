@@ -1,7 +1,7 @@
 use Rattle.std.proofs.Common.{ℕ, ◌+◌, ◌<◌, ◌≤◌, subst}
 use Rattle.std.specs.Prelude.{slice_index, sum}
 use Rattle.vpg_hope.specs.Arena.{vertex_at}
-use Rattle.vpg_verdict.specs.declared.which.Which.{Which}
+use Rattle.vpg_sides.specs.declared.which.Which.{Which}
 use Rattle.vpg_measure.specs.Lifts.{lift_of, IsBelowTable}
 use Rattle.vpg_measure.specs.Orders.{OrderView, IsSameOrder, IsSettledHarvest, order_levels, order_arena, order_table, harvest_table}
 use Rattle.vpg_board.specs.Places.{vertices}

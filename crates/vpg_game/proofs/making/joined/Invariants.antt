@@ -1,6 +1,6 @@
 use Rattle.std.proofs.Common.{◌≡◌, ◌++◌, []}
 use Rattle.vpg_game.specs.Game.{joined_edges, AllHeld}
-use Rattle.vpg_edges.specs.Edges.{ArePlaces}
+use Rattle.vpg_game.specs.Edges.{ArePlaces}
 use Rattle.vpg_game.proofs.making.joined.Given as goal
 
 abbrev pub invariant-loop-successor : goal.invariant-loop-successor

@@ -1,7 +1,7 @@
 use Rattle.std.proofs.Common.{◌≡◌, ℕ, List, ◌++◌, get_or, ap, ap₂, ◌∙◌}
 use Rattle.vpg_guards.specs.Formula.{Formula}
 use Rattle.vpg_features.proofs.Noted.{any_default}
-use Rattle.vpg_edges.specs.Edges.{GuardedEdge}
+use Rattle.vpg_game.specs.Edges.{GuardedEdge}
 use Rattle.vpg_game.specs.Game.{NamedVertex, no_vertex}
 use Rattle.vpg_game.specs.Naming.{features_named}
 use Rattle.vpg_game.proofs.NamingSteps.{named_at, naming_none, naming_more, naming_whole}

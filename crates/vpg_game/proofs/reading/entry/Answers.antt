@@ -2,7 +2,7 @@ use Rattle.std.proofs.Common.{sym, ap, ◌∙◌, arith, Some}
 use Rattle.std.proofs.lemmas.Grind.{common_steps}
 use Rattle.std.proofs.lemmas.Result.{err_from_is_err_and}
 use Rattle.vpg_guards.specs.Reading.{◌>>=◌, after_sign}
-use Rattle.vpg_players.specs.declared.player.Player.{Player}
+use Rattle.vpg_sides.specs.declared.player.Player.{Player}
 use Rattle.vpg_game.specs.Reading.{after_name, ended_entry}
 use Rattle.vpg_game.proofs.Steps.{fails_within, fails_from, bind_is, within_some, behind_id, behind_priority, behind_owner, entry_end, entry_is, entry_has_id, entry_has_priority, entry_has_owner, entry_has_successors}
 use Rattle.vpg_game.proofs.reading.entry.Goals as goal

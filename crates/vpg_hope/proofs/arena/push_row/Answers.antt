@@ -2,7 +2,7 @@ use Rattle.std.proofs.lemmas.Grind.{common_steps}
 use Rattle.std.proofs.Common.{List, All, length, length-append, sym, ap, subst, arith}
 use Rattle.vpg_guards.specs.Formula.{Formula, IsBelow}
 use Rattle.vpg_game.specs.Guarded.{GuardedEdge}
-use Rattle.vpg_kept.specs.Selection.{features_under, kept_under}
+use Rattle.vpg_hope.specs.Kept.{features_under, kept_under}
 use Rattle.vpg_hope.proofs.Selected.{guards_named, priority_fits, kept_few}
 use Rattle.vpg_hope.proofs.arena.push_row.Goals as goal
 

@@ -1,6 +1,6 @@
 use Rattle.std.proofs.Common.{ℕ, List, get_or, subst}
 use Rattle.vpg_guards.specs.Formula.{Formula as Guard}
-use Rattle.vpg_edges.specs.Edges.{GuardedEdge}
+use Rattle.vpg_game.specs.Edges.{GuardedEdge}
 use Rattle.vpg_game.specs.Game.{no_vertex}
 use Rattle.vpg_model.specs.Sharpening.{AreSharpSuccessors}
 use Rattle.vpg_model.proofs.SharpGames.{readable_at, id_at}

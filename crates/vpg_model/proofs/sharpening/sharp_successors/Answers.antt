@@ -1,6 +1,6 @@
 use Rattle.std.proofs.Common.{subst}
 use Rattle.vpg_guards.specs.Formula.{Formula as Guard}
-use Rattle.vpg_edges.specs.Edges.{GuardedEdge}
+use Rattle.vpg_game.specs.Edges.{GuardedEdge}
 use Rattle.vpg_model.specs.Sharpening.{IsSharpSuccessor}
 use Rattle.vpg_model.proofs.SharpGames.{zip_more}
 use Rattle.vpg_model.proofs.sharpening.sharp_successors.Goals as goal

@@ -2,7 +2,7 @@ use Rattle.std.proofs.Common.{◌∙◌, sym}
 use Rattle.vpg_desk.specs.Book.{Order}
 use Rattle.vpg_faults.specs.Refusals.{never_refused}
 use Rattle.vpg_script.specs.View.{inquiry_shown}
-use Rattle.vpg_serving.proofs.Given.{if_ok}
+use Rattle.vpg_script.proofs.Given.{if_ok}
 use Rattle.vpg_report.specs.Engine.{own_of}
 use Rattle.vpg_report.proofs.Asked.{both_on}
 use Rattle.vpg_report.proofs.Inquired.{ask_answers, full_answers, missing_answers, within_order}

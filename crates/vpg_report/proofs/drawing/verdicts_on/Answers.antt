@@ -9,7 +9,7 @@ use Rattle.vpg_measure.proofs.OrderLemmas.{table_count}
 use Rattle.vpg_texts.specs.Changed.{verdicts_by}
 use Rattle.vpg_texts.proofs.Pictured.{verdict_each}
 use Rattle.vpg_trail.specs.Page.{Hopeful, Dual}
-use Rattle.vpg_verdict.specs.declared.verdict.Verdict.{Verdict}
+use Rattle.vpg_sides.specs.declared.verdict.Verdict.{Verdict}
 use Rattle.vpg_report.proofs.drawing.verdicts_on.Goals as goal
 
 pub verdicts_by-requires-clause-levels : goal.verdicts_by-requires-clause-levels

@@ -1,6 +1,6 @@
 use Rattle.std.proofs.Common.{Option, None, List, ℕ, subst}
 use Rattle.std.specs.Prelude.{IfErr, IfOk}
-use Rattle.vpg_serving.specs.Manners.{Leaves}
+use Rattle.vpg_script.specs.Manners.{Leaves}
 use Rattle.vpg_report.specs.Engine.{between_of, scene_at}
 use Rattle.vpg_report.specs.Left.{plain, IsStopped}
 use Rattle.vpg_report.specs.Run.{answering_called, called_at}

@@ -2,7 +2,7 @@ use Rattle.std.specs.Arc.{arc_value}
 use Rattle.std.proofs.Common.{Some, inl, subst}
 use Rattle.std.proofs.lemmas.Result.{err_from_is_err_and}
 use Rattle.vpg_diagram.specs.DiagramText.{NamedDiagram}
-use Rattle.vpg_serving.specs.declared.fault.RunFault.TheVariants as stops
+use Rattle.vpg_script.specs.declared.fault.RunFault.TheVariants as stops
 use Rattle.vpg_report.specs.Runs.{TellsOpening}
 use Rattle.vpg_report.proofs.Left.{left_on_copies, of_copies, root_of, unleft_full, unleft_memory, unleft_opening}
 use Rattle.vpg_report.proofs.leaving.page_after.Goals as goal

@@ -2,7 +2,7 @@ use Rattle.std.proofs.Common.{Err, subst, ◌∙◌}
 use Rattle.std.specs.Arc.{arc_value}
 use Rattle.std.proofs.lemmas.Result.{err_from_is_err_and}
 use Rattle.vpg_diagram.specs.DiagramText.{NamedDiagram}
-use Rattle.vpg_serving.specs.declared.fault.RunFault.{RunFault}
+use Rattle.vpg_script.specs.declared.fault.RunFault.{RunFault}
 use Rattle.vpg_report.specs.Runs.{TellsOpening, Ends}
 use Rattle.vpg_report.proofs.RunEnds.{nothing_ran, run_of_opening}
 use Rattle.vpg_report.proofs.running.run_script.Goals as goal

@@ -3,9 +3,9 @@ use Rattle.std.specs.Arc.{arc_value}
 use Rattle.vpg_texts.specs.Scene.{scene_of}
 use Rattle.vpg_report.specs.Server.{IsOpenRefusal}
 use Rattle.vpg_report.specs.Run.{answering, begun}
-use Rattle.vpg_serving.specs.declared.framing.Form.TheVariants.{Plain}
-use Rattle.vpg_serving.specs.declared.serving.Ending.{Ending}
-use Rattle.vpg_serving.specs.declared.fault.RunFault.TheVariants as stops
+use Rattle.vpg_script.specs.declared.framing.Form.TheVariants.{Plain}
+use Rattle.vpg_script.specs.declared.serving.Ending.{Ending}
+use Rattle.vpg_script.specs.declared.fault.RunFault.TheVariants as stops
 use Rattle.vpg_report.proofs.Results.{not_stopped, outcome_done, outcome_stopped, stopped_alike}
 use Rattle.vpg_report.proofs.runs.run.Goals as goal
 

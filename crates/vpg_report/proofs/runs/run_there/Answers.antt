@@ -1,8 +1,8 @@
 use Rattle.std.proofs.Common.{[], subst}
 use Rattle.std.specs.Arc.{arc_value}
 use Rattle.std.specs.Io.KnownBytes.{prepend_known}
-use Rattle.vpg_serving.specs.Manners.{MannerOutcome}
-use Rattle.vpg_serving.proofs.MannerLemmas.{went_nothing}
+use Rattle.vpg_script.specs.Manners.{MannerOutcome}
+use Rattle.vpg_script.proofs.MannerLemmas.{went_nothing}
 use Rattle.vpg_report.specs.Engine.{EngineState, between_of, scene_at}
 use Rattle.vpg_report.specs.Server.{IsOpenRefusal}
 use Rattle.vpg_report.specs.Run.{answering_called, begun, called_at, called_in}

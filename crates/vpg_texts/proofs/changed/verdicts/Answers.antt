@@ -1,6 +1,6 @@
 use Rattle.std.proofs.Common.{◌≡◌, ◌++◌, ◌∷◌, [], ℕ, List, length, sym, ap₂, ◌∙◌, subst, add-one}
 use Rattle.vpg_game.specs.Levels.{top_of}
-use Rattle.vpg_verdict.specs.declared.verdict.Verdict.{Verdict}
+use Rattle.vpg_sides.specs.declared.verdict.Verdict.{Verdict}
 use Rattle.vpg_texts.specs.Changed.{verdicts_below}
 use Rattle.vpg_texts.proofs.Pieces.{reached}
 use Rattle.vpg_texts.proofs.changed.verdicts.Goals as goal

@@ -1,7 +1,7 @@
 use Rattle.std.proofs.Common.{◌<◌, ℕ, length, sym, subst, arith, ◌∙◌}
 use Rattle.vpg_features.proofs.Noted.{any_default}
 use Rattle.vpg_hope.specs.Strategies.{AllowsMove}
-use Rattle.vpg_players.specs.declared.player.Player.{Player}
+use Rattle.vpg_sides.specs.declared.player.Player.{Player}
 use Rattle.vpg_why.specs.Searched.{AreNoted}
 use Rattle.vpg_measure.specs.Views.{strategy_of}
 use Rattle.vpg_why.proofs.SearchSteps.{searching_begun, nothing_next, visited_next, searched, queued_inside, searched_plays}

@@ -1,5 +1,5 @@
 use Rattle.std.proofs.Common.{length}
-use Rattle.vpg_players.specs.declared.player.Player.{Player}
+use Rattle.vpg_sides.specs.declared.player.Player.{Player}
 use Rattle.vpg_hope.specs.Strategies.{AllowsMove}
 use Rattle.vpg_measure.specs.Views.{strategy_of}
 use Rattle.vpg_why.proofs.SearchSteps.{IsSearching}

@@ -1,5 +1,5 @@
 use Rattle.std.proofs.Common.{◌≤◌, ℕ, List, refl, sym, subst, arith}
-use Rattle.vpg_verdict.specs.declared.which.Which.{Which}
+use Rattle.vpg_sides.specs.declared.which.Which.{Which}
 use Rattle.vpg_measure.specs.Orders.{OrderView, IsOrder, IsRaised, order_table}
 use Rattle.vpg_bench.proofs.refusals.orders.own_table.Goals as goal
 

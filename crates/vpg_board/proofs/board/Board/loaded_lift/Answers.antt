@@ -1,6 +1,6 @@
 use Rattle.std.proofs.Common.{◌≡◌, ℕ, ◌+◌, ◌<◌, ◌≤◌, length, List, ◌++◌, ◌∷◌, [], refl, sym, ap, ◌∙◌, subst, arith, get_or, All}
 use Rattle.vpg_game.specs.declared.levels.Level.{Level}
-use Rattle.vpg_players.specs.declared.player.Player.{Player}
+use Rattle.vpg_sides.specs.declared.player.Player.{Player}
 use Rattle.vpg_game.specs.Levels.{top_of}
 use Rattle.vpg_hope.specs.Arena.{Vertex, vertex_at}
 use Rattle.vpg_measure.specs.Lifts.{best_for}

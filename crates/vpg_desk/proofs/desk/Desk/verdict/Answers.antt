@@ -1,7 +1,7 @@
 use Rattle.std.proofs.Common.{◌≡◌, ◌∙◌, ◌==◌, subst}
 use Rattle.std.specs.Arc.{arc_value}
 use Rattle.vpg_game.specs.Game.{graph_of}
-use Rattle.vpg_players.specs.declared.player.Player.{Player}
+use Rattle.vpg_sides.specs.declared.player.Player.{Player}
 use Rattle.vpg_measure.specs.TwoGames.{top_for}
 use Rattle.vpg_trail.specs.Page.{Hopeful, Dual, value_at}
 use Rattle.vpg_desk.specs.Book.{Verdict, VerdictIs, IsReply}

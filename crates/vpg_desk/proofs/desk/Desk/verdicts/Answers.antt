@@ -5,7 +5,7 @@ use mathlib.Core.Option.{some}
 use Rattle.vpg_game.proofs.Graphs.{same_count}
 use Rattle.vpg_trail.specs.Page.{Hopeful, Dual}
 use Rattle.vpg_trail.proofs.PageLemmas.{length-table_of}
-use Rattle.vpg_verdict.specs.declared.verdict.Verdict.{Verdict as Said}
+use Rattle.vpg_sides.specs.declared.verdict.Verdict.{Verdict as Said}
 use Rattle.vpg_desk.specs.Book.{Verdict, VerdictIs}
 use Rattle.vpg_desk.specs.DeskFields.{desk_of}
 use Rattle.vpg_desk.specs.State.{DeskState, Replies}

@@ -2,7 +2,7 @@ use Rattle.std.proofs.Common.{◌∙◌, ap}
 use Rattle.vpg_formula.specs.EntryCode.{earlier_of}
 use Rattle.vpg_diagram.specs.DiagramText.{NamedDiagram}
 use Rattle.vpg_game.specs.Game.{NamedGame, vertex_ids}
-use Rattle.vpg_names.specs.Spelled.{Told}
+use Rattle.vpg_game.specs.SpelledNames.{Told}
 use Rattle.vpg_family.specs.Called.{callings_of}
 use Rattle.vpg_family.proofs.Models.{spelled_there}
 use Rattle.vpg_family.proofs.known.Known.read.Goals as goal

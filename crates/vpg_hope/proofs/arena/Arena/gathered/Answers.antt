@@ -5,11 +5,11 @@ use Rattle.std.proofs.lemmas.Result.{IfOk-weaker}
 use Rattle.std.proofs.lemmas.List.Elements.{All-push}
 use Rattle.vpg_guards.specs.Formula.{Formula}
 use Rattle.vpg_features.proofs.Noted.{any_default}
-use Rattle.vpg_players.specs.declared.player.Player.{Player}
+use Rattle.vpg_sides.specs.declared.player.Player.{Player}
 use Rattle.vpg_game.specs.Guarded.{GuardedEdge, GuardedGame}
 use Rattle.vpg_game.specs.Game.{graph_of, vertex_in}
 use Rattle.vpg_game.proofs.Graphs.{same_count, graph_at}
-use Rattle.vpg_kept.specs.Selection.{kept_under, owner_under, priority_under}
+use Rattle.vpg_hope.specs.Kept.{kept_under, owner_under, priority_under}
 use Rattle.vpg_hope.specs.Selection.{vertex_under}
 use Rattle.vpg_hope.specs.Arena.{Vertex, InLists}
 use Rattle.vpg_hope.proofs.Rows.{ranges_in_shared}

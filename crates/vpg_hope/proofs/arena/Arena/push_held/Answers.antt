@@ -3,7 +3,7 @@ use Rattle.std.proofs.Common.{List, All, sym, subst, arith}
 use Rattle.vpg_guards.specs.Formula.{Formula, IsBelow}
 use Rattle.vpg_game.specs.Guarded.{GuardedEdge}
 use Rattle.vpg_game.proofs.Graphs.{same_count}
-use Rattle.vpg_kept.specs.Selection.{features_under}
+use Rattle.vpg_hope.specs.Kept.{features_under}
 use Rattle.vpg_hope.proofs.Selected.{guards_named}
 use Rattle.vpg_hope.proofs.arena.Arena.push_held.Goals as goal
 

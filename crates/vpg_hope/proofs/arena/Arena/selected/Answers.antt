@@ -4,11 +4,11 @@ use Rattle.std.proofs.lemmas.List.{length_push, take_all}
 use Rattle.std.proofs.lemmas.Result.{IfOk-weaker}
 use Rattle.std.proofs.lemmas.List.Elements.{All-push}
 use Rattle.vpg_guards.specs.Formula.{Formula, IsBelow}
-use Rattle.vpg_players.specs.declared.player.Player.{Player}
+use Rattle.vpg_sides.specs.declared.player.Player.{Player}
 use Rattle.vpg_game.specs.Guarded.{GuardedEdge, GuardedGame}
 use Rattle.vpg_game.specs.Game.{graph_of, vertex_in}
 use Rattle.vpg_game.proofs.Graphs.{same_count}
-use Rattle.vpg_kept.specs.Selection.{features_under, kept_under, owner_under, priority_under}
+use Rattle.vpg_hope.specs.Kept.{features_under, kept_under, owner_under, priority_under}
 use Rattle.vpg_hope.specs.Selection.{vertex_under}
 use Rattle.vpg_hope.specs.Arena.{InLists}
 use Rattle.vpg_hope.proofs.Rows.{ranges_in_shared}

@@ -4,7 +4,7 @@ use Rattle.std.proofs.lemmas.List.{length-map}
 use Rattle.vpg_game.specs.Game.{NamedVertex, graph_of}
 use Rattle.vpg_game.proofs.Graphs.{same_count}
 use Rattle.vpg_hope.specs.Selection.{vertex_under}
-use Rattle.vpg_kept.specs.declared.selection.Selection.TheVariants.{Product}
+use Rattle.vpg_hope.specs.declared.selection.Selection.TheVariants.{Product}
 use Rattle.vpg_hope.proofs.plain.PlainGame.of.Goals as goal
 
 pub invariant_of-result : goal.invariant_of-result

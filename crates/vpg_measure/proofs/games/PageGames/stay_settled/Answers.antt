@@ -6,7 +6,7 @@ use Rattle.vpg_hope.specs.Unmarked.{AreSameUnmarked}
 use Rattle.vpg_measure.specs.Games.{games_levels, games_arena}
 use Rattle.vpg_measure.specs.Lifts.{IsProgressTable}
 use Rattle.vpg_measure.specs.TwoGames.{arena_for}
-use Rattle.vpg_verdict.specs.declared.which.Which.TheVariants.{Hopeful, Dual}
+use Rattle.vpg_sides.specs.declared.which.Which.TheVariants.{Hopeful, Dual}
 use Rattle.vpg_measure.proofs.Staying.{table_stays, marks_count, unmarked_stays, both_by_second, both_by_first}
 use Rattle.vpg_measure.proofs.games.PageGames.stay_settled.Goals as goal
 use Rattle.vpg_measure.proofs.games.PageGames.stay_settled.Goals.{then-stays, else-stays}

@@ -1,6 +1,6 @@
 use Rattle.std.proofs.Common.{sym, subst, arith, map, ◌∙◌}
 use Rattle.std.proofs.lemmas.Grind.{common_steps}
-use Rattle.vpg_verdict.specs.declared.which.Which.TheVariants.{Hopeful, Dual}
+use Rattle.vpg_sides.specs.declared.which.Which.TheVariants.{Hopeful, Dual}
 use Rattle.vpg_measure.specs.Games.{GamesView, AreGamesOf}
 use Rattle.vpg_measure.specs.GamesFields.{games_of}
 use Rattle.vpg_partial.specs.Known.{literal_of}

@@ -1,6 +1,6 @@
 use Rattle.std.proofs.Common.{ap, sym, subst, ◌∙◌}
 use Rattle.std.proofs.lemmas.Bool.{false≢true}
-use Rattle.vpg_verdict.specs.declared.which.Which.TheVariants.{Hopeful, Dual}
+use Rattle.vpg_sides.specs.declared.which.Which.TheVariants.{Hopeful, Dual}
 use Rattle.vpg_measure.specs.Orders.{OrderView, harvest_of, harvest_table, IsHarvest}
 use Rattle.vpg_measure.proofs.OrderLemmas.{filled, filled_room, harvest_made, harvest_room, own_lawful}
 use Rattle.vpg_measure.proofs.harvest.Harvest.of_order.Goals as goal

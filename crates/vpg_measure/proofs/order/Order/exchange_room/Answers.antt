@@ -2,7 +2,7 @@ use Rattle.std.proofs.Common.{sym, subst}
 use Rattle.std.proofs.lemmas.Bool.{false≢true}
 use Rattle.vpg_guards.specs.Known.{kleene}
 use Rattle.vpg_game.specs.Game.{graph_of}
-use Rattle.vpg_verdict.specs.declared.which.Which.{Which}
+use Rattle.vpg_sides.specs.declared.which.Which.{Which}
 use Rattle.vpg_measure.specs.OrderFields.{order_of}
 use Rattle.vpg_measure.specs.Orders.{OrderView, order_room}
 use Rattle.vpg_measure.specs.TwoGames.{IsTableBelow}

@@ -1,5 +1,5 @@
 use Rattle.std.proofs.Common.{◌≡◌, ◌∙◌, ◌≤◌, ℕ, true, refl, sym, subst}
-use Rattle.vpg_verdict.specs.declared.which.Which.{Which}
+use Rattle.vpg_sides.specs.declared.which.Which.{Which}
 use Rattle.vpg_measure.specs.Orders.{order_table, harvest_table}
 use Rattle.vpg_desk.specs.Book.{Order, Ordered, Commit, Added, Settled}
 use Rattle.vpg_desk.specs.Commit.{handed_in}

@@ -1,5 +1,5 @@
 use Rattle.std.proofs.Common.{List, ℕ}
-use Rattle.vpg_verdict.specs.declared.which.Which.{Which}
+use Rattle.vpg_sides.specs.declared.which.Which.{Which}
 use Rattle.vpg_measure.specs.Lifts.{IsTableOf, IsBelowTable, IsProgressTable}
 use Rattle.vpg_measure.specs.Orders.{OrderView, IsOrder, IsRaised, order_table, order_levels, order_arena}
 use Rattle.vpg_tests.proofs.lifting.asks.settled.Goals as goal

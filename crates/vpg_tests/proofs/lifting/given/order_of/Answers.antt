@@ -1,5 +1,5 @@
 use Rattle.std.specs.Arc.{arc_value}
-use Rattle.vpg_verdict.specs.declared.which.Which.TheVariants.{Hopeful, Dual}
+use Rattle.vpg_sides.specs.declared.which.Which.TheVariants.{Hopeful, Dual}
 use Rattle.vpg_tests.proofs.lifting.given.order_of.Goals as goal
 
 pub of-requires-2-clause-hopeful : goal.of-requires-2-clause-hopeful

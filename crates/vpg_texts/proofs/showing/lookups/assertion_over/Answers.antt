@@ -1,11 +1,11 @@
 use Rattle.std.proofs.Common.{◌++◌, ℕ, List, refl, ap, ◌∙◌, map}
-use Rattle.vpg_verdict.specs.declared.which.Which.TheVariants.{Hopeful, Dual}
+use Rattle.vpg_sides.specs.declared.which.Which.TheVariants.{Hopeful, Dual}
 use Rattle.vpg_partial.specs.Known.{literal_of}
 use Rattle.vpg_script.specs.View.{assertion_shown}
 use Rattle.vpg_texts.specs.Scene.{scene_of}
 use Rattle.vpg_game.specs.Game.{vertex_ids}
 use Rattle.vpg_game.specs.Levels.{top_of}
-use Rattle.vpg_serving.specs.Answer.{Answer}
+use Rattle.vpg_script.specs.Answer.{Answer}
 use Rattle.vpg_texts.specs.Sights.{IsAsserted, assertion_answer}
 use Rattle.vpg_texts.proofs.Counted.{asserts}
 use Rattle.vpg_texts.proofs.Settled.{table_of_games}

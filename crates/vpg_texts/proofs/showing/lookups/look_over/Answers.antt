@@ -3,7 +3,7 @@ use Rattle.vpg_game.specs.Game.{vertex_ids}
 use Rattle.vpg_script.specs.Script as script
 use Rattle.vpg_script.specs.View.{assertion_shown, lookup_shown, vertex_shown}
 use Rattle.vpg_texts.specs.Scene.{scene_of}
-use Rattle.vpg_serving.proofs.Given.{not_done}
+use Rattle.vpg_script.proofs.Given.{not_done}
 use Rattle.vpg_texts.specs.Text.{products_text, trail_text}
 use Rattle.vpg_texts.proofs.Shown.{on_ok}
 use Rattle.vpg_texts.proofs.Seen.{named_shown, seen_as, shown_as}

@@ -1,7 +1,7 @@
 use Rattle.std.proofs.Common.{ℕ, List, ◌++◌, refl, ap, ◌∙◌, subst, inl, inr}
 use Rattle.std.specs.Prelude.{codes}
-use Rattle.vpg_serving.specs.Answer.{done, refused}
-use Rattle.vpg_serving.proofs.Given.{if_ok}
+use Rattle.vpg_script.specs.Answer.{done, refused}
+use Rattle.vpg_script.proofs.Given.{if_ok}
 use Rattle.vpg_texts.specs.declared.showing.plans.PlanFault.{PlanFault}
 use Rattle.vpg_texts.specs.Plan.{IsPlanFault}
 use Rattle.vpg_texts.specs.Scene.{scene_of}

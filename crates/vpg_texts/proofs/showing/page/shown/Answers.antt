@@ -1,5 +1,5 @@
 use Rattle.std.proofs.Common.{ap, ◌∙◌, List, ℕ, length, map}
-use Rattle.vpg_verdict.specs.declared.which.Which.TheVariants.{Hopeful, Dual}
+use Rattle.vpg_sides.specs.declared.which.Which.TheVariants.{Hopeful, Dual}
 use Rattle.vpg_partial.specs.Known.{literal_of}
 use Rattle.vpg_texts.proofs.Settled.{table_of_games, settled_tells}
 use Rattle.vpg_texts.proofs.Shown.{named_below, shows}

@@ -1,7 +1,7 @@
 use Rattle.std.proofs.Common.{sym, subst, List, Option, ℕ, ◌<◌, length, All, map}
 use Rattle.std.specs.Prelude.{IfSome}
 use Rattle.vpg_game.proofs.Graphs.{games_have_graphs}
-use Rattle.vpg_verdict.specs.declared.which.Which.TheVariants.{Hopeful, Dual}
+use Rattle.vpg_sides.specs.declared.which.Which.TheVariants.{Hopeful, Dual}
 use Rattle.vpg_partial.specs.Known.{literal_of}
 use Rattle.vpg_texts.proofs.Planned.{chosen_count, chosen_within, chosen_are, planned, planned_wins}
 use Rattle.vpg_texts.proofs.Settled.{table_of_games}

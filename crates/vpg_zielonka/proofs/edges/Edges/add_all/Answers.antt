@@ -2,7 +2,7 @@ use Rattle.std.proofs.Common.{◌≡◌, ◌+◌, ◌<◌, List, [], ◌∷◌, 
 use Rattle.vpg_features.specs.Index.{NotesAlso}
 use Rattle.vpg_guards.specs.Formula.{Formula, IsBelow}
 use Rattle.vpg_guards.specs.View.{formula_of}
-use Rattle.vpg_edges.specs.Edges.{GuardedEdge}
+use Rattle.vpg_game.specs.Edges.{GuardedEdge}
 use Rattle.vpg_game.specs.Game.{graph_of, vertex_in}
 use Rattle.vpg_game.proofs.Graphs.{same_count}
 use Rattle.vpg_sets.proofs.Growth.{grown_then}

@@ -1,5 +1,5 @@
 use Rattle.std.proofs.Common.{length, refl}
-use Rattle.vpg_players.specs.declared.player.Player.TheVariants.{Even, Odd}
+use Rattle.vpg_sides.specs.declared.player.Player.TheVariants.{Even, Odd}
 use Rattle.vpg_zielonka.proofs.Giving.{others_stay}
 use Rattle.vpg_zielonka.proofs.winners.Winners.give.Goals as goal
 

@@ -1,5 +1,5 @@
 use Rattle.std.proofs.Common.{refl}
-use Rattle.vpg_serving.specs.declared.tone.Tone.TheVariants as tones
+use Rattle.vpg_script.specs.declared.tone.Tone.TheVariants as tones
 use Rattle.vpg_examples.proofs.scripts.served.RefuserServer.serve.Goals as goal
 
 pub returns-clause-answer : goal.returns-clause-answer

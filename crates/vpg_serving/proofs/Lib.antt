@@ -1,4 +1,0 @@
-pub mod Framed
-pub mod Given
-pub mod MannerLemmas
-pub mod ScriptLemmas
