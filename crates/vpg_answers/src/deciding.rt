@@ -7,7 +7,7 @@ ghost use Rattle.vpg_texts.specs.Scene.{scene_of};
 use crate::lines;
 use crate::reasons::{identifier, names};
 use std::alloc::{AllocError, Global};
-use vpg_guards::Names;
+use vpg_features::Names;
 use vpg_measure::Order;
 use vpg_sides::Which;
 use vpg_texts::blank_number;

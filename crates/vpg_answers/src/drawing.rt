@@ -17,10 +17,10 @@ use crate::winning::has_top;
 use std::alloc::{AllocError, Global};
 use vpg_diagram::Diagram;
 use vpg_draw::draw_part;
-use vpg_game::{GuardedGame, Player, VertexNames};
+use vpg_game::{GuardedGame, VertexNames};
 use vpg_measure::{Order, PageGames, Table};
 use vpg_partial::Decision;
-use vpg_sides::Which;
+use vpg_sides::{Player, Which};
 use vpg_texts::verdicts_by;
 use vpg_why::{Limits, Moves, reachable, winning_moves};
 

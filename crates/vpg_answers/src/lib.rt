@@ -48,5 +48,3 @@ mod winning;
 pub use answering::answer;
 pub use looking::look;
 pub use query::Query;
-pub use vpg_script::{ExactVerdict, PageQuestion, VertexQuestion};
-pub use vpg_why::Limits;

@@ -7,7 +7,7 @@ ghost use Rattle.vpg_answers.specs.Texts.{choice_line, conflict_line, doubt_text
 
 use std::alloc::AllocError;
 use vpg_diagram::Literal;
-use vpg_guards::Names;
+use vpg_features::Names;
 use vpg_partial::Decision;
 use vpg_script::Tone;
 use vpg_sides::Which;

@@ -8,7 +8,7 @@ ghost use Rattle.vpg_why.specs.Suffices.{IsAim};
 use crate::lines;
 use crate::reasons::{identifier, names};
 use std::alloc::{AllocError, Global};
-use vpg_guards::Names;
+use vpg_features::Names;
 use vpg_measure::Order;
 use vpg_partial::Decision;
 use vpg_why::{Aim, Limits, WhyLost, why_lost};

@@ -9,7 +9,7 @@ use crate::lines;
 use crate::reasons::names;
 use std::alloc::{AllocError, Global};
 use vpg_diagram::Literal;
-use vpg_guards::Names;
+use vpg_features::Names;
 use vpg_measure::Order;
 use vpg_why::{Aim, Demand, Limits, needs};
 

@@ -10,7 +10,7 @@ ghost use Rattle.vpg_texts.specs.Scene.{scene_of};
 use crate::lines;
 use std::alloc::{AllocError, Global};
 use vpg_diagram::Literal;
-use vpg_guards::Names;
+use vpg_features::Names;
 use vpg_measure::Order;
 use vpg_script::{Tone, done};
 use vpg_sides::Which;

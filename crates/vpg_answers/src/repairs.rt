@@ -12,7 +12,7 @@ use crate::lines;
 use crate::reasons::{identifier, names};
 use crate::retracting::{Effect, Tried, effect_of, give_up, lost, tries};
 use std::alloc::{AllocError, Global};
-use vpg_guards::Names;
+use vpg_features::Names;
 use vpg_measure::Order;
 use vpg_partial::Decision;
 use vpg_sides::Which;

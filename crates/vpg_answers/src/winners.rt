@@ -14,7 +14,7 @@ use crate::reasons::{identifier, names};
 use crate::{lines, numbers};
 use std::alloc::{AllocError, Global};
 use vpg_diagram::Literal;
-use vpg_guards::Names;
+use vpg_features::Names;
 use vpg_measure::Order;
 use vpg_number::{Count, number};
 use vpg_partial::Decision;

@@ -22,10 +22,10 @@ use std::marker::Model;
 use std::sync::Arc;
 use vpg_diagram::Diagram;
 use vpg_faults::OpenFault;
-use vpg_game::{GuardedGame, Player};
+use vpg_game::GuardedGame;
 use vpg_measure::{Order, PageGames, Table, is_progress};
 use vpg_partial::Decision;
-use vpg_sides::{Verdict, Which};
+use vpg_sides::{Player, Verdict, Which};
 use vpg_trail::{Decisions, Entries, Page, Trail, decisions_among};
 
 /// The most changes that a desk makes.

@@ -12,7 +12,8 @@ use std::sync::Arc;
 use vpg_diagram::Diagram;
 use vpg_faults::OpenFault;
 use vpg_game::GuardedGame;
-use vpg_measure::{OrderFault, PageGames, Which};
+use vpg_measure::{OrderFault, PageGames};
+use vpg_sides::Which;
 use vpg_trail::Trail;
 
 /// Returns the games without a decision.

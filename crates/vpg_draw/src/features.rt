@@ -10,7 +10,8 @@ ghost use Rattle.vpg_draw.specs.FeatureDrawing.{is_break, pieces, is_line_end, q
 use crate::labels::{choices, escaped};
 use std::alloc::{AllocError, Global};
 use vpg_diagram::Diagram;
-use vpg_guards::{Names, Tri};
+use vpg_features::Names;
+use vpg_guards::Tri;
 use vpg_partial::{Decision, Partial};
 
 /// The kinds of lines that draw something.

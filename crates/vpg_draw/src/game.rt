@@ -9,10 +9,11 @@ ghost use Rattle.vpg_draw.specs.GameDrawing.{shape_text, colours_text, name_line
 
 use crate::labels::{choices, number, wrapped};
 use std::alloc::{AllocError, Global};
-use vpg_game::{Edge, GuardedGame, Player, VertexNames};
-use vpg_guards::{Guard, Names, Tri};
+use vpg_features::Names;
+use vpg_game::{Edge, GuardedGame, VertexNames};
+use vpg_guards::{Guard, Tri};
 use vpg_partial::{Decision, Partial};
-use vpg_sides::Verdict;
+use vpg_sides::{Player, Verdict};
 
 fn shape(owner: Player, out: &mut Vec<u8>) -> Result<(), AllocError>
     ensures { OnOk result (out.new.items ≡ out.old.items ++ shape_text owner) }

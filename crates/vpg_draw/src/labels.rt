@@ -5,7 +5,7 @@ ghost use Rattle.vpg_draw.specs.Labels.{label_byte, ends_line, wrapped, feature_
 
 use itoa::Buffer;
 use std::alloc::AllocError;
-use vpg_guards::Names;
+use vpg_features::Names;
 use vpg_partial::Decision;
 
 /// The number of bytes in a line after which a blank ends it.

@@ -10,10 +10,11 @@ ghost use Rattle.vpg_draw.specs.PartDrawing.{first_text, part_vertex_text, part_
 use crate::game::{colours, defaults, edge_start, identifier, style, vertex_start};
 use crate::labels::choices;
 use std::alloc::{AllocError, Global};
-use vpg_game::{Edge, GuardedGame, Player, VertexNames};
-use vpg_guards::{Names, Tri};
+use vpg_features::Names;
+use vpg_game::{Edge, GuardedGame, VertexNames};
+use vpg_guards::Tri;
 use vpg_partial::{Decision, Partial};
-use vpg_sides::Verdict;
+use vpg_sides::{Player, Verdict};
 
 /// Appends the mark of the vertex from which the others are reached.
 fn first_mark(is_first: bool, out: &mut Vec<u8>) -> Result<(), AllocError>

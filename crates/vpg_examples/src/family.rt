@@ -9,8 +9,8 @@ use std::sync::{Arc, Wait};
 use std::thread::Threads;
 use vpg_diagram::Diagram;
 use vpg_game::GuardedGame;
-use vpg_report::{DIAGRAM, GAME, RunFault, run, run_as};
-use vpg_script::{Device, Ending, Manner, Sink, Source};
+use vpg_report::{DIAGRAM, GAME, run, run_as};
+use vpg_script::{Device, Ending, Manner, RunFault, Sink, Source};
 
 /// A game with its diagram.
 pub(crate) struct Family {

@@ -12,8 +12,8 @@ use crate::fault::Fault;
 use std::alloc::{AllocError, Global};
 use std::sync::Arc;
 use vpg_diagram::{Diagram, DiagramFault};
+use vpg_features::Names;
 use vpg_game::{GameFault, GuardedGame};
-use vpg_guards::Names;
 use vpg_hope::{ProjectFault, project};
 
 /// A game and a diagram with the features of its guards.

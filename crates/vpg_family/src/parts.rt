@@ -14,11 +14,11 @@ use std::alloc::{AllocError, Global};
 use std::marker::Model;
 use vpg_diagram::Diagram;
 use vpg_draw::draw_part;
-use vpg_game::{GuardedGame, Player, VertexNames};
-use vpg_guards::Names;
+use vpg_features::Names;
+use vpg_game::{GuardedGame, VertexNames};
 use vpg_measure::known_under;
 use vpg_partial::{Decision, Partial, PartialFault};
-use vpg_sides::Verdict;
+use vpg_sides::{Player, Verdict};
 
 /// The beginning of the picture of a part, up to the decisions.
 const OPENING: &[u8] = b"digraph part {\n  graph [label=\"decisions";

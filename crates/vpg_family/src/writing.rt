@@ -8,11 +8,12 @@ use crate::system_warnings::{warnings_of_requirements, warnings_of_system};
 use crate::warnings::{Sort, Warning, Warnings};
 use std::alloc::{AllocError, Global};
 use vpg_diagram::Diagram;
-use vpg_game::{GuardedGame, Player, VertexNames};
-use vpg_guards::Names;
+use vpg_features::Names;
+use vpg_game::{GuardedGame, VertexNames};
 use vpg_lint::{nearest_of, put_number, put_place, put_shown, put_text};
 use vpg_models::Form;
 use vpg_places::place_of;
+use vpg_sides::Player;
 use vpg_system::System;
 
 /// The number of warnings of each sort that are written with their places.

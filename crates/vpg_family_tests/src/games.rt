@@ -1,7 +1,8 @@
 //! The games of two small systems, vertex by vertex, against an independent calculation.
 use std::alloc::{AllocError, Global};
 use std::test::Fail;
-use vpg_guards::{Guard, Names};
+use vpg_features::Names;
+use vpg_guards::Guard;
 use vpg_model::{Built, Source, build};
 use vpg_parts::{FALSE_PLACE, Kind, Part, Permitted, TRUE_PLACE};
 use vpg_system::System;

@@ -5,7 +5,7 @@ ghost use Rattle.vpg_game.specs.Game.{NamedGame, top_in, dual_top_in, priorities
 ghost use Rattle.vpg_game.specs.Naming.{features_named};
 ghost use Rattle.vpg_game.specs.Refused.{IsRefused};
 
-use crate::Edge;
+use crate::edge::Edge;
 use crate::entry::Entry;
 use crate::fault::GameFault;
 use crate::making::make;
@@ -14,7 +14,7 @@ use crate::vertex::Vertex;
 use indexmap::IndexSet;
 use std::alloc::Global;
 use std::marker::Model;
-use vpg_guards::{Index, Names};
+use vpg_features::{Index, Names};
 use vpg_sides::Player;
 
 /// The highest priority of a game. One that is read has lower ones; its dual may have it.

@@ -6,16 +6,17 @@ ghost use Rattle.vpg_game.specs.Levels.{top_of, levels_of};
 ghost use Rattle.vpg_game.specs.Naming.{IsNaming};
 ghost use Rattle.vpg_game.specs.Building.{IsNumberingFault, IsJoiningFault, IsResolvingFault, IsMakingFault, IsLimited};
 
+use crate::edge::Edge;
+use crate::edges::join_edge;
 use crate::entry::{Entry, Successor};
 use crate::fault::GameFault;
 use crate::game::GuardedGame;
 use crate::levels::top_within_limit;
 use crate::naming::naming_of;
 use crate::vertex::Vertex;
-use crate::{Edge, join_edge};
 use indexmap::IndexSet;
 use std::alloc::{AllocError, Global};
-use vpg_guards::Index;
+use vpg_features::Index;
 
 /// Returns the identifiers of entries, in order.
 fn numbered(alloc: Global, entries: &[Entry]) -> Result<IndexSet<u32>, GameFault>

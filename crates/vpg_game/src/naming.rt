@@ -2,10 +2,10 @@
 ghost use Rattle.std.specs.Prelude.{◌≡◌, ◌<◌, ◌++◌, All, OnOk, IfOk};
 ghost use Rattle.vpg_game.specs.Naming.{features_named, IsNaming};
 
-use crate::Edge;
+use crate::edge::Edge;
 use crate::vertex::Vertex;
 use std::alloc::{AllocError, Global};
-use vpg_guards::Index;
+use vpg_features::Index;
 
 /// Adds the features that the guards of edges name.
 fn push_features(edges: &[Edge], features: &mut Vec<u16>) -> Result<(), AllocError>

@@ -13,7 +13,8 @@ ghost use Rattle.vpg_game.specs.Reading.{Gives, Fails, digits_at, number_at, len
 use crate::entry::{Entry, Successor};
 use crate::fault::GameFault;
 use std::alloc::Global;
-use vpg_guards::{Guard, GuardFault, Names, parse_guard};
+use vpg_features::Names;
+use vpg_guards::{Guard, GuardFault, parse_guard};
 use vpg_sides::Player;
 
 /// The most vertices of a game.

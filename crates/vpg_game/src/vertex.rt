@@ -2,7 +2,8 @@
 ghost use Rattle.std.specs.Prelude.{◌≡◌, ◌↔◌, ◌<◌, IfOk, IsTrue};
 ghost use Rattle.vpg_game.specs.Game.{dual_vertex};
 
-use crate::{Edge, are_same, copy_edges};
+use crate::edge::Edge;
+use crate::edges::{are_same, copy_edges};
 use std::alloc::{AllocError, Global};
 use std::marker::Model;
 use vpg_sides::Player;

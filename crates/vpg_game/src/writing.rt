@@ -4,12 +4,13 @@ ghost use Rattle.vpg_guards.specs.Formula.{IsBelow};
 ghost use Rattle.vpg_game.specs.Game.{vertex_ids, AreEdges, AreVertices, IsAtLimit, SpellsGame};
 ghost use Rattle.vpg_game.specs.Writing.{game_text, vertex_text, vertices_text, edge_text, edges_behind, owner_digit, greatest};
 
-use crate::Edge;
+use crate::edge::Edge;
 use crate::game::GuardedGame;
 use crate::vertex::Vertex;
 use itoa::Buffer;
 use std::alloc::{AllocError, Global};
-use vpg_guards::{Guard, Names};
+use vpg_features::Names;
+use vpg_guards::Guard;
 use vpg_sides::Player;
 
 impl GuardedGame {

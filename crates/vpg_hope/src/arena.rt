@@ -10,13 +10,14 @@ ghost use Rattle.vpg_hope.specs.Hope.{hopeful_game, cautious_game};
 ghost use Rattle.vpg_hope.specs.Kept.{features_under, owner_under, priority_under, kept_under};
 ghost use Rattle.vpg_hope.specs.Selection.{vertex_under, IsHeldUnmarked};
 
-use crate::Selection;
 use crate::changes::concerned;
+use crate::selection::Selection;
 use std::alloc::{AllocError, Global};
 use std::marker::Model;
 use std::sync::ArcSlice;
-use vpg_game::{GuardedGame, Player};
+use vpg_game::GuardedGame;
 use vpg_partial::Partial;
+use vpg_sides::Player;
 
 /// A vertex: its successors are those from `start` up to `end` in the arena's own list, or in the one that it shares.
 #[derive(Clone, Copy)]

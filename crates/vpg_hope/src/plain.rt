@@ -5,12 +5,13 @@ ghost use Rattle.vpg_game.specs.Writing.{greatest};
 ghost use Rattle.vpg_hope.specs.Plain.{projection, plain_text};
 ghost use Rattle.vpg_hope.specs.PlainParts.{marked_text, line_text};
 
-use crate::Selection;
 use crate::arena::Arena;
+use crate::selection::Selection;
 use itoa::Buffer;
 use std::alloc::{AllocError, Global};
 use std::marker::Model;
-use vpg_game::{GuardedGame, Player};
+use vpg_game::GuardedGame;
+use vpg_sides::Player;
 
 /// A plain game with the identifiers of its vertices: the game of a product.
 ///

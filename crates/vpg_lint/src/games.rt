@@ -9,8 +9,9 @@ use crate::message::{Message, put_found, put_hint, put_hint_line, put_hint_with}
 use crate::naming::nearest;
 use crate::said::Said;
 use std::alloc::{AllocError, Global};
+use vpg_features::Names;
 use vpg_game::GameFault;
-use vpg_guards::{GuardFault, Names};
+use vpg_guards::GuardFault;
 use vpg_places::{Last, Number, Scan, numbers_of, place_of};
 
 /// Whether the byte can be in a word. Those above 127 spell letters of other alphabets.

@@ -3,7 +3,7 @@ ghost use Rattle.std.specs.Prelude.{◌<◌, IfOk, IfSome, length};
 
 use std::alloc::{AllocError, Global};
 use strsim::levenshtein;
-use vpg_guards::{LONGEST_NAME, Names};
+use vpg_features::{LONGEST_NAME, Names};
 use vpg_places::{Form, begins_character};
 
 /// The greatest number of edits from a word to a name that is proposed.

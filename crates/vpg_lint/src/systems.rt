@@ -10,7 +10,8 @@ use crate::hints::{Kind, put_text_hint};
 use crate::message::{Message, put_found, put_hint, put_hint_line, put_hint_with};
 use crate::said::Said;
 use std::alloc::{AllocError, Global};
-use vpg_guards::{GuardFault, Names};
+use vpg_features::Names;
+use vpg_guards::GuardFault;
 use vpg_places::{Line, Word, line_at, lines_of};
 use vpg_system::SystemFault;
 

@@ -8,8 +8,8 @@ ghost use Rattle.vpg_measure.specs.Lifts.{IsTableOf, IsProgressTable, IsBelowTab
 
 use crate::shape::{Shape, next_prog, prog};
 use crate::table::Table;
-use vpg_game::Player;
 use vpg_hope::Arena;
+use vpg_sides::Player;
 
 /// Values to which a table is to be raised, with the ranks that show that no progress table is below them.
 #[derive(Drop)]

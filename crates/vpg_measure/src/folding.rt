@@ -7,8 +7,8 @@ ghost use Rattle.vpg_hope.specs.Arena.{vertex_at};
 ghost use Rattle.vpg_measure.specs.Lifts.{IsTableOf, best_for, lift_of};
 
 use crate::shape::{Shape, prog};
-use vpg_game::Player;
 use vpg_hope::Arena;
+use vpg_sides::Player;
 
 /// Returns the best of no values: the top if Even moves, 0 if Odd moves.
 pub fn best_of_none(shape: &Shape, owner: Player) -> u64

@@ -12,8 +12,8 @@ use crate::shape::{Shape, prog};
 use crate::table::Table;
 use std::alloc::Global;
 use thiserror::Error;
-use vpg_game::Player;
 use vpg_hope::arena::Arena;
+use vpg_sides::Player;
 
 /// How settling ended.
 #[derive(Clone, Copy, Debug, PartialEq, Eq)]

@@ -47,5 +47,4 @@ pub use site::Site;
 pub use terms::Terms;
 pub use undo_token::Undo;
 pub use unshared::Unshared;
-pub use vpg_faults::{Never, Returned};
 pub use work::{NotBegun, Work, with_office};

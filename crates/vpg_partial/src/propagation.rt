@@ -16,7 +16,8 @@ use crate::decision::Decision;
 use crate::fault::PartialFault;
 use crate::rules::{is_known, missing_at};
 use vpg_diagram::{Clause, Count, Literal};
-use vpg_guards::{Index, Tri};
+use vpg_features::Index;
+use vpg_guards::Tri;
 
 /// Why propagation stopped.
 #[derive(Clone, Copy, Debug, PartialEq, Eq)]

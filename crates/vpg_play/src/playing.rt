@@ -13,8 +13,9 @@ use std::mem;
 use std::sync::Wait;
 use std::thread::{Threads, for_each_mut, yield_now};
 use vpg_board::{OpenGate, sweep};
+use vpg_faults::Returned;
 use vpg_measure::{Harvest, Order};
-use vpg_office::{Fault, Front, Office, Returned, Terms, read};
+use vpg_office::{Fault, Front, Office, Terms, read};
 use vpg_sides::Which;
 use vpg_watch::Watch;
 

@@ -3,7 +3,8 @@ use crate::noting::{Notes, put_failure, put_fault};
 use std::alloc::Global;
 use std::fmt::Display;
 use std::sync::Wait;
-use vpg_office::{Fault, Front, Office, Redo, Returned, Session, Terms, Undo};
+use vpg_faults::Returned;
+use vpg_office::{Fault, Front, Office, Redo, Session, Terms, Undo};
 
 /// A session with its front.
 pub(crate) struct Seat<L: Terms> {

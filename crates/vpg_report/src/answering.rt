@@ -14,11 +14,11 @@ use crate::lines::{put_missing, put_unanswered};
 use std::alloc::Global;
 use std::sync::Wait;
 use std::thread::Threads;
-use vpg_answers::Limits;
 use vpg_checking::Behaviour;
 use vpg_family::Context;
 use vpg_office::Terms;
 use vpg_script::{Command, Inquiry, Request, ServeFault, Server, Tone, meant};
+use vpg_why::Limits;
 
 /// The limits of a question about the page. The bounds of a trial's table may look at 2^27 edges and vertices; if they
 /// do not settle it, it has 1,000 rounds of lifts. A search has 10,000 trials.

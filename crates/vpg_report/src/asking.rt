@@ -9,12 +9,12 @@ ghost use Rattle.vpg_script.specs.View.{inquiry_shown, vertex_shown};
 ghost use Rattle.vpg_texts.specs.Scene.{scene_of};
 
 use crate::lines::Missing;
-use vpg_answers::{Query, VertexQuestion};
+use vpg_answers::Query;
 use vpg_checking::Behaviour;
 use vpg_diagram::Diagram;
+use vpg_features::Names;
 use vpg_game::GuardedGame;
-use vpg_guards::Names;
-use vpg_script::{Inquiry, Vertex};
+use vpg_script::{Inquiry, Vertex, VertexQuestion};
 use vpg_texts::vertex_at;
 
 fn feature_at(names: &Names, name: &[u8]) -> Option<u16>

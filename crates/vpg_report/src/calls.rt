@@ -24,9 +24,9 @@ use crate::fault::{ClientFault, Token, follow_answer, follow_returned};
 use std::alloc::Global;
 use std::sync::{Arc, Wait};
 use vpg_desk::{CommitFault, DecideFault, RedoFault, ResetFault, RetractFault, UndoFault};
-use vpg_faults::Returned;
+use vpg_faults::{Never, Returned};
 use vpg_measure::{Harvest, Order, PageGames};
-use vpg_office::{Never, Redo, Terms, Undo};
+use vpg_office::{Redo, Terms, Undo};
 use vpg_trail::Page;
 
 impl<L: Terms> Client<L> {

@@ -64,5 +64,3 @@ pub use fault::{ClientFault, Token};
 pub use lines::{Missing, put_missing, put_unanswered};
 pub use running::run_script;
 pub use runs::{run, run_as, run_called};
-pub use vpg_script::RunFault;
-pub use vpg_texts::{PlanFault, count, plan, products, put_known, show, trail};

@@ -8,7 +8,7 @@ ghost use Rattle.vpg_texts.specs.Text.{blank_number, blank_name};
 use crate::fault::ClientFault;
 use thiserror::Error;
 use vpg_faults::{Refusal, Refuses};
-use vpg_guards::Names;
+use vpg_features::Names;
 use vpg_script::{ServeFault, Tone};
 use vpg_texts::{blank_name, blank_number};
 

@@ -27,4 +27,3 @@ pub use distributing::MOST_CLAUSES;
 pub use fault::{ClausesFault, RuleFault};
 pub use reading::{DEEPEST, parse_rule};
 pub use rule::{Rule, Rules};
-pub use vpg_features::{Names, is_feature_name};

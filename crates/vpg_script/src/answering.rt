@@ -9,11 +9,13 @@ ghost use Rattle.vpg_script.specs.Manners.{fault_answer};
 ghost use Rattle.vpg_script.specs.Results.{UnlessReaderFails, UnlessWriterFails, PutOutcome, FaultOutcome, LineOutcome, TooLongOutcome, NextOutcome};
 ghost use Rattle.vpg_script.specs.declared.command.LineFault.{LineFault as Fault};
 
+use crate::command::{LineFault, ReadFault, read_line};
+use crate::device::{Sink, Source};
 use crate::fault::RunFault;
 use crate::framing::{Form, json_text};
+use crate::lines::{Next, next_line, pass_line};
 use crate::serving::{Manner, Server};
 use crate::tone::Tone;
-use crate::{LineFault, Next, ReadFault, Sink, Source, next_line, pass_line, read_line};
 use std::alloc::Global;
 use std::sync::Wait;
 use std::thread::Threads;

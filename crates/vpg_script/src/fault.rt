@@ -1,8 +1,9 @@
 //! Why a script stops before its end.
 ghost use Rattle.std.specs.Prelude.{◌≡◌};
 
+use crate::command::LineFault;
+use crate::lines::NextFault;
 use crate::serving::ServeFault;
-use crate::{LineFault, NextFault};
 use std::alloc::AllocError;
 use thiserror::Error;
 use vpg_faults::OpenFault;

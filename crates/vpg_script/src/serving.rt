@@ -8,10 +8,11 @@ ghost use Rattle.vpg_script.specs.Output.{Machine, ScriptOutcome};
 ghost use Rattle.vpg_script.specs.Manners.{Leaves, MannerOutcome};
 
 use crate::answering::answer_next;
+use crate::command::Request;
+use crate::device::{Sink, Source};
 use crate::fault::RunFault;
 use crate::framing::Form;
 use crate::tone::Tone;
-use crate::{Request, Sink, Source};
 use std::alloc::{AllocError, Global};
 use std::sync::Wait;
 use std::thread::Threads;

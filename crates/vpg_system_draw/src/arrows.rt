@@ -14,7 +14,8 @@ use indexmap::IndexSet;
 use std::alloc::{AllocError, Global};
 use std::marker::Model;
 use vpg_draw::style;
-use vpg_guards::{Names, Tri};
+use vpg_features::Names;
+use vpg_guards::Tri;
 use vpg_system::{System, Transition};
 
 /// The look of a transition.

@@ -8,7 +8,8 @@ ghost use Rattle.vpg_system_draw.specs.Arrows.{guard_mark, label_text};
 use itoa::Buffer;
 use std::alloc::{AllocError, Global};
 use vpg_draw::escaped;
-use vpg_guards::{Guard, Names};
+use vpg_features::Names;
+use vpg_guards::Guard;
 use vpg_system::{System, Transition};
 
 /// Appends a number in decimal.

@@ -8,7 +8,8 @@ use crate::labels::number;
 use crate::marks::{Marks, is_in};
 use std::alloc::{AllocError, Global};
 use vpg_draw::choices;
-use vpg_guards::{Names, Tri};
+use vpg_features::Names;
+use vpg_guards::Tri;
 use vpg_partial::{Decision, Partial};
 use vpg_system::System;
 

@@ -7,7 +7,7 @@ ghost use Rattle.vpg_partial.specs.TableLaws.{AreChoicesOf};
 use crate::line::Line;
 use crate::text::parts_of;
 use vpg_diagram::Diagram;
-use vpg_guards::Names;
+use vpg_features::Names;
 use vpg_partial::{Decision, Partial};
 
 /// Whether each decision is of one of this many features.

@@ -13,7 +13,7 @@ use crate::asked::RowQuestion;
 use crate::line::Line;
 use crate::text::two_of;
 use vpg_diagram::{Clause, Count, Diagram, MOST_RULES};
-use vpg_guards::Names;
+use vpg_features::Names;
 
 /// Writes the features in order, and how many there are.
 fn put_names(names: &Names, line: &mut Line) {

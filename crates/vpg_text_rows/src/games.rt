@@ -17,8 +17,9 @@
 use crate::asked::RowQuestion;
 use crate::line::Line;
 use crate::text::{number_of, numbers_of, two_of};
+use vpg_features::Names;
 use vpg_game::{Edge, GuardedGame, odd_counts, top_within_limit};
-use vpg_guards::{Guard, Names};
+use vpg_guards::Guard;
 
 /// Writes the text of a game after a text.
 fn put_game(names: &Names, game: &GuardedGame, line: &mut Line) {

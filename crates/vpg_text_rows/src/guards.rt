@@ -15,7 +15,8 @@ ghost use Rattle.vpg_guards.specs.View.{formula_of};
 use crate::asked::RowQuestion;
 use crate::line::Line;
 use crate::text::{set_of, two_of};
-use vpg_guards::{Guard, Guards, Names, Tri, parse_guard};
+use vpg_features::Names;
+use vpg_guards::{Guard, Guards, Tri, parse_guard};
 
 /// Returns the guard that a text spells, or writes its fault in the line.
 fn guard_of(names: &Names, text: &[u8], line: &mut Line) -> Option<Guard>

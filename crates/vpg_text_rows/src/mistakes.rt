@@ -8,8 +8,8 @@ use crate::asked::RowQuestion;
 use crate::line::Line;
 use std::alloc::AllocError;
 use vpg_diagram::Diagram;
+use vpg_features::Names;
 use vpg_game::GuardedGame;
-use vpg_guards::Names;
 use vpg_lint::{Message, explain_diagram, explain_game, explain_line, put_message};
 
 /// The message about a text that has no mistake.

@@ -9,7 +9,7 @@
 use crate::asked::RowQuestion;
 use crate::line::Line;
 use crate::text::{number_of, parts_of, two_of};
-use vpg_guards::{NameFault, Names, is_feature_name};
+use vpg_features::{NameFault, Names, is_feature_name};
 
 /// Writes the answer to a name that was added.
 fn put_answer(added: Result<u16, NameFault>, line: &mut Line) {

@@ -9,7 +9,7 @@
 use crate::asked::RowQuestion;
 use crate::line::Line;
 use crate::text::two_of;
-use vpg_guards::Names;
+use vpg_features::Names;
 use vpg_system::{System, Transition};
 
 /// Writes the text of a system after a text.

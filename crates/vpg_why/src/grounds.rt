@@ -14,12 +14,12 @@ use crate::reaching::reached;
 use crate::settling::moves_by;
 use crate::winning::{caution, table_of};
 use std::alloc::{AllocError, Global};
-use vpg_game::{Edge, GuardedGame, Player};
+use vpg_game::{Edge, GuardedGame};
 use vpg_guards::Tri;
 use vpg_hope::Arena;
 use vpg_measure::{Order, PageGames};
 use vpg_partial::{Decision, Partial};
-use vpg_sides::Which;
+use vpg_sides::{Player, Which};
 
 /// Returns the decisions that are marked.
 pub(crate) fn kept_by(

@@ -7,8 +7,8 @@ ghost use Rattle.vpg_why.specs.Played.{ArePlayed, AreReached, move_if};
 ghost use Rattle.vpg_why.specs.Searched.{AreNoted, AreQueued, IsBegun};
 
 use std::alloc::{AllocError, Global};
-use vpg_game::Player;
 use vpg_hope::Arena;
+use vpg_sides::Player;
 
 // Whether a move to this vertex is allowed: Even makes the chosen one, Odd any.
 fn allows(owner: Player, choice: Option<u32>, w: u32) -> bool

@@ -8,10 +8,10 @@ ghost use Rattle.vpg_measure.specs.Views.{strategy_of};
 
 use crate::question::Limits;
 use std::alloc::{AllocError, Global};
-use vpg_game::Player;
 use vpg_guess::raise_within;
 use vpg_hope::Arena;
 use vpg_measure::{Shape, StrategyFault, Table, is_progress, settle_alone, strategy};
+use vpg_sides::Player;
 
 // Raises a table by certified bounds, which take half at most of the looks that are left. Returns whether it is a
 // progress table then.

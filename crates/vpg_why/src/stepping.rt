@@ -8,9 +8,10 @@ ghost use Rattle.vpg_why.specs.Searched.{AreNoted, AreQueued, IsBegun};
 
 use crate::reaching::note;
 use std::alloc::{AllocError, Global};
-use vpg_game::{Edge, GuardedGame, Player};
+use vpg_game::{Edge, GuardedGame};
 use vpg_guards::Tri;
 use vpg_partial::Partial;
+use vpg_sides::Player;
 
 // Whether the listed moves are those of this player.
 fn is_mover(mover: Option<Player>, owner: Player) -> bool

@@ -5,8 +5,8 @@ ghost use Rattle.vpg_sets.specs.Sets.{IsGrown, IsTrueFault};
 ghost use Rattle.vpg_zielonka.specs.Edges.{AreAllEdges, AreFirstEdges, numbers_at};
 
 use std::alloc::{AllocError, Global};
+use vpg_features::Index;
 use vpg_game::GuardedGame;
-use vpg_guards::Index;
 use vpg_sets::{Set, Sets, SetsFault};
 
 /// An edge, and the products in which its guard holds.

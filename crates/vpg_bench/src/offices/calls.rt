@@ -1,7 +1,8 @@
 //! Seats of sessions, and calls without their clauses, each with how it ended.
 use std::alloc::Global;
 use std::sync::Wait;
-use vpg_office::{Fault, Front, Office, Redo, Returned, Session, Terms, Undo};
+use vpg_faults::Returned;
+use vpg_office::{Fault, Front, Office, Redo, Session, Terms, Undo};
 use vpg_scarce::End;
 
 /// A session with its front.

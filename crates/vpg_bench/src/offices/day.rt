@@ -8,8 +8,9 @@ use std::alloc::Global;
 use std::sync::Wait;
 use std::sync::atomic::AtomicU64;
 use std::thread::{Threads, join};
+use vpg_faults::Returned;
 use vpg_measure::Harvest;
-use vpg_office::{Office, Returned, Terms};
+use vpg_office::{Office, Terms};
 use vpg_scarce::End;
 
 /// The feature that is decided.

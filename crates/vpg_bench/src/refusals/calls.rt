@@ -19,8 +19,8 @@ use crate::refusals::writing::{
 use std::alloc::Global;
 use std::sync::{Arc, Wait};
 use vpg_diagram::Diagram;
+use vpg_features::Names;
 use vpg_game::GuardedGame;
-use vpg_guards::Names;
 use vpg_hope::{Arena, PlainGame};
 use vpg_measure::{Shape, Table};
 use vpg_partial::Partial;

@@ -3,12 +3,14 @@
 use crate::refusals::decided::is_table;
 use crate::refusals::{done_if, told_of};
 use vpg_diagram::Diagram;
-use vpg_game::{GuardedGame, Player};
-use vpg_guards::{Names, Tri, parse_guard};
+use vpg_features::Names;
+use vpg_game::GuardedGame;
+use vpg_guards::{Tri, parse_guard};
 use vpg_hope::Arena;
 use vpg_measure::{Shape, Table, is_progress, lift, prog, settle_alone};
 use vpg_partial::Partial;
 use vpg_scarce::{End, Heap, Report};
+use vpg_sides::Player;
 
 pub(crate) fn names_tell(names: &Names) -> End {
     if names.len() != 3 {

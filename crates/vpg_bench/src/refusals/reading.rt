@@ -3,8 +3,9 @@
 use crate::refusals::done_if;
 use std::alloc::Global;
 use vpg_diagram::{Diagram, DiagramFault};
+use vpg_features::{NameFault, Names};
 use vpg_game::{GameFault, GuardedGame};
-use vpg_guards::{GuardFault, NameFault, Names, parse_guard};
+use vpg_guards::{GuardFault, parse_guard};
 use vpg_scarce::End;
 
 const DIAGRAM: &[u8] = b"root r\nmandatory r a\noptional r b\nalternative b: c d\nor a: e f g

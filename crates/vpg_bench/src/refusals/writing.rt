@@ -3,8 +3,9 @@
 use crate::refusals::done_if;
 use std::alloc::Global;
 use vpg_diagram::Diagram;
+use vpg_features::Names;
 use vpg_game::{DualFault, GuardedGame};
-use vpg_guards::{GuardFault, Names, parse_guard};
+use vpg_guards::{GuardFault, parse_guard};
 use vpg_hope::{PlainGame, ProjectFault, project};
 use vpg_scarce::End;
 

@@ -5,9 +5,8 @@ use crate::family::{Family, outcome};
 use std::alloc::Global;
 use std::sync::Wait;
 use std::thread::Threads;
-use vpg_report::RunFault;
 use vpg_scarce::{Heap, MOST_TRIES, more};
-use vpg_script::Ending;
+use vpg_script::{Ending, RunFault};
 
 /// A script that decides, settles and shows.
 const SCRIPT: &[u8] = b"exclude f\nsettle\nshow\ntrail\n";

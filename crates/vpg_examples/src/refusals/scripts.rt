@@ -4,9 +4,8 @@ use crate::devices::{Gives, Takes};
 use crate::family::{Family, outcome};
 use std::sync::Wait;
 use std::thread::Threads;
-use vpg_report::RunFault;
 use vpg_scarce::{Finding, Heap, MOST_TRIES, Report, more};
-use vpg_script::Ending;
+use vpg_script::{Ending, RunFault};
 
 /// A line for each command.
 const SCRIPT: &[u8] = b"\

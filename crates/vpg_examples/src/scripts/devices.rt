@@ -9,8 +9,7 @@ use std::io::Read;
 use std::sync::Wait;
 use std::thread::Threads;
 use vpg_desk::OpenFault;
-use vpg_report::RunFault;
-use vpg_script::{Ending, LineFault};
+use vpg_script::{Ending, LineFault, RunFault};
 
 /// Gives `#` and a line feed in turn, one byte a call, a number of times or for ever.
 #[derive(Drop)]

@@ -6,8 +6,7 @@ use crate::family::Family;
 use std::alloc::Global;
 use std::sync::Wait;
 use std::thread::Threads;
-use vpg_report::RunFault;
-use vpg_script::{Ending, Form, LineFault, Manner};
+use vpg_script::{Ending, Form, LineFault, Manner, RunFault};
 
 /// A manner, a script, its answers, and its end. Lines are separated by ` / `, and the last line of the script has no
 /// end. The line `LONG` stands for 4,097 bytes, `LONGEST` for 4,096, and `HUGE` for 30,000.

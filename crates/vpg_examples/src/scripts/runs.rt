@@ -6,8 +6,7 @@ use std::alloc::Global;
 use std::io::Read;
 use std::sync::Wait;
 use std::thread::Threads;
-use vpg_report::RunFault;
-use vpg_script::{Ending, Manner};
+use vpg_script::{Ending, Manner, RunFault};
 
 /// Appends a line, or a number of `#`; or answers that there was no memory.
 fn put_line(alloc: Global, line: &str, out: &mut Vec<u8>) -> bool {

@@ -8,10 +8,9 @@ use std::mem;
 use std::process::Abort;
 use std::sync::Wait;
 use std::test::*;
+use vpg_faults::{Never, Returned};
 use vpg_measure::Harvest;
-use vpg_office::{
-    Fault, Front, Never, NotWatched, Office, Redo, Returned, Session, Terms, Undo, read,
-};
+use vpg_office::{Fault, Front, NotWatched, Office, Redo, Session, Terms, Undo, read};
 use vpg_watch::{Watch, WatchFault};
 
 /// A session with its front.
