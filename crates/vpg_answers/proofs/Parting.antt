@@ -1,6 +1,6 @@
 -- What is told of who wins in the products left.
 use Rattle.std.proofs.Common.{◌≡◌, ℕ, zero, suc, ◌+◌, ◌<◌, ◌≤◌, Bool, List, [], ◌∷◌, ◌++◌, length, refl, sym, ap, ap₂, ◌∙◌, subst, inl, inr, append-nil, append_assoc, arith}
-use Rattle.std.specs.Prelude.{All, IsTrue, ◌&&◌, ◌^◌, cond, count_by, slice_index}
+use Rattle.std.specs.Prelude.{All, IfSome, IsTrue, Option, Some, ◌&&◌, ◌^◌, cond, count_by, slice_index}
 use Rattle.std.specs.List.{AllByRecursion, fold, list_all}
 use Rattle.std.proofs.lemmas.List.{length-map, map_push}
 use Rattle.vpg_guards.specs.declared.tri.Tri.{Tri}
@@ -10,8 +10,9 @@ use Rattle.vpg_diagram.proofs.Lists.{All-append}
 use Rattle.vpg_diagram.specs.declared.clause.Literal.{Literal}
 use Rattle.vpg_game.specs.Game.{graph_of, vertex_ids}
 use Rattle.vpg_measure.specs.Orders.{OrderView}
-use Rattle.vpg_number.specs.Counted.{IsCount, IsExact, unknown_features}
+use Rattle.vpg_number.specs.Counted.{IsCount, IsExact, IsNumber, unknown_features}
 use Rattle.vpg_number.specs.declared.counted.Count.{Count}
+use Rattle.vpg_number.specs.declared.counted.Count.TheVariants.{Exactly}
 use Rattle.vpg_partial.specs.TableLaws.{AreChoicesOf, IsKnownTable}
 use Rattle.vpg_partial.specs.declared.decision.Decision.{Decision}
 use Rattle.vpg_sides.specs.declared.which.Which.TheVariants.{Hopeful, Dual}
@@ -123,6 +124,14 @@ module _ (order : OrderView) where
   amount_is found looks given chosen count found_is same number settled =
       subst (λ (d : NamedDiagram). IsAmount (scene_of order.game d) looks chosen count) found_is
       (subst (λ (cs : List Literal). IsAmount (scene_of order.game found) looks cs count) same (record { number = number; settled = λ ends. settled ends.0 ends.1 ends.2 }))
+
+  -- a part's own number
+  pub own_amount : (looks : ℕ) (chosen : List Literal) (number found : Option ℕ) (own : ℕ) → IfSome number (IsNumber order.diagram.lines chosen) → found ≡ number → found ≡ Some own →
+      IsAmount shown looks chosen (Exactly own)
+  own_amount looks chosen number found own is same some = record {
+    number = subst (λ (o : Option ℕ). IfSome o (IsNumber order.diagram.lines chosen)) (sym same ∙ some) is;
+    settled = λ ends. tt;
+  }
 
   pub told_number : (limits : Limits) (count : Count) (before after : List ℕ) → IsAmount shown limits.trials (choices order.decisions) count → after ≡ before ++ number_line count →
       Appends (TellsNumber shown limits order.decisions) before after

@@ -2,12 +2,13 @@
 ghost use Rattle.std.specs.List.{list_all};
 ghost use Rattle.std.specs.Prelude.{◌≡◌, ◌<◌, ◌++◌, All, IfOk, OnOk, count_by, length};
 ghost use Rattle.vpg_answers.specs.Answers.{Appends, TellsPartLine, TellsPartLines, TellsWinners};
-ghost use Rattle.vpg_answers.specs.Numbers.{looks_each};
+ghost use Rattle.vpg_answers.specs.Numbers.{IsAmount, looks_each};
 ghost use Rattle.vpg_answers.specs.Texts.{is_lost, is_told, is_won, part_line, winner_word, winners_line};
 ghost use Rattle.vpg_partial.specs.TableLaws.{AreChoicesOf};
 ghost use Rattle.vpg_texts.specs.Scene.{scene_of};
 ghost use Rattle.vpg_texts.specs.Text.{choices_text};
 ghost use Rattle.vpg_why.specs.Explained.{choices};
+ghost use Rattle.vpg_winners.specs.Numbered.{HasItsNumber};
 ghost use Rattle.vpg_winners.specs.Winners.{view_of, views};
 
 use crate::reasons::{identifier, names};
@@ -16,7 +17,7 @@ use std::alloc::{AllocError, Global};
 use vpg_diagram::Literal;
 use vpg_features::Names;
 use vpg_measure::Order;
-use vpg_number::{Count, number};
+use vpg_number::{Count, Natural, number};
 use vpg_partial::Decision;
 use vpg_texts::blank_number;
 use vpg_why::Limits;
@@ -86,6 +87,35 @@ fn with_all(
     Ok(more)
 }
 
+/// Returns a copy of the part's own number, if it has one.
+fn own_number(alloc: Global, part: &Part) -> Result<Option<Natural>, AllocError>
+    ensures { IfOk result (λ copy. copy ≡ part.now.number) }
+{
+    match &part.number {
+        Some(number) => {
+            let copy = number.plus(alloc, &Natural::zero(alloc))?;
+            Ok(Some(copy))
+        }
+        None => Ok(None),
+    }
+}
+
+/// Returns the number of products in a part: its own, if it has one.
+fn amount(alloc: Global, order: &Order, part: &Part, looks: u64) -> Result<Count, AllocError>
+    requires named { AreChoicesOf order.now.diagram.lines part.now.literals.items }
+    requires number { HasItsNumber order.now.diagram.lines (choices order.now.decisions) part.now }
+    ensures { IfOk result (IsAmount (scene_of order.now.game order.now.diagram) looks
+        (choices order.now.decisions ++ part.now.literals.items)) }
+{
+    let found = own_number(alloc, part)?;
+    if let Some(own) = found {
+        return Ok(Count::Exactly(own));
+    }
+    let more = with_all(alloc, order.decisions(), &part.literals)?;
+    let count = number(alloc, order.diagram(), &more, looks)?;
+    Ok(count)
+}
+
 /// Appends a part, and the number of products in it.
 fn counted(
     alloc: Global,
@@ -95,14 +125,14 @@ fn counted(
     looks: u64,
     out: &mut Vec<u8>,
 ) -> Result<(), AllocError>
-    requires { AreChoicesOf order.now.diagram.lines part.now.literals.items }
+    requires named { AreChoicesOf order.now.diagram.lines part.now.literals.items }
+    requires number { HasItsNumber order.now.diagram.lines (choices order.now.decisions) part.now }
     ensures { OnOk result (Appends
         (TellsPartLine (scene_of order.now.game order.now.diagram) looks identifier (choices order.now.decisions)
         (view_of part.now)) out.old.items out.new.items) }
 {
     let names = names(order);
-    let more = with_all(alloc, order.decisions(), &part.literals)?;
-    let count = number(alloc, order.diagram(), &more, looks)?;
+    let count = amount(alloc, order, part, looks)?;
     part_line(alloc, names, identifier, part, &count, out)
 }
 
@@ -115,7 +145,8 @@ fn each(
     looks: u64,
     out: &mut Vec<u8>,
 ) -> Result<(), AllocError>
-    requires { All (λ p. AreChoicesOf order.now.diagram.lines p.literals.items) parts.now }
+    requires named { All (λ p. AreChoicesOf order.now.diagram.lines p.literals.items) parts.now }
+    requires numbers { All (HasItsNumber order.now.diagram.lines (choices order.now.decisions)) parts.now }
     ensures { OnOk result (Appends
         (TellsPartLines (scene_of order.now.game order.now.diagram) looks identifier (choices order.now.decisions)
         (views parts.now)) out.old.items out.new.items) }

@@ -12,3 +12,8 @@ pub mod Looking
 pub mod Rooms
 pub mod Cut
 pub mod Sides
+pub mod Numbers
+pub mod Uncounted
+pub mod OwnNumbers
+pub mod SameParts
+pub mod Marking

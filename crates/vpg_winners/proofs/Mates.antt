@@ -1,5 +1,5 @@
 -- Which part another is joined with.
-use Rattle.std.proofs.Common.{◌≡◌, ℕ, zero, suc, ◌+◌, ◌<◌, ◌≤◌, ◌⊎◌, inl, inr, List, [], ◌∷◌, ◌++◌, length, map, get_or, drop, refl, sym, ap, ◌∙◌, subst, arith}
+use Rattle.std.proofs.Common.{◌≡◌, ℕ, zero, suc, ◌+◌, ◌<◌, ◌≤◌, ◌⊎◌, inl, inr, List, [], ◌∷◌, ◌++◌, length, map, get_or, drop, refl, sym, ap, ◌∙◌, subst, append_assoc, arith}
 use Rattle.std.specs.List.{remove}
 use Rattle.std.proofs.lemmas.Bool.{cases_eq}
 use Rattle.std.proofs.lemmas.List.{length-map, get_or-map, map-append, drop_more, drop_all}
@@ -77,6 +77,22 @@ put_next all more parts i x cut literal new inside is e put rest =
     subst (λ (ps : List Part). ArePut (views all) (map (cut_by literal) (views ps)) new)
     (sym (drop_more parts i x inside ∙ ap (λ (p : Part). p ∷ drop (i + 1) parts) (sym is)))
     (next (subst (λ (v : PartView). IsPut (views all) v (views more)) e put) rest)
+
+-- one of several parts takes a literal, and then the rest
+pub cut_next : (parts more new : List Part) (i : ℕ) (x cut : Part) (literal : Literal) (all : List PartView) →
+    i < length parts → x ≡ get_or parts i x → view_of cut ≡ cut_by literal (view_of x) → new ≡ more ++ cut ∷ [] →
+    views more ++ map (cut_by literal) (views (drop i parts)) ≡ all →
+    views new ++ map (cut_by literal) (views (drop (i + 1) parts)) ≡ all
+cut_next parts more new i x cut literal all inside is view e same =
+    ap (λ (ps : List Part). views ps ++ rest) e
+    ∙ (ap (λ (vs : List PartView). vs ++ rest) (map-append view_of more (cut ∷ []))
+    ∙ (append_assoc (views more) (view_of cut ∷ []) rest
+    ∙ (ap (λ (v : PartView). views more ++ v ∷ rest) view
+    ∙ (ap (λ (ps : List Part). views more ++ map (cut_by literal) (views ps))
+    (sym (drop_more parts i x inside ∙ ap (λ (p : Part). p ∷ drop (i + 1) parts) (sym is))) ∙ same))))
+  where
+    rest : List PartView
+    rest = map (cut_by literal) (views (drop (i + 1) parts))
 
 pub put_none : (all parts : List Part) (i : ℕ) (literal : Literal) → length parts ≤ i →
     ArePut (views all) (map (cut_by literal) (views (drop i parts))) (views all)

@@ -5,3 +5,5 @@ pub mod Joined
 pub mod Standing
 pub mod Laws
 pub mod Cutting
+pub mod Numbered
+pub mod Pairs

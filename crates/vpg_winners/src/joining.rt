@@ -1,10 +1,11 @@
 //! Joins parts that differ in one sign alone.
 ghost use Rattle.std.specs.Prelude.{◌≡◌, ◌↔◌, ℕ, ◌<◌, ◌≤◌, length, map, take, slice_index_or, IfOk, IfSome, IsNone, IsTrue, OnOk};
 ghost use Rattle.vpg_diagram.specs.declared.clause.Literal.{Literal};
-ghost use Rattle.vpg_winners.specs.Joined.{AreHalves, ArePut, CanJoin, DiffersAt, HasNoMate, IsFirstMate, IsPut, JoinsAt, cut_by};
+ghost use Rattle.vpg_winners.specs.Joined.{AreHalves, ArePut, CanJoin, DiffersAt, HasNoMate, IsFirstMate, IsPut, JoinsAt, PartView, cut_by};
+ghost use Rattle.vpg_winners.specs.Numbered.{AreHalvesNumbered, AreNumberedBy, IsAdditive, IsNumberedBy};
 ghost use Rattle.vpg_winners.specs.Winners.{view_of, views};
 
-use crate::parts::{Part, cut, cut_all};
+use crate::parts::{Part, cut, cut_all, sum};
 use std::alloc::{AllocError, Global};
 use vpg_diagram::Literal;
 
@@ -15,7 +16,7 @@ fn is_same(one: Literal, other: Literal) -> bool
 }
 
 // The number of equal literals at the front of both lists.
-fn same_front(one: &[Literal], other: &[Literal]) -> usize
+pub(crate) fn same_front(one: &[Literal], other: &[Literal]) -> usize
     ensures within { result ≤ length one.now }
     ensures within_other { result ≤ length other.now }
     ensures same { take result one.now ≡ take result other.now }
@@ -84,13 +85,17 @@ fn mate_of(parts: &[Part], part: &Part) -> Option<Mate>
 }
 
 // Puts a part to others: it is joined with the first of them that it can be joined with, then again, and is put last.
-fn put(parts: &mut Vec<Part>, part: Part) -> Result<(), AllocError>
-    ensures { OnOk result (IsPut (views parts.old.items) (view_of part) (views parts.new.items)) }
+fn put(alloc: Global, parts: &mut Vec<Part>, part: Part) -> Result<(), AllocError>
+    ensures put { OnOk result (IsPut (views parts.old.items) (view_of part) (views parts.new.items)) }
+    ensures numbers { OnOk result ((measure : PartView → ℕ) → IsAdditive measure →
+        AreNumberedBy measure parts.old.items → IsNumberedBy measure part → AreNumberedBy measure parts.new.items) }
 {
     let mut part = part;
     'joining: while let Some(mate) = mate_of(parts, &part) {
-        parts.remove(mate.place);
+        let taken = parts.remove(mate.place);
+        let number = sum(alloc, &taken.number, &part.number)?;
         part.literals.remove(mate.literal);
+        part.number = number;
     }
     parts.push(part)?;
     Ok(())
@@ -103,12 +108,15 @@ fn put_all(
     literal: Literal,
     parts: &[Part],
 ) -> Result<(), AllocError>
-    ensures { OnOk result
+    ensures put { OnOk result
         (ArePut (views all.old.items) (map (cut_by literal) (views parts.now)) (views all.new.items)) }
+    ensures numbers { OnOk result ((measure : PartView → ℕ) → IsAdditive measure →
+        AreNumberedBy measure all.old.items → AreNumberedBy (λ part. measure (cut_by literal part)) parts.now →
+        AreNumberedBy measure all.new.items) }
 {
     for part in parts {
         let more = cut(alloc, literal, part)?;
-        put(all, more)?;
+        put(alloc, all, more)?;
     }
     Ok(())
 }
@@ -120,8 +128,10 @@ pub(crate) fn halves(
     with_it: Vec<Part>,
     without: Vec<Part>,
 ) -> Result<Vec<Part>, AllocError>
-    ensures { IfOk result
+    ensures parts { IfOk result
         (λ parts. AreHalves feature (views with_it.items) (views without.items) (views parts.items)) }
+    ensures numbers { IfOk result (λ parts. (measure : PartView → ℕ) →
+        AreHalvesNumbered measure feature with_it.items without.items → AreNumberedBy measure parts.items) }
 {
     if with_it.is_empty() {
         return Ok(without);

@@ -3,6 +3,7 @@ use Rattle.std.proofs.lemmas.List.{take_all, take_more}
 use Rattle.vpg_partial.specs.TableLaws.{AreChoicesOf}
 use Rattle.vpg_texts.specs.Scene.{scene_of}
 use Rattle.vpg_why.specs.Explained.{choices}
+use Rattle.vpg_winners.specs.Numbered.{HasItsNumber}
 use Rattle.vpg_winners.specs.Winners.{views}
 use Rattle.vpg_winners.specs.declared.parts.Part.{Part}
 use Rattle.vpg_answers.specs.Answers.{Appends, TellsPartLines}
@@ -23,10 +24,15 @@ loop-part-preserved c =
     told_line (scene_of c.args.order.now.game c.args.order.now.diagram) c.args.looks c.args.identifier (choices c.args.order.now.decisions)
     (take i parts) (take (i + 1) parts) part c.args.out.now.items c.loop-part.out.items c.counted.new.out.items all c.loop-part.invariant c.in_ok-counted.ensures
 
-pub counted-requires : goal.counted-requires
-counted-requires c =
+pub counted-requires-clause-named : goal.counted-requires-clause-named
+counted-requires-clause-named c =
     subst (λ (p : Part). AreChoicesOf c.args.order.now.diagram.lines p.literals.items) (sym c.part-item.is)
-    (c.requires c.loop-part.part-index c.part-item.result c.loop-part-test.true)
+    (c.requires.named c.loop-part.part-index c.part-item.result c.loop-part-test.true)
+
+pub counted-requires-clause-number : goal.counted-requires-clause-number
+counted-requires-clause-number c =
+    subst (HasItsNumber c.args.order.now.diagram.lines (choices c.args.order.now.decisions)) (sym c.part-item.is)
+    (c.requires.numbers c.loop-part.part-index c.part-item.result c.loop-part-test.true)
 
 pub returns : goal.returns
 returns c =

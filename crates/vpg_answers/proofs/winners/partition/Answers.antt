@@ -1,6 +1,8 @@
 use Rattle.std.proofs.Common.{◌≡◌, length, arith}
+use Rattle.std.proofs.lemmas.List.Elements.{All-from_recursion}
 use Rattle.vpg_texts.proofs.Shown.{on_ok}
 use Rattle.vpg_why.specs.Explained.{choices}
+use Rattle.vpg_winners.specs.Numbered.{HasItsNumber}
 use Rattle.vpg_winners.specs.Winners.{views}
 use Rattle.vpg_answers.proofs.Parting.{are_winners, parts_named, told_winners}
 use Rattle.vpg_answers.proofs.winners.partition.Goals as goal
@@ -8,10 +10,15 @@ use Rattle.vpg_answers.proofs.winners.partition.Goals as goal
 pub winners-requires-clause-named : goal.winners-requires-clause-named
 winners-requires-clause-named c = rw c.decisions.ensures.decisions c.decisions.ensures.order.named
 
-pub each-requires : goal.each-requires
-each-requires c =
+pub each-requires-clause-named : goal.each-requires-clause-named
+each-requires-clause-named c =
     rw c.deref.ensures.value
     (parts_named c.args.order.now.diagram.lines (choices c.decisions.result.now) c.in_ok-parts.parts.items c.in_ok-parts.ensures.«open»)
+
+pub each-requires-clause-numbers : goal.each-requires-clause-numbers
+each-requires-clause-numbers c =
+    rw (c.deref.ensures.value, ← c.decisions.ensures.decisions)
+    (All-from_recursion (HasItsNumber c.args.order.now.diagram.lines (choices c.decisions.result.now)) c.in_ok-parts.parts.items c.in_ok-parts.ensures.numbers)
 
 pub returns : goal.returns
 returns c =
