@@ -5,12 +5,19 @@
 
 YARDSTICK is `winners.rs`, compiled (`rustc -O`): product by product (`each`), and the family-based recursion over sets
 of products, as bits and as decision diagrams (`bits`, `bdd`). One line for each of the examples and for each generated
-family of 2^BITS products: processor seconds of each yardstick on the whole game, less its reading, and of `settle` and
-the line by the program, on a page without decisions; how many times the better of `bits` and `bdd` that is; and the
-parts of `winners`. Each figure is the median of three rounds, all in one run; a line that takes less than 0.02 seconds
-is asked 20 times in a round. `more` stands where LIMIT seconds were not enough, `~` where `each` was stopped after
-OF_EACH, and the rest is estimated. Products in parts that are won are counted by the yardsticks, too: a row ` differs`
-where their numbers are not the same.
+family of 2^BITS products, all in processor seconds, medians of three rounds in one run:
+
+  Each, Bits, BDD          the yardstick solves the whole game and counts the products that are won; less its reading
+  Bits, parts; BDD, parts  it also writes the parts of `winners V`, as docs/FORMATS.md says, to nowhere
+  `winners`                that line by the program, on a page without decisions that was never settled
+  Times                    that many times the better of `Bits, parts` and `BDD, parts`
+  `decide`                 `settle` and that line
+  Times                    that many times the better of `Bits` and `BDD`
+  Parts                    those of `winners`
+
+A line that takes less than 0.02 seconds is asked 20 times in a round. `more` stands where LIMIT seconds were not
+enough, `~` where `each` was stopped after OF_EACH, and the rest is estimated. The yardsticks count products that are
+won and parts, too: a row ` differs` where their numbers are not the same.
 
 Below the table: where the program is slower than product by product, where it takes over three times the better
 family-based yardstick, and where an answer met a limit. A difference in numbers ends the run with status 1.
@@ -243,17 +250,22 @@ def said(words):
     return ran.stdout.split() if ran.returncode == 0 else None
 
 
-def yardstick(program, game, diagram, how, vertex):
-    """Seconds (None if that is over LIMIT), whether estimated, and how many products win, or None if not all were."""
-    words = said([program, game, diagram, how, vertex, OF_EACH if how == "each" else LIMIT])
-    if words is None:
-        return None, False, None
-    seconds, late = float(words[1]), words[7] == "true"
-    products, won = int(words[3]), int(words[5])
-    if not late:
-        return seconds, False, (products, won)
-    done = int(words[9]) if how == "each" else 0
-    return (seconds * products / done, True, None) if done else (None, False, None)
+class Measured:
+    """What a yardstick found in LIMIT seconds: None for seconds that were not enough, and what is known then."""
+
+    def __init__(self, program, files, how, vertex):
+        words = said([program, *files, how, vertex, OF_EACH if how == "each" else LIMIT])
+        self.seconds, self.with_parts, self.is_estimate, self.won, self.parts = None, None, False, None, None
+        if words is None:
+            return
+        told = dict(zip(words[::2], words[1::2]))
+        seconds, products = float(told[how]), int(told["products"])
+        if told["late"] == "false":
+            self.seconds, self.won = seconds, (products, int(told["won"]))
+            if told.get("cut") == "true":
+                self.with_parts, self.parts = float(told["written"]), int(told["parts"])
+        elif how == "each" and int(told["done"]):
+            self.seconds, self.is_estimate = seconds * products / int(told["done"]), True
 
 
 def half_won(program, game, diagram):
@@ -283,7 +295,7 @@ class Row:
 
     def __init__(self, name, game, diagram, vertex):
         self.name, self.files, self.vertex = name, (game, diagram), vertex
-        self.seconds, self.estimated, self.counts = {}, set(), {}
+        self.seconds, self.estimated, self.counts, self.parts_told = {}, set(), {}, set()
         self.answers = {"winners": [], "decide": []}
 
     def note(self, column, seconds):
@@ -292,24 +304,31 @@ class Row:
     def is_over(self, column):
         return None in self.seconds.get(column, []) or column in self.estimated
 
+    def measure(self, plain, how):
+        found = Measured(plain, self.files, how, self.vertex)
+        self.note(how, found.seconds)
+        if how != "each":
+            self.note(f"{how} parts", found.with_parts)
+        self.estimated |= {how} if found.is_estimate else set()
+        if found.won:
+            self.counts[how] = found.won
+        if found.parts is not None:
+            self.parts_told.add(found.parts)
+
     def round(self, program, plain):
         for how in ("each", "bits", "bdd"):
             if not self.is_over(how):
-                seconds, estimated, count = yardstick(plain, *self.files, how, self.vertex)
-                self.note(how, seconds)
-                self.estimated |= {how} if estimated else set()
-                if count:
-                    self.counts[how] = count
-        desk = Timed(program, *self.files, LIMIT)
-        settled, _ = desk.ask("settle")
+                self.measure(plain, how)
+        desk, before = Timed(program, *self.files, LIMIT), 0
         for line in self.answers:
+            if line == "decide":
+                before, _ = desk.ask("settle")
             if not self.is_over(line):
                 seconds, answer = asked(desk, f"{line} {self.vertex}")
-                self.note(line, None if seconds is None else settled + seconds)
+                self.note(line, None if seconds is None else before + seconds)
                 self.answers[line] = answer
                 if seconds is None:
                     desk = Timed(program, *self.files, LIMIT)
-                    settled, _ = desk.ask("settle")
         desk.close()
 
     def median(self, column):
@@ -322,12 +341,14 @@ class Row:
             return "more"
         return f"{'~' if column in self.estimated else ''}{value:.4f}" if value < 0.1 else f"{value:.2f}"
 
-    def best(self):
-        values = [self.median(how) for how in ("bits", "bdd")]
+    def best(self, line):
+        """The seconds of the better family-based yardstick for what the line tells."""
+        columns = ["bits parts", "bdd parts"] if line == "winners" else ["bits", "bdd"]
+        values = [self.median(it) for it in columns]
         return min((it for it in values if it is not None), default=None)
 
     def times(self, line):
-        value, best = self.median(line), self.best()
+        value, best = self.median(line), self.best(line)
         return None if value is None or best is None else value / best
 
     def is_open(self, line):
@@ -343,16 +364,20 @@ class Row:
         return f"{told}, {unsettled} unsettled" if unsettled else told + (" or more" if self.is_open("winners") else "")
 
     def is_different(self):
-        if len(set(self.counts.values())) > 1:
+        if len(set(self.counts.values())) > 1 or len(self.parts_told) > 1:
             return True
-        won, is_whole = products_won(self.answers["winners"])
-        return bool(self.counts) and self.median("winners") is not None and is_whole and won != self.won()[1]
+        answer = self.answers["winners"]
+        won, is_whole = products_won(answer)
+        if not self.counts or self.median("winners") is None or not is_whole:
+            return False
+        return won != self.won()[1] or any(it != len(answer) - 1 for it in self.parts_told)
 
     def won(self):
         return next(iter(self.counts.values()), (0, 0))
 
     def line(self):
-        cells = [self.name, str(self.won()[0] or "?"), *(self.shown(how) for how in ("each", "bits", "bdd"))]
+        columns = ("each", "bits", "bdd", "bits parts", "bdd parts")
+        cells = [self.name, str(self.won()[0] or "?"), *(self.shown(it) for it in columns)]
         for line in self.answers:
             times = self.times(line)
             mark = " open" if line == "decide" and self.is_open(line) else ""
@@ -366,7 +391,7 @@ def is_slower(row, line):
 
 
 def is_far(row, line):
-    value, best = row.median(line), row.best()
+    value, best = row.median(line), row.best(line)
     return best is not None and (value is None or value > TIMES * best + NOISE)
 
 
@@ -386,8 +411,8 @@ def of_system(program, plain, folder, name):
         subprocess.run([program, "model", *inputs], stdout=out, check=True)
     words = [program, "check", "--system", inputs[0], "--requirements", inputs[1], inputs[2]]
     lines = subprocess.run(words, capture_output=True, text=True, check=True).stdout.splitlines()[1:]
-    cubes = lambda vertex: int(said([plain, made, inputs[2], "bdd", vertex, LIMIT])[11])
-    vertex = max((line.split()[-1] for line in lines), key=cubes)
+    parts = lambda vertex: Measured(plain, (made, inputs[2]), "bdd", vertex).parts or 0
+    vertex = max((line.split()[-1] for line in lines), key=parts)
     return Row(name, made, inputs[2], vertex)
 
 
@@ -417,8 +442,9 @@ def main():
     sizes = [int(it) for it in (words[2] if len(words) > 2 else "10,14,20").split(",")]
     kinds = words[3:] or ["examples", *KINDS]
     print(place(), flush=True)
-    print("| Family | Products | Each | Bits | BDD | `winners` | Times | `decide` | Times | Parts |")
-    print("|---|---|---|---|---|---|---|---|---|---|")
+    yardsticks = "Each | Bits | BDD | Bits, parts | BDD, parts"
+    print(f"| Family | Products | {yardsticks} | `winners` | Times | `decide` | Times | Parts |")
+    print("|---" * 12 + "|")
     done = []
     with tempfile.TemporaryDirectory() as folder:
         for row in rows(program, plain, folder, sizes, kinds):
