@@ -1,0 +1,5 @@
+pub mod Spelled
+pub mod Entries
+pub mod PlainGames
+pub mod SameWinners
+pub mod Tops

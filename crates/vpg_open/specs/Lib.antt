@@ -1,0 +1,2 @@
+pub mod SettledGames
+pub mod OpenVertices
