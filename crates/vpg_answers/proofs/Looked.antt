@@ -1,6 +1,6 @@
 -- Lookups, and whether a product is left.
 use Rattle.std.proofs.Common.{◌≡◌, ℕ, Bool, true, false, List, [], ◌∷◌, ◌++◌, refl, sym, ap, ◌∙◌, subst, inl, inr, append_assoc}
-use Rattle.std.specs.Prelude.{IsTrue, codes}
+use Rattle.std.specs.Prelude.{codes}
 use Rattle.std.proofs.lemmas.Bool.{false≢true}
 use Rattle.vpg_diagram.specs.DiagramText.{NamedDiagram}
 use Rattle.vpg_game.specs.Game.{NamedGame}
@@ -29,7 +29,6 @@ use Rattle.vpg_answers.specs.declared.looking.Left.{Left}
 use Rattle.vpg_answers.specs.declared.looking.Left.TheVariants as lefts
 use Rattle.vpg_answers.specs.Asserted.{failing}
 use Rattle.vpg_answers.specs.Looked.{HasMetLimit, IsCountAnswer, IsLeft, IsLooked, IsSeenIfLeft, asserts_verdicts, is_count, left_mark}
-use Rattle.vpg_answers.specs.Room.{SearchEnds}
 
 -- ---- what a search finds
 

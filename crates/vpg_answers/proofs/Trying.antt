@@ -25,7 +25,6 @@ use Rattle.vpg_why.specs.declared.searching.Found.TheVariants as founds
 use Rattle.vpg_answers.specs.Repairs.{AreTried, HasWinner, HaveEffects, IsEffect, IsLostBy, without}
 use Rattle.vpg_answers.specs.Room.{RoundsSettle, SearchEnds}
 use Rattle.vpg_answers.specs.declared.retracting.Effect.{Effect}
-use Rattle.vpg_answers.specs.declared.retracting.Effect.TheVariants as effects
 use Rattle.vpg_answers.specs.declared.retracting.Tried.{Tried}
 
 -- what is given up is of the decisions

@@ -1,5 +1,5 @@
 -- The meaning of answers about a page. This project's own.
-use Rattle.std.specs.Prelude.{◌≡◌, ◌≢◌, ℕ, ◌<◌, ⊤, ◌⊎◌, Bool, true, false, Option, Some, None, List, [], ◌++◌, codes, length, slice_index, IsTrue}
+use Rattle.std.specs.Prelude.{◌≡◌, ℕ, ◌<◌, ⊤, ◌⊎◌, Bool, true, false, Option, Some, None, List, [], ◌++◌, codes, length, slice_index, IsTrue}
 use Rattle.std.specs.List.{list_all, list_any}
 use Rattle.vpg_guards.specs.declared.tri.Tri.{Tri}
 use Rattle.vpg_diagram.specs.FeatureDiagram.{IsDiagram}

@@ -83,7 +83,7 @@ pub(crate) fn exact(
 {
     // The invariant of every order, for the proof.
     let _order = order.game();
-    let found = decide(alloc, order, vertex, order.decisions(), limits)?;
+    let found = decide(alloc, order, vertex, limits)?;
     match found {
         Decided::Won => compared(asserted, ExactVerdict::Won, out),
         Decided::Lost => compared(asserted, ExactVerdict::Lost, out),

@@ -68,7 +68,7 @@ pub(crate) fn decided(
 {
     let names = names(order);
     let identifier = identifier(order, vertex);
-    let found = decide(alloc, order, vertex, order.decisions(), limits)?;
+    let found = decide(alloc, order, vertex, limits)?;
     match found {
         Decided::Won => fact(Which::Dual, identifier, out),
         Decided::Lost => fact(Which::Hopeful, identifier, out),

@@ -8,7 +8,8 @@ use crate::lines;
 use crate::reasons::names;
 use std::alloc::{AllocError, Global};
 use vpg_measure::Order;
-use vpg_why::{Aim, Found, Limits, find};
+use vpg_why::{Aim, Found, Limits};
+use vpg_winners::find;
 
 /// Appends a product left that meets the aim, or that there is none. In such a product Even wins from the vertex, for
 /// the hopeful table, or Odd, for the dual.

@@ -11,7 +11,8 @@ use std::alloc::{AllocError, Global};
 use vpg_features::Names;
 use vpg_measure::Order;
 use vpg_partial::Decision;
-use vpg_why::{Aim, Limits, WhyLost, why_lost};
+use vpg_why::{Aim, Limits, WhyLost};
+use vpg_winners::why_lost;
 
 /// Appends the head of the line about such a loss.
 fn head(order: &Order, aim: Aim, out: &mut Vec<u8>) -> Result<(), AllocError>

@@ -11,7 +11,8 @@ use std::alloc::{AllocError, Global};
 use vpg_diagram::Literal;
 use vpg_features::Names;
 use vpg_measure::Order;
-use vpg_why::{Aim, Demand, Limits, needs};
+use vpg_why::{Aim, Demand, Limits};
+use vpg_winners::needs;
 
 /// Returns the first word of its lines.
 fn word_of(aim: Aim) -> &'static [u8]

@@ -22,7 +22,8 @@ use vpg_measure::Order;
 use vpg_partial::Partial;
 use vpg_sides::Which;
 use vpg_texts::blank_number;
-use vpg_why::{Findings, Foresight, Limits, Shown, foresee, no_findings};
+use vpg_why::{Findings, Foresight, Limits, Shown, foresee};
+use vpg_winners::both_findings;
 
 /// The winner in the products left.
 #[derive(Clone, Copy)]
@@ -70,16 +71,18 @@ pub(crate) struct Shared {
 }
 
 /// Returns what there is before the first offer of a line.
-fn line_of(alloc: Global, limits: Limits) -> Shared
-    ensures { (game : NamedGame) (diagram : NamedDiagram) (vertex : ℕ) (own : List Literal) →
-        IsShared game diagram vertex own result }
+fn line_of(alloc: Global, order: &Order, vertex: u32, limits: Limits) -> Result<Shared, AllocError>
+    requires { vertex < length order.now.game.vertices }
+    ensures { IfOk result
+        (IsShared order.now.game order.now.diagram vertex (choices order.now.decisions)) }
 {
-    Shared {
+    let (won, lost) = both_findings(alloc, order, vertex)?;
+    Ok(Shared {
         looks: limits.budget,
         trials: limits.trials,
-        won: no_findings(alloc),
-        lost: no_findings(alloc),
-    }
+        won,
+        lost,
+    })
 }
 
 /// Returns the winner, by whether each player wins in some product: first Even, then Odd.
@@ -219,7 +222,7 @@ fn list(
         (λ listed. AllByRecursion (λ o. o.choice.feature < feature_count order.now.diagram.lines) listed.items) }
 {
     let features = order.diagram().features() as u16;
-    let mut line = line_of(alloc, limits);
+    let mut line = line_of(alloc, order, vertex, limits)?;
     let mut listed = Vec::new(alloc);
     'listing: for feature in 0..features {
         list_open(

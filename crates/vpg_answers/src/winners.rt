@@ -251,7 +251,7 @@ pub(crate) fn partition(
         out.old.items out.new.items) }
 {
     let identifier = identifier(order, vertex);
-    let parts = winners(alloc, order, vertex, order.decisions(), limits)?;
+    let parts = winners(alloc, order, vertex, limits)?;
     let looks = looks_each(limits.trials, parts.len());
     each(alloc, order, identifier, &parts, looks, out)?;
     totals(identifier, &parts, out)

@@ -17,3 +17,6 @@ pub mod Uncounted
 pub mod OwnNumbers
 pub mod SameParts
 pub mod Marking
+pub mod Shares
+pub mod MetSets
+pub mod Learned

@@ -14,7 +14,7 @@ use Rattle.vpg_why.specs.Suffices.{choice}
 use Rattle.vpg_winners.specs.declared.parts.Part.{Part}
 use Rattle.vpg_winners.specs.Joined.{AreHalves, PartView, cut_by, CanJoin, JoinsAt, ArePut, done, next}
 use Rattle.vpg_winners.proofs.SameParts.{IsApart, AreApart, apart_next, paired_put, paired_is, head_none, tail_joined, own_join}
-use Rattle.vpg_winners.specs.Pairs.{AreFlagged, marked, mark_from, mark_of, IsFirstSame, HasNone, HasNot, IsPaired, IsBehind, AreBehind}
+use Rattle.vpg_winners.specs.Pairs.{AreFlagged, marked, mark_from, mark_in, mark_of, IsFirstSame, HasNone, HasNot, IsPaired, IsBehind, AreBehind}
 use Rattle.vpg_winners.specs.Winners.{AreJoined, view_of, views}
 
 -- ---- marks
@@ -57,7 +57,7 @@ views_removed (p ∷ ps) zero = refl
 views_removed (p ∷ ps) (suc n) = ap (λ (vs : List PartView). view_of p ∷ vs) (views_removed ps n)
 
 pub mark_by_view : (parts : List Part) (k d : ℕ) (v : PartView) → k < length parts →
-    get_or (map mark_of parts) k d ≡ mark_from 0 (get_or (views parts) k v).literals
+    get_or (map mark_of parts) k d ≡ mark_in (get_or (views parts) k v)
 mark_by_view [] k d v less = absurd (omega (arith, less))
 mark_by_view (p ∷ ps) zero d v less = refl
 mark_by_view (p ∷ ps) (suc k) d v less = mark_by_view ps k d v (omega (arith, less))
@@ -133,7 +133,7 @@ none_flagged d flags parts marks part own slot e are own_is is inside off_so =
         one same = cc (all.0, off, is, own_is, mark_same)
           where
             mark_same : mark_of p ≡ mark_of part
-            mark_same = ap (λ (v : PartView). mark_from 0 v.literals) same
+            mark_same = ap (λ (v : PartView). mark_in v) same
 
 -- ---- the same part
 
@@ -182,7 +182,7 @@ module _ (parts : List Part) (marks : List ℕ) (part : Part) (own from : ℕ) (
       mark_is : get_or marks k 0 ≡ own
       mark_is = ap (λ (ms : List ℕ). get_or ms k 0) marks_are
           ∙ mark_by_view parts k 0 d (omega (arith, less, within))
-          ∙ ap (λ (v : PartView). mark_from 0 v.literals) same ∙ sym own_is
+          ∙ ap (λ (v : PartView). mark_in v) same ∙ sym own_is
 
       of : (k < from) ⊎ (from ≤ k) → ⊥
       of (inl l) = none k d l same

@@ -5,5 +5,8 @@ pub mod Joined
 pub mod Standing
 pub mod Laws
 pub mod Cutting
+pub mod Divided
 pub mod Numbered
 pub mod Pairs
+pub mod Finding
+pub mod Gathering

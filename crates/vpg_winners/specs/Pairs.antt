@@ -4,20 +4,32 @@ use Rattle.std.specs.List.{AllByRecursion, remove}
 use Rattle.vpg_diagram.specs.declared.clause.Literal.{Literal}
 use Rattle.vpg_why.specs.Suffices.{choice}
 use Rattle.vpg_winners.specs.declared.parts.Part.{Part}
+use Rattle.vpg_winners.specs.declared.parts.Winner.{Winner}
+use Rattle.vpg_winners.specs.declared.parts.Winner.TheVariants.{Won, Lost, Unsettled}
 use Rattle.vpg_winners.specs.Joined.{PartView, cut_by}
+use Rattle.vpg_winners.specs.Winners.{view_of}
 
 -- a mark with one literal more
 unfoldable pub marked : ℕ → Literal → ℕ
 marked mark l = ((mark * 1000003) % 2 ^ 64 + (2 * l.feature + cond l.value 1 0)) % 2 ^ 64
 
--- a number that equal lists share
+-- a number that equal lists share, behind another number
 unfoldable pub mark_from : ℕ → List Literal → ℕ
 mark_from mark [] = mark
 mark_from mark (l ∷ ls) = mark_from (marked mark l) ls
 
--- that of a part's literals
+-- where the marks of a winner's parts begin
+abbrev pub first_mark : Winner → ℕ
+first_mark Won = 1
+first_mark Lost = 2
+first_mark Unsettled = 3
+
+-- a number that equal parts share: of the winner and the literals
+abbrev pub mark_in : PartView → ℕ
+mark_in part = mark_from (first_mark part.winner) part.literals
+
 abbrev pub mark_of : Part → ℕ
-mark_of part = mark_from 0 part.literals.items
+mark_of part = mark_in (view_of part)
 
 -- the flag at the slot of each mark is set
 pub record AreFlagged (flags : List Bool) (marks : List ℕ) : Type 0 where

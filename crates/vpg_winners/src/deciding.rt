@@ -1,11 +1,14 @@
 //! The winner at a vertex in the products that are left.
-ghost use Rattle.std.specs.Prelude.{◌≡◌, ◌<◌, length, IfOk};
+ghost use Rattle.std.specs.Prelude.{◌≡◌, ◌<◌, length, IfOk, IfSome};
 ghost use Rattle.vpg_game.specs.Game.{graph_of};
 ghost use Rattle.vpg_partial.specs.TableLaws.{AreChoicesOf};
 ghost use Rattle.vpg_why.specs.Explained.{choices};
 ghost use Rattle.vpg_why.specs.Suffices.{IsSettled};
 ghost use Rattle.vpg_winners.specs.Decided.{IsDecidedAs, IsDecidedExact, decided_by};
 
+use crate::dividing::Effort;
+use crate::finding::first_found;
+use crate::two_sets::two_sets;
 use std::alloc::{AllocError, Global};
 use vpg_measure::Order;
 use vpg_partial::Decision;
@@ -46,13 +49,27 @@ fn both(won: Found, lost: Found) -> Decided
     }
 }
 
-/// Returns the winner at the vertex in the products that agree with the decisions. If both players win some, the answer
-/// has the first product of each, if no limit was met.
-///
-/// The call looks for a product that Even wins, with half of the trials of the limits, and then for one that Odd wins,
-/// with the rest. Where these suffice for each case of the open features, each search has them all. The only error is a
-/// lack of memory.
-pub fn decide(
+// The winner by the two sets of products; nothing if a limit is met.
+fn decide_by_sets(alloc: Global, order: &Order, vertex: u32) -> Result<Option<Decided>, AllocError>
+    requires { vertex < length order.now.game.vertices }
+    ensures decided { IfOk result (λ found. IfSome found
+        (IsDecidedAs (graph_of order.now.game) order.now.diagram.lines (choices order.now.decisions) vertex)) }
+    ensures exact { IfOk result (λ found. IfSome found IsDecidedExact) }
+{
+    // Properties of every order, for the proof.
+    let _order = order.game();
+    let two = match two_sets(alloc, order, vertex, Effort::First)? {
+        Some(two) => two,
+        None => return Ok(None),
+    };
+    let won = first_found(alloc, &two.sets, two.won)?;
+    let lost = first_found(alloc, &two.sets, two.lost)?;
+    Ok(Some(both(won, lost)))
+}
+
+// The winner by two searches: for a product that Even wins, with half of the trials of the limits, and then for one
+// that Odd wins, with the rest.
+fn search_both(
     alloc: Global,
     order: &Order,
     vertex: u32,
@@ -103,4 +120,33 @@ pub fn decide(
         &mut trials,
     )?;
     Ok(both(won, lost))
+}
+
+/// Returns the winner at the vertex in the products that are left. If both players win some, the answer has the first
+/// product of each, if no limit was met.
+///
+/// The call solves the game for all products at once. If a limit is met, it looks for a product that Even wins, with
+/// half of the trials of the limits, and then for one that Odd wins, with the rest. Where these suffice for each case
+/// of the open features, each search has them all. The only error is a lack of memory.
+pub fn decide(
+    alloc: Global,
+    order: &Order,
+    vertex: u32,
+    limits: Limits,
+) -> Result<Decided, AllocError>
+    requires { vertex < length order.now.game.vertices }
+    ensures decided { IfOk result
+        (IsDecidedAs (graph_of order.now.game) order.now.diagram.lines (choices order.now.decisions) vertex) }
+    ensures settled { IfOk result (λ decided.
+        IsSettled order.now.game order.now.diagram limits (Question.Lost (Aim.Won Which.Hopeful vertex))
+        (choices order.now.decisions) →
+        IsSettled order.now.game order.now.diagram limits (Question.Lost (Aim.Won Which.Dual vertex))
+        (choices order.now.decisions) →
+        IsDecidedExact decided) }
+{
+    if let Some(decided) = decide_by_sets(alloc, order, vertex)? {
+        return Ok(decided);
+    }
+    let decided = search_both(alloc, order, vertex, order.decisions(), limits)?;
+    Ok(decided)
 }

@@ -6,27 +6,42 @@
 //! in exactly one, and the winner of a part wins in each of its products. That is the family-based answer to a
 //! variability parity game, all products at once, for a page.
 //!
-//! `winners` solves the game for all products at once (`vpg_zielonka`), and cuts the two sets of products into parts,
-//! each with the number of its products. If sets become too large, it searches, and counts none. `decide` always
-//! searches. A search goes over features that are not known, cut off by the verdicts of each trial (`vpg_why`). Parity
-//! games are determined (`vpg_determined`): so a product in which Even has no strategy is won by Odd. A search that met
-//! a limit is reported as unsettled, and never wrong.
+//! All answers go by two sets of products, those that Even wins and those that Odd does. Vertices that have a verdict
+//! on the page are won at once (`vpg_open`), and the rest of the game is solved for all products (`vpg_zielonka`), by
+//! diagrams with few new nodes. `winners` goes on if these do not suffice: it solves a list of the products, if they
+//! are few, or uses more nodes. It cuts the two sets into parts, each with the number of its products. `decide` takes
+//! the first product of each. Answers on one player's products go by one of the sets, if the vertex is open on the
+//! page: `find` and `why_lost` (its first product), `needs` (the literals that its products share), `findings` and
+//! `both_findings` (products and literals for `foresee` of `vpg_why`).
+//!
+//! If a limit is met, or there are no sets, each call searches, and `winners` counts no products. A search goes over
+//! features that are not known, cut off by the verdicts of each trial (`vpg_why`). Parity games are determined
+//! (`vpg_determined`): so a product in which Even has no strategy is won by Odd. A search that met a limit is reported
+//! as unsettled, and never wrong.
 //!
 //! Definitions: `specs/Decided` (the winners in the products that are left), `specs/Winners` (the parts, and the rule
-//! by which they are made), `specs/Joined` (how parts are joined), `specs/Numbered` (the numbers of their products).
-//! For the search: `specs/Searched`, `specs/Standing`.
+//! by which they are made), `specs/Joined` (how parts are joined), `specs/Numbered` (the numbers of their products),
+//! `specs/Divided` and `specs/Cutting` (the two sets), `specs/Finding` (the products that meet an aim, as a set). For
+//! the search: `specs/Searched`, `specs/Standing`.
 #![tactic(auto)]
 
 mod cutting;
 mod deciding;
+mod dividing;
+mod finding;
+mod gathering;
 mod joining;
 pub mod laws;
+mod listing;
 mod pairing;
 mod parts;
 mod solving;
 mod splitting;
 mod standing;
+mod two_sets;
 
 pub use deciding::{Decided, decide};
+pub use finding::{find, why_lost};
+pub use gathering::{both_findings, findings, needs};
 pub use parts::{Part, Winner};
 pub use splitting::winners;

@@ -3,11 +3,11 @@ ghost use Rattle.std.specs.Prelude.{◌≡◌, ℕ, ◌<◌, ◌≤◌, ◌%◌,
 ghost use Rattle.vpg_why.specs.Suffices.{choice};
 ghost use Rattle.vpg_winners.specs.Joined.{AreHalves, ArePut, PartView, cut_by};
 ghost use Rattle.vpg_winners.specs.Numbered.{AreHalvesNumbered, AreNumberedBy, IsAdditive, IsNumberedBy};
-ghost use Rattle.vpg_winners.specs.Pairs.{AreBehind, AreFlagged, HasNone, HasNot, IsFirstSame, IsNext, IsPaired, mark_from, mark_of, marked};
+ghost use Rattle.vpg_winners.specs.Pairs.{AreBehind, AreFlagged, HasNone, HasNot, IsFirstSame, IsNext, IsPaired, first_mark, mark_from, mark_of, marked};
 ghost use Rattle.vpg_winners.specs.Winners.{AreJoined, view_of, views};
 
 use crate::joining::same_front;
-use crate::parts::{Part, sum};
+use crate::parts::{Part, Winner, sum};
 use std::alloc::{AllocError, Global};
 use vpg_diagram::Literal;
 
@@ -49,15 +49,33 @@ fn marked(mark: u64, literal: &Literal) -> u64
     mark.wrapping_mul(1_000_003).wrapping_add(code_of(*literal))
 }
 
-// A number that equal lists share.
-fn mark_from(literals: &[Literal]) -> u64
-    ensures { result ≡ mark_from 0 literals.now }
+// The mark of a list that goes on from another mark.
+fn mark_from(begin: u64, literals: &[Literal]) -> u64
+    ensures { result ≡ mark_from begin literals.now }
 {
-    let mut mark = 0u64;
+    let mut mark = begin;
     for i in 0..literals.len() {
         mark = marked(mark, &literals[i]);
     }
     mark
+}
+
+// The mark that those of a winner's parts go on from.
+fn first_mark(winner: Winner) -> u64
+    ensures { result ≡ first_mark winner }
+{
+    match winner {
+        Winner::Won => 1,
+        Winner::Lost => 2,
+        Winner::Unsettled => 3,
+    }
+}
+
+// A number that equal parts share.
+fn mark_of(part: &Part) -> u64
+    ensures { result ≡ mark_of part.now }
+{
+    mark_from(first_mark(part.winner), &part.literals)
 }
 
 // The marks of parts.
@@ -66,13 +84,13 @@ fn marks_of(alloc: Global, parts: &[Part]) -> Result<Vec<u64>, AllocError>
 {
     let mut marks = Vec::with_capacity(alloc, parts.len())?;
     for part in parts {
-        marks.push(mark_from(&part.literals))?;
+        marks.push(mark_of(part))?;
     }
     Ok(marks)
 }
 
 // The slots of flags for each mark.
-const SLOTS: usize = 8;
+const SLOTS: usize = 64;
 
 // The slot of a mark.
 fn slot_of(mark: u64, slots: usize) -> usize
@@ -117,7 +135,7 @@ fn place_of(parts: &[Part], marks: &[u64], flags: &[bool], part: &Part) -> Optio
     ensures some { IfSome result (IsFirstSame (views parts.now) (view_of part.now)) }
     ensures none { IsNone result → HasNone (views parts.now) (view_of part.now) }
 {
-    let own = mark_from(&part.literals);
+    let own = mark_of(part);
     if !flags[slot_of(own, flags.len())] {
         return None;
     }

@@ -7,14 +7,15 @@ use Rattle.vpg_guards.specs.Formula.{Formula}
 use Rattle.vpg_game.specs.Guarded.{GuardedGame}
 use Rattle.vpg_game.specs.Game.{vertex_in}
 use Rattle.vpg_hope.specs.Games.{owner_of, priority_of}
-use Rattle.vpg_sets.specs.declared.node.Set.{Set}
-use Rattle.vpg_sets.specs.Sets.{Arena, IsInside, has, IsSetOf, IsGrown}
-use Rattle.vpg_sets.proofs.Growth.{grown_then}
+use Rattle.vpg_zielonka.specs.declared.subset.Subset.{Subset}
+use Rattle.vpg_zielonka.specs.declared.universe.Universe.{Universe}
+use Rattle.vpg_zielonka.specs.Universes.{IsInside, has, IsSetOf, IsGrown}
+use Rattle.vpg_zielonka.proofs.Growing.{grown_then}
 use Rattle.vpg_zielonka.specs.declared.edges.Edge.{Edge}
 use Rattle.vpg_zielonka.specs.Drawing.{Confines, Joins}
-use Rattle.vpg_zielonka.specs.Edges.{edge_at, numbers_at, Leads}
+use Rattle.vpg_zielonka.specs.Edges.{no_edge, edge_at, numbers_at, Leads}
 use Rattle.vpg_zielonka.specs.Parts.{set_at, game_in, part_in, AreSets}
-use Rattle.vpg_zielonka.proofs.Filling.{part_inside, part_grown}
+use Rattle.vpg_zielonka.proofs.Filling.{part_inside, part_known, part_grown}
 use Rattle.vpg_zielonka.proofs.Listing.{AreEdges}
 
 pub owner_is : (graph : GuardedGame Formula) (p : List Bool) (v : ℕ) →
@@ -52,22 +53,22 @@ step_true true true false g = (λ e. (refl, refl, refl, e), λ h. h.3)
 -- ---- one edge after another
 
 -- the edge of this number leads to what is drawn, where it leads to the part
-abbrev pub ConfinesBy : Arena → List Edge → List Set → List Set → List Bool → ℕ → Type 0
-ConfinesBy arena edges part drawn p k =
-    has arena (edge_at edges k).products p ≡ true → has arena (set_at part (edge_at edges k).to) p ≡ true →
-    has arena (set_at drawn (edge_at edges k).to) p ≡ true
+abbrev pub ConfinesBy : Universe → List Edge → List Subset → List Subset → List Bool → ℕ → Type 0
+ConfinesBy universe edges part drawn p k =
+    has universe (edge_at edges k).products p ≡ true → has universe (set_at part (edge_at edges k).to) p ≡ true →
+    has universe (set_at drawn (edge_at edges k).to) p ≡ true
 
 -- the first of these edges are looked at
-abbrev pub IsConfinedTo : Arena → Arena → List Edge → List Set → List Set → Set → Set → List ℕ → ℕ → Type 0
+abbrev pub IsConfinedTo : Universe → Universe → List Edge → List Subset → List Subset → Subset → Subset → List ℕ → ℕ → Type 0
 IsConfinedTo old new edges part drawn set kept numbers i =
     (p : List Bool) → (has new kept p ≡ true) ↔ ((has old set p ≡ true) × ((j : ℕ) → j < i →
     ConfinesBy old edges part drawn p (get_or numbers j 0)))
 
-module _ (old : Arena) (edges : List Edge) (part drawn : List Set) (set : Set) (numbers : List ℕ) where
+module _ (old : Universe) (edges : List Edge) (part drawn : List Subset) (set : Subset) (numbers : List ℕ) where
   pub confined_none : IsConfinedTo old old edges part drawn set set numbers 0
   confined_none p = (λ e. (e, λ j l. absurd (omega arith)), λ h. h.0)
 
-  pub confined_more : (a b : Arena) → IsGrown old a → (kept next : Set) (i k : ℕ) → get_or numbers i 0 ≡ k →
+  pub confined_more : (a b : Universe) → IsGrown old a → (kept next : Subset) (i k : ℕ) → get_or numbers i 0 ≡ k →
       IsInside old (edge_at edges k).products → IsInside old (set_at part (edge_at edges k).to) →
       IsInside old (set_at drawn (edge_at edges k).to) →
       IsSetOf b (λ p. has a kept p && not ((has a (set_at part (edge_at edges k).to) p
@@ -115,8 +116,8 @@ number_shown l j k = (j, k, shown l j k)
     shown (x ∷ l) zero b = refl
     shown (x ∷ l) (suc j) b = shown l j (omega arith)
 
-module _ (arena : Arena) (graph : GuardedGame Formula) (edges : List Edge) (leaving entering : List (List ℕ))
-    (are : AreEdges arena graph edges leaving entering) (numbers : List ℕ) (v j : ℕ) (inside : j < length numbers) where
+module _ (universe : Universe) (graph : GuardedGame Formula) (edges : List Edge) (leaving entering : List (List ℕ))
+    (are : AreEdges universe graph edges leaving entering) (numbers : List ℕ) (v j : ℕ) (inside : j < length numbers) where
   pub leaves_in : numbers ≡ numbers_at leaving v →
       (get_or numbers j 0 < length edges) × ((edge_at edges (get_or numbers j 0)).from ≡ v)
   leaves_in e = (are.leave v (get_or numbers j 0)).0
@@ -128,17 +129,17 @@ module _ (arena : Arena) (graph : GuardedGame Formula) (edges : List Edge) (leav
       (subst (λ (l : List ℕ). Contains l (get_or numbers j 0)) e (number_shown numbers j inside))
 
 -- all edges of a vertex are looked at
-module _ (old : Arena) (graph : GuardedGame Formula) (edges : List Edge) (leaving entering : List (List ℕ))
-    (part drawn : List Set) (are : AreEdges old graph edges leaving entering) (parts : AreSets old (length graph) part)
+module _ (old : Universe) (graph : GuardedGame Formula) (edges : List Edge) (leaving entering : List (List ℕ))
+    (part drawn : List Subset) (are : AreEdges old graph edges leaving entering) (parts : AreSets old (length graph) part)
     (drawns : AreSets old (length graph) drawn) (v : ℕ) (p : List Bool) where
-  in_part : (sets : List Set) → AreSets old (length graph) sets → (w : ℕ) → w < length graph →
+  in_part : (sets : List Subset) → AreSets old (length graph) sets → (w : ℕ) → w < length graph →
       part_in old sets p w ≡ has old (set_at sets w) p
   in_part sets is w l = part_inside old sets p w (subst (λ n. w < n) (sym is.count_is) l)
 
   pub confines_all : ((j : ℕ) → j < length (numbers_at leaving v) →
       ConfinesBy old edges part drawn p (get_or (numbers_at leaving v) j 0)) →
       Confines (game_in graph p) (part_in old part p) (part_in old drawn p) v
-  confines_all h w edge m = of (are.complete p v w edge)
+  confines_all h w edge m = of (are.complete p v w (part_known old part p w m) edge)
     where
       of : (k : ℕ) × Leads old edges p k v w → part_in old drawn p w ≡ true
       of k = found ((are.leave v k.0).1 (k.1.inside, k.1.from))
@@ -181,10 +182,10 @@ module _ (old : Arena) (graph : GuardedGame Formula) (edges : List Edge) (leavin
 -- the edge that is read at a number
 pub edge_read : (edges : List Edge) (k : ℕ) (e : Edge) → k < length edges → e ≡ get_or edges k e → e ≡ edge_at edges k
 edge_read edges k e l h =
-    h ∙ get_or_default edges k e (record { from = 0; to = 0; products = record { node = 0 } }) l
+    h ∙ get_or_default edges k e no_edge l
 
-module _ (arena : Arena) (graph : GuardedGame Formula) (edges : List Edge) (leaving entering : List (List ℕ))
-    (are : AreEdges arena graph edges leaving entering) (k : ℕ) (e : Edge) (inside : k < length edges)
+module _ (universe : Universe) (graph : GuardedGame Formula) (edges : List Edge) (leaving entering : List (List ℕ))
+    (are : AreEdges universe graph edges leaving entering) (k : ℕ) (e : Edge) (inside : k < length edges)
     (read : e ≡ get_or edges k e) where
   pub read_from : e.from < length graph
   read_from = subst (λ (x : Edge). x.from < length graph) (sym (edge_read edges k e inside read)) (are.from_inside k inside)
@@ -195,16 +196,16 @@ module _ (arena : Arena) (graph : GuardedGame Formula) (edges : List Edge) (leav
   pub read_to : e.to < length graph
   read_to = subst (λ (x : Edge). x.to < length graph) (sym (edge_read edges k e inside read)) (are.to_inside k inside)
 
-  pub read_products : IsInside arena e.products
-  read_products = subst (λ (x : Edge). IsInside arena x.products) (sym (edge_read edges k e inside read))
+  pub read_products : IsInside universe e.products
+  read_products = subst (λ (x : Edge). IsInside universe x.products) (sym (edge_read edges k e inside read))
       (are.inside k inside)
 
 -- one more edge that leaves the vertex was looked at
-module _ (old : Arena) (graph : GuardedGame Formula) (edges : List Edge) (leaving entering : List (List ℕ))
-    (are : AreEdges old graph edges leaving entering) (part drawn : List Set) (parts : AreSets old (length graph) part)
-    (drawns : AreSets old (length graph) drawn) (set : Set) (numbers : List ℕ) (v : ℕ)
+module _ (old : Universe) (graph : GuardedGame Formula) (edges : List Edge) (leaving entering : List (List ℕ))
+    (are : AreEdges old graph edges leaving entering) (part drawn : List Subset) (parts : AreSets old (length graph) part)
+    (drawns : AreSets old (length graph) drawn) (set : Subset) (numbers : List ℕ) (v : ℕ)
     (leave : numbers ≡ numbers_at leaving v) where
-  pub confined_next : (a b : Arena) → IsGrown old a → IsGrown a b → (kept next : Set) (i : ℕ) → i < length numbers →
+  pub confined_next : (a b : Universe) → IsGrown old a → IsGrown a b → (kept next : Subset) (i : ℕ) → i < length numbers →
       (e : Edge) → e ≡ get_or edges (get_or numbers i 0) e →
       IsSetOf b (λ p. has a kept p && not ((has a (set_at part e.to) p && not (has a (set_at drawn e.to) p))
       && has a e.products p)) next → IsConfinedTo old a edges part drawn set kept numbers i →
@@ -226,7 +227,7 @@ module _ (old : Arena) (graph : GuardedGame Formula) (edges : List Edge) (leavin
       inside : get_or numbers i 0 < length edges
       inside = (leaves_in old graph edges leaving entering are numbers v i l leave).0
 
-  pub confined_end : (new : Arena) (kept : Set) (i : ℕ) → i ≡ length numbers →
+  pub confined_end : (new : Universe) (kept : Subset) (i : ℕ) → i ≡ length numbers →
       IsConfinedTo old new edges part drawn set kept numbers i → (p : List Bool) →
       (has new kept p ≡ true) ↔ ((has old set p ≡ true) ×
       Confines (game_in graph p) (part_in old part p) (part_in old drawn p) v)
@@ -255,21 +256,21 @@ module _ (old : Arena) (graph : GuardedGame Formula) (edges : List Edge) (leavin
 
 -- ---- what joins by an edge
 
-module _ (a b : Arena) (graph : GuardedGame Formula) (edges : List Edge) (part drawn : List Set) (k : ℕ) where
+module _ (a b : Universe) (graph : GuardedGame Formula) (edges : List Edge) (part drawn : List Subset) (k : ℕ) where
   -- the products in which the edge leads from the part into what is drawn
-  abbrev pub Steps : Set → Type 0
+  abbrev pub Steps : Subset → Type 0
   Steps joins = (p : List Bool) → (has b joins p ≡ true) ↔ ((has a (edge_at edges k).products p ≡ true) ×
       (part_in a part p (edge_at edges k).from ≡ true) × (part_in a drawn p (edge_at edges k).to ≡ true) ×
       (part_in a drawn p (edge_at edges k).from ≡ false))
 
   -- the products in which it joins
-  abbrev pub AreJoining : Player → Arena → Set → Type 0
+  abbrev pub AreJoining : Player → Universe → Subset → Type 0
   AreJoining player c joins = (p : List Bool) → (has c joins p ≡ true) ↔ ((has a (edge_at edges k).products p ≡ true) ×
       Joins (game_in graph p) player (part_in a part p) (part_in a drawn p) (edge_at edges k).from (edge_at edges k).to)
 
   pub steps_made : (leaving entering : List (List ℕ)) → AreEdges a graph edges leaving entering →
       AreSets a (length graph) part → AreSets a (length graph) drawn → k < length edges → (e : Edge) →
-      e ≡ get_or edges k e → (joins : Set) →
+      e ≡ get_or edges k e → (joins : Subset) →
       IsSetOf b (λ p. ((has a (set_at part e.from) p && has a (set_at drawn e.to) p) && not (has a (set_at drawn e.from) p))
       && has a e.products p) joins → Steps joins
   steps_made leaving entering are parts drawns inside e read joins is p = (
@@ -288,7 +289,7 @@ module _ (a b : Arena) (graph : GuardedGame Formula) (edges : List Edge) (part d
       set_of = subst (λ (x : Edge). IsSetOf b (λ p. ((has a (set_at part x.from) p && has a (set_at drawn x.to) p)
           && not (has a (set_at drawn x.from) p)) && has a x.products p) joins) (edge_read edges k e inside read) is
 
-      at : (sets : List Set) → AreSets a (length graph) sets → (v : ℕ) → v < length graph →
+      at : (sets : List Subset) → AreSets a (length graph) sets → (v : ℕ) → v < length graph →
           part_in a sets p v ≡ has a (set_at sets v) p
       at sets are v l = part_inside a sets p v (subst (λ n. v < n) (sym are.count_is) l)
 
@@ -324,7 +325,7 @@ module _ (a b : Arena) (graph : GuardedGame Formula) (edges : List Edge) (part d
       )
 
   -- the player moves there: it joins
-  pub joins_own : (player : Player) (joins : Set) → Steps joins →
+  pub joins_own : (player : Player) (joins : Subset) → Steps joins →
       (vertex_in graph (edge_at edges k).from).owner ≡ player → AreJoining player b joins
   joins_own player joins steps own p = (
     λ h. of ((steps p).0 h),
@@ -346,9 +347,9 @@ module _ (a b : Arena) (graph : GuardedGame Formula) (edges : List Edge) (part d
       )
 
   -- the opponent moves there: it joins where it is confined
-  pub joins_other : (player : Player) (joins : Set) → Steps joins →
+  pub joins_other : (player : Player) (joins : Subset) → Steps joins →
       ((vertex_in graph (edge_at edges k).from).owner ≡ player → ⊥) → IsGrown a b →
-      AreSets a (length graph) part → AreSets a (length graph) drawn → (c : Arena) (kept : Set) →
+      AreSets a (length graph) part → AreSets a (length graph) drawn → (c : Universe) (kept : Subset) →
       (v : ℕ) → v ≡ (edge_at edges k).from → ((p : List Bool) → (has c kept p ≡ true) ↔ ((has b joins p ≡ true) ×
       Confines (game_in graph p) (part_in b part p) (part_in b drawn p) v)) → AreJoining player c kept
   joins_other player joins steps other g parts drawns c kept v v_is confined p = (
@@ -361,7 +362,7 @@ module _ (a b : Arena) (graph : GuardedGame Formula) (edges : List Edge) (part d
       is q = subst (λ x. (has c kept q ≡ true) ↔ ((has b joins q ≡ true) ×
           Confines (game_in graph q) (part_in b part q) (part_in b drawn q) x)) v_is (confined q)
 
-      same : (sets : List Set) → AreSets a (length graph) sets → (v : ℕ) → part_in b sets p v ≡ part_in a sets p v
+      same : (sets : List Subset) → AreSets a (length graph) sets → (v : ℕ) → part_in b sets p v ≡ part_in a sets p v
       same sets are v = part_grown a b g (length graph) sets are p v
 
       of : (has a (edge_at edges k).products p ≡ true) ×

@@ -176,14 +176,14 @@ module _ (game : Game) (player : Player) (part : Mask) where
 
   -- what waits may be told in another way
   pub settled_later : (set : Mask) (Waits Later : ℕ → ℕ → Type 0) →
-      ((v w : ℕ) → HasEdge game v w → Waits v w → Later v w) → IsSettled game player part set Waits →
+      ((v w : ℕ) → In part v → HasEdge game v w → Waits v w → Later v w) → IsSettled game player part set Waits →
       IsSettled game player part set Later
   settled_later set Waits Later later settled v m drawn = of (settled v m drawn)
     where
       of : In set v ⊎ ((w : ℕ) × HasEdge game v w × In set w × Waits v w) →
           In set v ⊎ ((w : ℕ) × HasEdge game v w × In set w × Later v w)
       of (inl e) = inl e
-      of (inr w) = inr (w.0, w.1, w.2, later v w.0 w.1 w.3)
+      of (inr w) = inr (w.0, w.1, w.2, later v w.0 m w.1 w.3)
 
   -- The products in which the source of one edge joins were added to it.
   module _ (set more : Mask) (v0 w0 : ℕ) (joins : Bool) (Looked : Type 0)

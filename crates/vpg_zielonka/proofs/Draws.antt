@@ -6,9 +6,10 @@ use Rattle.vpg_sides.specs.declared.player.Player.{Player}
 use Rattle.vpg_guards.specs.Formula.{Formula}
 use Rattle.vpg_game.specs.Guarded.{GuardedGame}
 use Rattle.vpg_hope.specs.Games.{HasEdge}
-use Rattle.vpg_sets.specs.declared.node.Set.{Set}
-use Rattle.vpg_sets.specs.Sets.{Arena, IsInside, has, IsSetOf, IsGrown}
-use Rattle.vpg_sets.proofs.Growth.{grown_self, grown_then, inside_grown, set_same}
+use Rattle.vpg_zielonka.specs.declared.subset.Subset.{Subset}
+use Rattle.vpg_zielonka.specs.declared.universe.Universe.{Universe}
+use Rattle.vpg_zielonka.specs.Universes.{no_subset, IsInside, has, IsSetOf, IsGrown}
+use Rattle.vpg_zielonka.proofs.Growing.{grown_self, grown_then, inside_grown, set_same}
 use Rattle.vpg_zielonka.specs.Attractors.{Vertices}
 use Rattle.vpg_zielonka.specs.declared.edges.Edge.{Edge}
 use Rattle.vpg_zielonka.specs.Drawing.{Joins, IsSettled, IsDrawnFrom}
@@ -17,7 +18,7 @@ use Rattle.vpg_zielonka.specs.Parts.{set_at, game_in, part_in, AreSets}
 use Rattle.vpg_zielonka.proofs.Confining.{enters_in, edge_read, read_from}
 use Rattle.vpg_zielonka.proofs.Listing.{AreEdges, edges_grown}
 use Rattle.vpg_zielonka.proofs.Drawing.{drawn_self, drawn_then, settled_later, step_drawn, step_settled}
-use Rattle.vpg_zielonka.proofs.Filling.{part_inside, part_beyond, part_grown, sets_grown}
+use Rattle.vpg_zielonka.proofs.Filling.{part_known, part_inside, part_beyond, part_grown, sets_grown}
 
 -- ---- lists with one element changed
 
@@ -54,12 +55,12 @@ wait_more list v x e = of (cases_eq x v)
 -- ---- what is added to one vertex
 
 -- in each product the vertex has what it had or what was added, and the others stay
-abbrev pub IsAdded : Arena → Arena → List Set → List Set → (List Bool → Bool) → ℕ → Type 0
+abbrev pub IsAdded : Universe → Universe → List Subset → List Subset → (List Bool → Bool) → ℕ → Type 0
 IsAdded a b drawn more joins v0 =
     (p : List Bool) → (part_in b more p v0 ≡ (part_in a drawn p v0 || joins p)) ×
     ((v : ℕ) → (v ≡ v0 → ⊥) → part_in b more p v ≡ part_in a drawn p v)
 
-module _ (a b : Arena) (g : IsGrown a b) (n : ℕ) (drawn : List Set) (are : AreSets a n drawn) (joins : List Bool → Bool)
+module _ (a b : Universe) (g : IsGrown a b) (n : ℕ) (drawn : List Subset) (are : AreSets a n drawn) (joins : List Bool → Bool)
     (v0 : ℕ) where
   pub added_none : ((p : List Bool) → joins p ≡ false) → IsAdded a b drawn drawn joins v0
   added_none none p = (
@@ -71,14 +72,14 @@ module _ (a b : Arena) (g : IsGrown a b) (n : ℕ) (drawn : List Set) (are : Are
       same true y e = refl
       same false y e = sym e
 
-  module _ (new : Set) (inside : v0 < length drawn)
+  module _ (new : Subset) (inside : v0 < length drawn)
       (is : IsSetOf b (λ p. has a (set_at drawn v0) p || joins p) new) where
     pub added_some : IsAdded a b drawn (set drawn v0 new) joins v0
     added_some p = (here, there)
       where
         here : part_in b (set drawn v0 new) p v0 ≡ (part_in a drawn p v0 || joins p)
         here = part_inside b (set drawn v0 new) p v0 (subst (λ n. v0 < n) (sym (set_count drawn v0 new)) inside)
-            ∙ ap (λ (s : Set). has b s p) (set_here drawn v0 new (record { node = 0 }) inside) ∙ is.each p
+            ∙ ap (λ (s : Subset). has b s p) (set_here drawn v0 new no_subset inside) ∙ is.each p
             ∙ ap (λ (c : Bool). c || joins p) (sym (part_inside a drawn p v0 inside))
 
         there : (v : ℕ) → (v ≡ v0 → ⊥) → part_in b (set drawn v0 new) p v ≡ part_in a drawn p v
@@ -86,7 +87,7 @@ module _ (a b : Arena) (g : IsGrown a b) (n : ℕ) (drawn : List Set) (are : Are
           where
             of : (v < length drawn) ⊎ (length drawn ≤ v) → part_in b (set drawn v0 new) p v ≡ part_in a drawn p v
             of (inl l) = part_inside b (set drawn v0 new) p v (subst (λ n. v < n) (sym (set_count drawn v0 new)) l)
-                ∙ ap (λ (s : Set). has b s p) (set_there drawn v0 v new (record { node = 0 }) out)
+                ∙ ap (λ (s : Subset). has b s p) (set_there drawn v0 v new no_subset out)
                 ∙ g.same (set_at drawn v) (are.inside v l) p ∙ sym (part_inside a drawn p v l)
             of (inr l) = part_beyond b (set drawn v0 new) p v
                 (subst (λ n. n ≤ v) (sym (set_count drawn v0 new)) l) ∙ sym (part_beyond a drawn p v l)
@@ -99,15 +100,15 @@ module _ (a b : Arena) (g : IsGrown a b) (n : ℕ) (drawn : List Set) (are : Are
       where
         of : (v : ℕ) → v < length drawn → (v ≡ v0) ⊎ (v ≡ v0 → ⊥) → IsInside b (set_at (set drawn v0 new) v)
         of v l (inl e) = subst (λ x. IsInside b (set_at (set drawn v0 new) x)) (sym e)
-            (subst (λ (s : Set). IsInside b s) (sym (set_here drawn v0 new (record { node = 0 }) inside)) is.inside)
-        of v l (inr out) = subst (λ (s : Set). IsInside b s)
-            (sym (set_there drawn v0 v new (record { node = 0 }) out))
+            (subst (λ (s : Subset). IsInside b s) (sym (set_here drawn v0 new no_subset inside)) is.inside)
+        of v l (inr out) = subst (λ (s : Subset). IsInside b s)
+            (sym (set_there drawn v0 v new no_subset out))
             (inside_grown a b g (set_at drawn v) (are.inside v l))
 
 -- ---- the edges into one vertex
 
-module _ (old : Arena) (graph : GuardedGame Formula) (edges : List Edge) (leaving entering : List (List ℕ))
-    (player : Player) (part first : List Set) (w : ℕ) where
+module _ (old : Universe) (graph : GuardedGame Formula) (edges : List Edge) (leaving entering : List (List ℕ))
+    (player : Player) (part first : List Subset) (w : ℕ) where
   abbrev numbers : List ℕ
   numbers = numbers_at entering w
 
@@ -119,7 +120,7 @@ module _ (old : Arena) (graph : GuardedGame Formula) (edges : List Edge) (leavin
   Waits waiting i p v x = (get_or waiting x false ≡ true) ⊎ ((x ≡ w) × Unlooked i p v x)
 
   -- the first edges into the vertex were looked at
-  pub record IsLookedAt (now : Arena) (drawn : List Set) (waiting : List Bool) (i : ℕ) : Type 0 where
+  pub record IsLookedAt (now : Universe) (drawn : List Subset) (waiting : List Bool) (i : ℕ) : Type 0 where
     pub grown : IsGrown old now
     pub sets : AreSets now (length graph) drawn
     pub count : length waiting ≡ length graph
@@ -137,14 +138,14 @@ module _ (old : Arena) (graph : GuardedGame Formula) (edges : List Edge) (leavin
     count = count;
     more = λ p. drawn_self (game_in graph p) player (part_in old part p) (part_in old first p);
     settled = λ p. settled_later (game_in graph p) player (part_in old part p) (part_in old first p)
-        (λ v x. (get_or waiting x false ≡ true) ⊎ (x ≡ w)) (Waits waiting 0 p) (λ v x edge h. later p v x edge h)
+        (λ v x. (get_or waiting x false ≡ true) ⊎ (x ≡ w)) (Waits waiting 0 p) (λ v x m edge h. later p v x m edge h)
         (settled p);
   }
     where
-      later : (p : List Bool) (v x : ℕ) → HasEdge (game_in graph p) v x → (get_or waiting x false ≡ true) ⊎ (x ≡ w) →
-          Waits waiting 0 p v x
-      later p v x edge (inl e) = inl e
-      later p v x edge (inr e) = inr (e, found (are.complete p v x edge))
+      later : (p : List Bool) (v x : ℕ) → part_in old part p v ≡ true → HasEdge (game_in graph p) v x →
+          (get_or waiting x false ≡ true) ⊎ (x ≡ w) → Waits waiting 0 p v x
+      later p v x m edge (inl e) = inl e
+      later p v x m edge (inr e) = inr (e, found (are.complete p v x (part_known old part p v m) edge))
         where
           found : (k : ℕ) × Leads old edges p k v x → Unlooked 0 p v x
           found k = at ((are.enter w k.0).1 (k.1.inside, k.1.to ∙ e))
@@ -162,12 +163,12 @@ module _ (old : Arena) (graph : GuardedGame Formula) (edges : List Edge) (leavin
                 subst (λ n. Leads old edges p n v x) (sym (zeroed numbers c.0 k.0 c.1 c.2)) k.1,
               )
 
-  pub looked_all : (now : Arena) (drawn : List Set) (waiting : List Bool) →
+  pub looked_all : (now : Universe) (drawn : List Subset) (waiting : List Bool) →
       IsLookedAt now drawn waiting (length numbers) → (p : List Bool) → IsSettled (game_in graph p) player
       (part_in old part p) (part_in now drawn p) (λ v x. get_or waiting x false ≡ true)
   looked_all now drawn waiting is p =
       settled_later (game_in graph p) player (part_in old part p) (part_in now drawn p)
-      (Waits waiting (length numbers) p) (λ v x. get_or waiting x false ≡ true) (λ v x edge h. of v x h) (is.settled p)
+      (Waits waiting (length numbers) p) (λ v x. get_or waiting x false ≡ true) (λ v x m edge h. of v x h) (is.settled p)
     where
       of : (v x : ℕ) → Waits waiting (length numbers) p v x → get_or waiting x false ≡ true
       of v x (inl e) = e
@@ -177,7 +178,7 @@ module _ (old : Arena) (graph : GuardedGame Formula) (edges : List Edge) (leavin
           over j = omega (arith, j.1, j.2)
 
   -- one more edge was looked at
-  module _ (a b : Arena) (drawn more : List Set) (waiting later : List Bool) (i k : ℕ) (joins : List Bool → Bool)
+  module _ (a b : Universe) (drawn more : List Subset) (waiting later : List Bool) (i k : ℕ) (joins : List Bool → Bool)
       (is : IsLookedAt a drawn waiting i) (are : AreEdges a graph edges leaving entering)
       (parts : AreSets old (length graph) part) (at : get_or numbers i 0 ≡ k) (inside : k < length edges)
       (to : (edge_at edges k).to ≡ w) (olds : IsInside old (edge_at edges k).products)
@@ -239,12 +240,12 @@ module _ (old : Arena) (graph : GuardedGame Formula) (edges : List Edge) (leavin
 -- ---- the edge that was read, and what joins by it
 
 -- the set that is read at a vertex
-pub set_read : (sets : List Set) (v : ℕ) (s : Set) → v < length sets → s ≡ get_or sets v s → s ≡ set_at sets v
-set_read sets v s l h = h ∙ get_or_default sets v s (record { node = 0 }) l
+pub set_read : (sets : List Subset) (v : ℕ) (s : Subset) → v < length sets → s ≡ get_or sets v s → s ≡ set_at sets v
+set_read sets v s l h = h ∙ get_or_default sets v s no_subset l
 
-module _ (old : Arena) (graph : GuardedGame Formula) (edges : List Edge) (leaving entering : List (List ℕ))
-    (player : Player) (part first : List Set) (w : ℕ) (are : AreEdges old graph edges leaving entering)
-    (parts : AreSets old (length graph) part) (a : Arena) (drawn : List Set) (waiting : List Bool) (i : ℕ)
+module _ (old : Universe) (graph : GuardedGame Formula) (edges : List Edge) (leaving entering : List (List ℕ))
+    (player : Player) (part first : List Subset) (w : ℕ) (are : AreEdges old graph edges leaving entering)
+    (parts : AreSets old (length graph) part) (a : Universe) (drawn : List Subset) (waiting : List Bool) (i : ℕ)
     (is : IsLookedAt old graph edges leaving entering player part first w a drawn waiting i)
     (read : List ℕ) (enter : read ≡ numbers_at entering w) (more_numbers : i < length read) where
   abbrev k : ℕ
@@ -265,15 +266,15 @@ module _ (old : Arena) (graph : GuardedGame Formula) (edges : List Edge) (leavin
   from_waiting e h = subst (λ n. e.from < n) (sym is.count)
       (read_from old graph edges leaving entering are k e number_inside h)
 
-  pub drawn_inside : (e : Edge) → e ≡ get_or edges k e → (s : Set) → s ≡ get_or drawn e.from s → IsInside a s
-  drawn_inside e h s r = subst (λ (x : Set). IsInside a x) (sym (set_read drawn e.from s (from_drawn e h) r))
+  pub drawn_inside : (e : Edge) → e ≡ get_or edges k e → (s : Subset) → s ≡ get_or drawn e.from s → IsInside a s
+  drawn_inside e h s r = subst (λ (x : Subset). IsInside a x) (sym (set_read drawn e.from s (from_drawn e h) r))
       (is.sets.inside e.from (from_drawn e h))
 
-  module _ (j : Arena) (g : IsGrown a j) (joins : Set)
+  module _ (j : Universe) (g : IsGrown a j) (joins : Subset)
       (joining : (p : List Bool) → (has j joins p ≡ true) ↔ ((has a (edge_at edges k).products p ≡ true) ×
       Joins (game_in graph p) player (part_in a part p) (part_in a drawn p) (edge_at edges k).from (edge_at edges k).to))
     where
-      step : (b : Arena) → IsGrown a b → (more : List Set) (later : List Bool) → AreSets b (length graph) more →
+      step : (b : Universe) → IsGrown a b → (more : List Subset) (later : List Bool) → AreSets b (length graph) more →
           length later ≡ length graph → IsAdded a b drawn more (λ p. has j joins p) (edge_at edges k).from →
           ((x : ℕ) → get_or waiting x false ≡ true → get_or later x false ≡ true) →
           ((p : List Bool) → has j joins p ≡ true → get_or later (edge_at edges k).from false ≡ true) →
@@ -295,12 +296,12 @@ module _ (old : Arena) (graph : GuardedGame Formula) (edges : List Edge) (leavin
           clash f t = cc (f, t)
 
       -- what joins is added, and the vertex waits
-      pub looked_joined : (b : Arena) → IsGrown j b → (e : Edge) → e ≡ get_or edges k e → (s : Set) →
-          s ≡ get_or drawn e.from s → (new : Set) → IsSetOf b (λ p. has j s p || has j joins p) new →
-          (more : List Set) → more ≡ set drawn e.from new → (later : List Bool) → later ≡ set waiting e.from true →
+      pub looked_joined : (b : Universe) → IsGrown j b → (e : Edge) → e ≡ get_or edges k e → (s : Subset) →
+          s ≡ get_or drawn e.from s → (new : Subset) → IsSetOf b (λ p. has j s p || has j joins p) new →
+          (more : List Subset) → more ≡ set drawn e.from new → (later : List Bool) → later ≡ set waiting e.from true →
           IsLookedAt old graph edges leaving entering player part first w b more later (i + 1)
       looked_joined b h e e_is s s_is new is_set more more_is later later_is =
-          subst (λ (xs : List Set). IsLookedAt old graph edges leaving entering player part first w b xs later (i + 1))
+          subst (λ (xs : List Subset). IsLookedAt old graph edges leaving entering player part first w b xs later (i + 1))
           (sym (more_is ∙ ap (λ x. set drawn x new) from_is))
           (step b (grown_then a j b g h) (set drawn v0 new) later
           (added_sets a b (grown_then a j b g h) (length graph) drawn is.sets (λ p. has j joins p) v0 new inside at)
@@ -328,4 +329,4 @@ module _ (old : Arena) (graph : GuardedGame Formula) (edges : List Edge) (leavin
           at : IsSetOf b (λ p. has a (set_at drawn v0) p || has j joins p) new
           at = set_same b (λ p. has j s p || has j joins p) (λ p. has a (set_at drawn v0) p || has j joins p)
               (λ p. ap (λ (c : Bool). c || has j joins p)
-              (ap (λ (x : Set). has j x p) s_at ∙ g.same (set_at drawn v0) (is.sets.inside v0 inside) p)) new is_set
+              (ap (λ (x : Subset). has j x p) s_at ∙ g.same (set_at drawn v0) (is.sets.inside v0 inside) p)) new is_set

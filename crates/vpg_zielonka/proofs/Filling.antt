@@ -3,39 +3,46 @@ use Rattle.std.proofs.Common.{◌≡◌, ℕ, ◌+◌, ◌<◌, ◌≤◌, ◌�
 use Rattle.std.proofs.lemmas.Bool.{cases_eq, cases_lt, lt-ltb, le-ltb}
 use Rattle.std.proofs.lemmas.List.{get_or_append_left}
 use Rattle.std.proofs.Math.Seq.{get_or-append_seam}
-use Rattle.vpg_sets.specs.declared.node.Set.{Set}
-use Rattle.vpg_sets.specs.Sets.{Arena, IsInside, has, IsSetOf, IsGrown}
-use Rattle.vpg_sets.proofs.Growth.{grown_then, inside_grown, set_grown, set_same}
+use Rattle.vpg_zielonka.specs.declared.subset.Subset.{Subset}
+use Rattle.vpg_zielonka.specs.declared.universe.Universe.{Universe}
+use Rattle.vpg_zielonka.specs.Universes.{no_subset, IsKnown, IsInside, has, IsSetOf, IsGrown}
+use Rattle.vpg_zielonka.proofs.Growing.{known_of, grown_then, inside_grown, set_grown, set_same}
 use Rattle.vpg_zielonka.specs.Parts.{set_at, AreSets, part_in}
 
 -- The sets of the first vertices are made: each has the products that pass its test.
-pub record AreMade (arena : Arena) (test : ℕ → List Bool → Bool) (count : ℕ) (made : List Set) : Type 0 where
+pub record AreMade (universe : Universe) (test : ℕ → List Bool → Bool) (count : ℕ) (made : List Subset) : Type 0 where
   pub count_is : length made ≡ count
-  pub each : (v : ℕ) → v < count → IsSetOf arena (test v) (set_at made v)
+  pub each : (v : ℕ) → v < count → IsSetOf universe (test v) (set_at made v)
 
 -- ---- what a part is in one product
 
-module _ (arena : Arena) (sets : List Set) (p : List Bool) (v : ℕ) where
-  pub part_inside : v < length sets → part_in arena sets p v ≡ has arena (set_at sets v) p
+module _ (universe : Universe) (sets : List Subset) (p : List Bool) (v : ℕ) where
+  pub part_inside : v < length sets → part_in universe sets p v ≡ has universe (set_at sets v) p
   unfolding part_in
-  part_inside l = ap (λ (b : Bool). b && has arena (set_at sets v) p) (lt-ltb v (length sets) l)
+  part_inside l = ap (λ (b : Bool). b && has universe (set_at sets v) p) (lt-ltb v (length sets) l)
 
-  pub part_beyond : length sets ≤ v → part_in arena sets p v ≡ false
+  pub part_beyond : length sets ≤ v → part_in universe sets p v ≡ false
   unfolding part_in
-  part_beyond l = ap (λ (b : Bool). b && has arena (set_at sets v) p) (le-ltb v (length sets) l)
+  part_beyond l = ap (λ (b : Bool). b && has universe (set_at sets v) p) (le-ltb v (length sets) l)
 
-  pub part_below : part_in arena sets p v ≡ true → v < length sets
+  pub part_below : part_in universe sets p v ≡ true → v < length sets
   part_below e = of (cases_lt v (length sets))
     where
       of : (v < length sets) ⊎ (length sets ≤ v) → v < length sets
       of (inl l) = l
       of (inr l) = absurd (clash (part_beyond l))
         where
-          clash : part_in arena sets p v ≡ false → ⊥
+          clash : part_in universe sets p v ≡ false → ⊥
           clash f = cc (e, f)
 
--- a part stays what it is when the arena grows
-pub part_grown : (a b : Arena) → IsGrown a b → (count : ℕ) (sets : List Set) → AreSets a count sets →
+-- a product of a part is known
+pub part_known : (universe : Universe) (sets : List Subset) (p : List Bool) (v : ℕ) →
+    part_in universe sets p v ≡ true → IsKnown universe p
+part_known universe sets p v e = known_of universe (set_at sets v) p
+    (sym (part_inside universe sets p v (part_below universe sets p v e)) ∙ e)
+
+-- a part stays what it is when the universe grows
+pub part_grown : (a b : Universe) → IsGrown a b → (count : ℕ) (sets : List Subset) → AreSets a count sets →
     (p : List Bool) (v : ℕ) → part_in b sets p v ≡ part_in a sets p v
 part_grown a b g count sets are p v = of (cases_lt v (length sets))
   where
@@ -43,7 +50,7 @@ part_grown a b g count sets are p v = of (cases_lt v (length sets))
     of (inl l) = part_inside b sets p v l ∙ g.same (set_at sets v) (are.inside v l) p ∙ sym (part_inside a sets p v l)
     of (inr l) = part_beyond b sets p v l ∙ sym (part_beyond a sets p v l)
 
-pub sets_grown : (a b : Arena) → IsGrown a b → (count : ℕ) (sets : List Set) → AreSets a count sets →
+pub sets_grown : (a b : Universe) → IsGrown a b → (count : ℕ) (sets : List Subset) → AreSets a count sets →
     AreSets b count sets
 sets_grown a b g count sets are = record {
   count_is = are.count_is;
@@ -52,42 +59,42 @@ sets_grown a b g count sets are = record {
 
 -- ---- parts that are made
 
-pub nothing_made : (arena : Arena) (test : ℕ → List Bool → Bool) → AreMade arena test 0 []
-nothing_made arena test = record { count_is = refl; each = λ v l. absurd (omega arith) }
+pub nothing_made : (universe : Universe) (test : ℕ → List Bool → Bool) → AreMade universe test 0 []
+nothing_made universe test = record { count_is = refl; each = λ v l. absurd (omega arith) }
 
-pub made_grown : (a b : Arena) → IsGrown a b → (test : ℕ → List Bool → Bool) (count : ℕ) (made : List Set) →
+pub made_grown : (a b : Universe) → IsGrown a b → (test : ℕ → List Bool → Bool) (count : ℕ) (made : List Subset) →
     AreMade a test count made → AreMade b test count made
 made_grown a b g test count made are = record {
   count_is = are.count_is;
   each = λ v l. set_grown a b g (test v) (set_at made v) (are.each v l);
 }
 
-pub made_push : (arena : Arena) (test : ℕ → List Bool → Bool) (count : ℕ) (made : List Set) (set : Set) →
-    AreMade arena test count made → IsSetOf arena (test count) set →
-    AreMade arena test (count + 1) (made ++ set ∷ [])
-made_push arena test count made set are new = record {
+pub made_push : (universe : Universe) (test : ℕ → List Bool → Bool) (count : ℕ) (made : List Subset) (set : Subset) →
+    AreMade universe test count made → IsSetOf universe (test count) set →
+    AreMade universe test (count + 1) (made ++ set ∷ [])
+made_push universe test count made set are new = record {
   count_is = length-append made (set ∷ []) ∙ ap (λ n. n + 1) are.count_is;
   each = λ v l. of v l (cases_eq v count);
 }
   where
     last : set_at (made ++ set ∷ []) (length made) ≡ set
-    last = get_or-append_seam made set [] (record { node = 0 })
+    last = get_or-append_seam made set [] no_subset
 
-    of : (v : ℕ) → v < count + 1 → (v ≡ count) ⊎ (v ≡ count → ⊥) → IsSetOf arena (test v) (set_at (made ++ set ∷ []) v)
-    of v l (inl e) = subst (λ n. IsSetOf arena (test n) (set_at (made ++ set ∷ []) n)) (sym e)
-        (subst (λ (s : Set). IsSetOf arena (test count) s)
+    of : (v : ℕ) → v < count + 1 → (v ≡ count) ⊎ (v ≡ count → ⊥) → IsSetOf universe (test v) (set_at (made ++ set ∷ []) v)
+    of v l (inl e) = subst (λ n. IsSetOf universe (test n) (set_at (made ++ set ∷ []) n)) (sym e)
+        (subst (λ (s : Subset). IsSetOf universe (test count) s)
         (sym (ap (λ n. set_at (made ++ set ∷ []) n) (sym are.count_is) ∙ last)) new)
-    of v l (inr n) = subst (λ (s : Set). IsSetOf arena (test v) s)
-        (sym (get_or_append_left made (set ∷ []) (record { node = 0 }) v (below are.count_is)))
+    of v l (inr n) = subst (λ (s : Subset). IsSetOf universe (test v) s)
+        (sym (get_or_append_left made (set ∷ []) no_subset v (below are.count_is)))
         (are.each v (omega (arith, n)))
       where
         below : length made ≡ count → v < length made
         below e = omega (arith, n)
 
--- one more set, made of two sets of the arena that there was at first
-pub made_more : (old a b : Arena) → IsGrown old a → IsGrown a b → (f : Bool → Bool → Bool) (x y set : Set) →
+-- one more set, made of two sets of the universe that there was at first
+pub made_more : (old a b : Universe) → IsGrown old a → IsGrown a b → (f : Bool → Bool → Bool) (x y set : Subset) →
     IsInside old x → IsInside old y → IsSetOf b (λ p. f (has a x p) (has a y p)) set →
-    (test : ℕ → List Bool → Bool) (count : ℕ) (made : List Set) →
+    (test : ℕ → List Bool → Bool) (count : ℕ) (made : List Subset) →
     ((p : List Bool) → test count p ≡ f (has old x p) (has old y p)) → AreMade a test count made →
     IsGrown old b × AreMade b test (count + 1) (made ++ set ∷ [])
 made_more old a b g h f x y set x_in y_in is test count made tested are = (
@@ -101,25 +108,25 @@ made_more old a b g h f x y set x_in y_in is test count made tested are = (
     same : (s t u w : Bool) → s ≡ u → t ≡ w → f s t ≡ f u w
     same s t u w d e = ap (λ (c : Bool). f c t) d ∙ ap (λ (c : Bool). f u c) e
 
-pub made_sets : (arena : Arena) (test : ℕ → List Bool → Bool) (count : ℕ) (made : List Set) →
-    AreMade arena test count made → AreSets arena count made
-made_sets arena test count made are = record {
+pub made_sets : (universe : Universe) (test : ℕ → List Bool → Bool) (count : ℕ) (made : List Subset) →
+    AreMade universe test count made → AreSets universe count made
+made_sets universe test count made are = record {
   count_is = are.count_is;
   inside = λ v l. (are.each v (subst (λ n. v < n) are.count_is l)).inside;
 }
 
-pub made_part : (arena : Arena) (test : ℕ → List Bool → Bool) (count : ℕ) (made : List Set) →
-    AreMade arena test count made → (p : List Bool) (v : ℕ) → part_in arena made p v ≡ (nat_lt v count && test v p)
-made_part arena test count made are p v = of (cases_lt v count)
+pub made_part : (universe : Universe) (test : ℕ → List Bool → Bool) (count : ℕ) (made : List Subset) →
+    AreMade universe test count made → (p : List Bool) (v : ℕ) → part_in universe made p v ≡ (nat_lt v count && test v p)
+made_part universe test count made are p v = of (cases_lt v count)
   where
-    of : (v < count) ⊎ (count ≤ v) → part_in arena made p v ≡ (nat_lt v count && test v p)
-    of (inl l) = part_inside arena made p v (subst (λ n. v < n) (sym are.count_is) l) ∙ (are.each v l).each p
+    of : (v < count) ⊎ (count ≤ v) → part_in universe made p v ≡ (nat_lt v count && test v p)
+    of (inl l) = part_inside universe made p v (subst (λ n. v < n) (sym are.count_is) l) ∙ (are.each v l).each p
         ∙ sym (ap (λ (b : Bool). b && test v p) (lt-ltb v count l))
-    of (inr l) = part_beyond arena made p v (subst (λ n. n ≤ v) (sym are.count_is) l)
+    of (inr l) = part_beyond universe made p v (subst (λ n. n ≤ v) (sym are.count_is) l)
         ∙ sym (ap (λ (b : Bool). b && test v p) (le-ltb v count l))
 
 -- a part made by a test of two parts, vertex by vertex
-module _ (old new : Arena) (count : ℕ) (part other made : List Set) (f : Bool → Bool → Bool) (none : f false false ≡ false)
+module _ (old new : Universe) (count : ℕ) (part other made : List Subset) (f : Bool → Bool → Bool) (none : f false false ≡ false)
     (are : AreSets old count part) (others : AreSets old count other)
     (made_of : AreMade new (λ v p. f (has old (set_at part v) p) (has old (set_at other v) p)) count made) where
   pub made_by : (p : List Bool) (v : ℕ) → part_in new made p v ≡ f (part_in old part p v) (part_in old other p v)
@@ -140,7 +147,7 @@ module _ (old new : Arena) (count : ℕ) (part other made : List Set) (f : Bool 
           (part_beyond old other p v (subst (λ n. n ≤ v) (sym others.count_is) l)))
 
 -- a part made by a test of a part and of the product
-module _ (old new : Arena) (count : ℕ) (part made : List Set) (f : Bool → Bool → Bool) (set : Set)
+module _ (old new : Universe) (count : ℕ) (part made : List Subset) (f : Bool → Bool → Bool) (set : Subset)
     (none : (b : Bool) → f false b ≡ false) (are : AreSets old count part)
     (made_of : AreMade new (λ v p. f (has old (set_at part v) p) (has old set p)) count made) where
   pub made_under : (p : List Bool) (v : ℕ) → part_in new made p v ≡ f (part_in old part p v) (has old set p)

@@ -12,21 +12,22 @@ use Rattle.vpg_game.proofs.Graphs.{games_have_graphs}
 use Rattle.vpg_hope.specs.Games.{HasEdge, successors_of}
 use Rattle.vpg_hope.proofs.Edges.{Contains-cases, Contains-first, Contains-later, not_in_nil, edge_inside}
 use Rattle.vpg_hope.proofs.Guards.{same_count}
-use Rattle.vpg_sets.specs.declared.node.Set.{Set}
-use Rattle.vpg_sets.specs.Sets.{Arena, IsInside, has, IsSetOf, IsGrown}
-use Rattle.vpg_sets.proofs.Growth.{inside_grown}
+use Rattle.vpg_zielonka.specs.declared.subset.Subset.{Subset}
+use Rattle.vpg_zielonka.specs.declared.universe.Universe.{Universe}
+use Rattle.vpg_zielonka.specs.Universes.{IsInside, IsKnown, has, IsGuardSet, IsGrown}
+use Rattle.vpg_zielonka.proofs.Growing.{inside_grown, known_of}
 use Rattle.vpg_zielonka.specs.declared.edges.Edge.{Edge}
-use Rattle.vpg_zielonka.specs.Edges.{edge_at, numbers_at, Leads, AreListed}
+use Rattle.vpg_zielonka.specs.Edges.{no_edge, edge_at, numbers_at, Leads, AreListed}
 use Rattle.vpg_zielonka.specs.Parts.{game_in}
 
 -- all edges of a game, and those of its first vertices, by the list and the two indexes
-abbrev pub AreEdges : Arena → GuardedGame Formula → List Edge → List (List ℕ) → List (List ℕ) → Type 0
-AreEdges arena graph edges leaving entering =
-    AreListed arena graph (λ p v w. HasEdge (game_in graph p) v w) edges leaving entering
+abbrev pub AreEdges : Universe → GuardedGame Formula → List Edge → List (List ℕ) → List (List ℕ) → Type 0
+AreEdges universe graph edges leaving entering =
+    AreListed universe graph (λ p v w. HasEdge (game_in graph p) v w) edges leaving entering
 
-abbrev pub AreEdgesUpTo : Arena → GuardedGame Formula → ℕ → List Edge → List (List ℕ) → List (List ℕ) → Type 0
-AreEdgesUpTo arena graph n edges leaving entering =
-    AreListed arena graph (λ p v w. (v < n) × HasEdge (game_in graph p) v w) edges leaving entering
+abbrev pub AreEdgesUpTo : Universe → GuardedGame Formula → ℕ → List Edge → List (List ℕ) → List (List ℕ) → Type 0
+AreEdgesUpTo universe graph n edges leaving entering =
+    AreListed universe graph (λ p v w. (v < n) × HasEdge (game_in graph p) v w) edges leaving entering
 
 -- ---- the edges of a vertex
 
@@ -107,24 +108,24 @@ from_below graph p v w edge = subst (λ n. v < n) (same_count Formula (λ mover 
 -- ---- the list
 
 -- other edges may be wanted, if they are among those
-pub listed_less : (arena : Arena) (graph : GuardedGame Formula) (Wanted Fewer : List Bool → ℕ → ℕ → Type 0)
+pub listed_less : (universe : Universe) (graph : GuardedGame Formula) (Wanted Fewer : List Bool → ℕ → ℕ → Type 0)
     (edges : List Edge) (leaving entering : List (List ℕ)) →
     ((p : List Bool) (v w : ℕ) → Fewer p v w → Wanted p v w) →
-    AreListed arena graph Wanted edges leaving entering → AreListed arena graph Fewer edges leaving entering
-listed_less arena graph Wanted Fewer edges leaving entering less are = record {
+    AreListed universe graph Wanted edges leaving entering → AreListed universe graph Fewer edges leaving entering
+listed_less universe graph Wanted Fewer edges leaving entering less are = record {
   inside = are.inside;
   from_inside = are.from_inside;
   to_inside = are.to_inside;
   sound = are.sound;
-  complete = λ p v w h. are.complete p v w (less p v w h);
+  complete = λ p v w k h. are.complete p v w k (less p v w h);
   leave_count = are.leave_count;
   enter_count = are.enter_count;
   leave = are.leave;
   enter = are.enter;
 }
 
--- the arena may grow
-pub listed_grown : (a b : Arena) → IsGrown a b → (graph : GuardedGame Formula)
+-- the universe may grow
+pub listed_grown : (a b : Universe) → IsGrown a b → (graph : GuardedGame Formula)
     (Wanted : List Bool → ℕ → ℕ → Type 0) (edges : List Edge) (leaving entering : List (List ℕ)) →
     AreListed a graph Wanted edges leaving entering → AreListed b graph Wanted edges leaving entering
 listed_grown a b g graph Wanted edges leaving entering are = record {
@@ -137,7 +138,7 @@ listed_grown a b g graph Wanted edges leaving entering are = record {
     to = h.to;
     holds = sym (g.same (edge_at edges k).products (are.inside k h.inside) p) ∙ h.holds;
   });
-  complete = λ p v w h. led p v w (are.complete p v w h);
+  complete = λ p v w k h. led p v w (are.complete p v w (g.known p k) h);
   leave_count = are.leave_count;
   enter_count = are.enter_count;
   leave = are.leave;
@@ -156,15 +157,15 @@ listed_grown a b g graph Wanted edges leaving entering are = record {
     )
 
 -- at first there is no edge
-pub none_listed : (arena : Arena) (graph : GuardedGame Formula) (n : ℕ) → n ≡ length graph →
+pub none_listed : (universe : Universe) (graph : GuardedGame Formula) (n : ℕ) → n ≡ length graph →
     ((v : ℕ) → numbers_at (replicate n []) v ≡ []) → length (replicate {A = List ℕ} n []) ≡ n →
-    AreListed arena graph (λ p v w. (v < 0) × HasEdge (game_in graph p) v w) [] (replicate n []) (replicate n [])
-none_listed arena graph n e empty count = record {
+    AreListed universe graph (λ p v w. (v < 0) × HasEdge (game_in graph p) v w) [] (replicate n []) (replicate n [])
+none_listed universe graph n e empty count = record {
   inside = λ k l. absurd (omega arith);
   from_inside = λ k l. absurd (omega arith);
   to_inside = λ k l. absurd (omega arith);
   sound = λ p k v w h. absurd (none k h.inside);
-  complete = λ p v w h. absurd (omega (arith, h.0));
+  complete = λ p v w k h. absurd (omega (arith, h.0));
   leave_count = count ∙ e;
   enter_count = count ∙ e;
   leave = λ v k. (λ c. absurd (not_in_nil k (subst (λ (l : List ℕ). Contains l k) (empty v) c)), λ h. absurd (none k h.0));
@@ -174,11 +175,11 @@ none_listed arena graph n e empty count = record {
     none : (k : ℕ) → k < 0 → ⊥
     none k l = omega arith
 
-module _ (arena : Arena) (graph : GuardedGame Formula) (Wanted : List Bool → ℕ → ℕ → Type 0) (edges : List Edge)
+module _ (universe : Universe) (graph : GuardedGame Formula) (Wanted : List Bool → ℕ → ℕ → Type 0) (edges : List Edge)
     (leaving entering more_leaving more_entering : List (List ℕ)) (new : Edge) (guard : Formula)
-    (are : AreListed arena graph Wanted edges leaving entering)
+    (are : AreListed universe graph Wanted edges leaving entering)
     (from_in : new.from < length graph) (to_in : new.to < length graph)
-    (is : IsSetOf arena (λ p. truth p guard) new.products)
+    (is : IsGuardSet universe guard new.products)
     (true_edge : (p : List Bool) → truth p guard ≡ true → HasEdge (game_in graph p) new.from new.to)
     (leaves : NotesAlso leaving (length edges) (new.from ∷ []) more_leaving)
     (enters : NotesAlso entering (length edges) (new.to ∷ []) more_entering) where
@@ -197,10 +198,10 @@ module _ (arena : Arena) (graph : GuardedGame Formula) (Wanted : List Bool → �
       of (inr h) = inr (omega (arith, count_more, l))
 
   stays : (k : ℕ) → k < length edges → edge_at more k ≡ edge_at edges k
-  stays k l = get_or_append_left edges (new ∷ []) (record { from = 0; to = 0; products = record { node = 0 } }) k l
+  stays k l = get_or_append_left edges (new ∷ []) no_edge k l
 
   last : edge_at more (length edges) ≡ new
-  last = get_or-append_seam edges new [] (record { from = 0; to = 0; products = record { node = 0 } })
+  last = get_or-append_seam edges new [] no_edge
 
   up : (k : ℕ) → k < length edges → k < length more
   up k l = omega (arith, count_more, l)
@@ -238,56 +239,59 @@ module _ (arena : Arena) (graph : GuardedGame Formula) (Wanted : List Bool → �
             (sym (ap f (ap (λ n. edge_at more n) h ∙ last)) ∙ e) (Contains-first (f new) []),
       ))
 
-  pub listed_push : AreListed arena graph
+  pub listed_push : AreListed universe graph
       (λ p v w. Wanted p v w ⊎ ((v ≡ new.from) × (w ≡ new.to) × (truth p guard ≡ true))) more more_leaving more_entering
   listed_push = record {
-    inside = each (λ (e : Edge). IsInside arena e.products) are.inside is.inside;
+    inside = each (λ (e : Edge). IsInside universe e.products) are.inside is.inside;
     from_inside = each (λ (e : Edge). e.from < length graph) are.from_inside from_in;
     to_inside = each (λ (e : Edge). e.to < length graph) are.to_inside to_in;
     sound = λ p k v w h. sound p k v w h (which k h.inside);
-    complete = λ p v w h. complete p v w h;
+    complete = λ p v w known h. complete p v w known h;
     leave_count = leaves.same_length ∙ are.leave_count;
     enter_count = enters.same_length ∙ are.enter_count;
     leave = noted leaving more_leaving (λ (e : Edge). e.from) leaves are.leave;
     enter = noted entering more_entering (λ (e : Edge). e.to) enters are.enter;
   }
     where
-      sound : (p : List Bool) (k v w : ℕ) → Leads arena more p k v w → (k < length edges) ⊎ (k ≡ length edges) →
+      sound : (p : List Bool) (k v w : ℕ) → Leads universe more p k v w → (k < length edges) ⊎ (k ≡ length edges) →
           HasEdge (game_in graph p) v w
       sound p k v w h (inl l) = are.sound p k v w (record {
         inside = l;
         from = sym (ap (λ (e : Edge). e.from) (stays k l)) ∙ h.from;
         to = sym (ap (λ (e : Edge). e.to) (stays k l)) ∙ h.to;
-        holds = sym (ap (λ (e : Edge). has arena e.products p) (stays k l)) ∙ h.holds;
+        holds = sym (ap (λ (e : Edge). has universe e.products p) (stays k l)) ∙ h.holds;
       })
       sound p k v w h (inr l) = subst (λ x. HasEdge (game_in graph p) x w)
           (sym (ap (λ (e : Edge). e.from) (ap (λ n. edge_at more n) l ∙ last)) ∙ h.from)
           (subst (λ y. HasEdge (game_in graph p) new.from y)
           (sym (ap (λ (e : Edge). e.to) (ap (λ n. edge_at more n) l ∙ last)) ∙ h.to)
-          (true_edge p (sym (is.each p)
-          ∙ sym (ap (λ (e : Edge). has arena e.products p) (ap (λ n. edge_at more n) l ∙ last)) ∙ h.holds)))
-
-      complete : (p : List Bool) (v w : ℕ) → Wanted p v w ⊎ ((v ≡ new.from) × (w ≡ new.to) × (truth p guard ≡ true)) →
-          (k : ℕ) × Leads arena more p k v w
-      complete p v w (inl h) = old (are.complete p v w h)
+          (true_edge p (sym (is.each p (known_of universe new.products p held)) ∙ held)))
         where
-          old : (k : ℕ) × Leads arena edges p k v w → (k : ℕ) × Leads arena more p k v w
+          held : has universe new.products p ≡ true
+          held = sym (ap (λ (e : Edge). has universe e.products p) (ap (λ n. edge_at more n) l ∙ last)) ∙ h.holds
+
+      complete : (p : List Bool) (v w : ℕ) → IsKnown universe p →
+          Wanted p v w ⊎ ((v ≡ new.from) × (w ≡ new.to) × (truth p guard ≡ true)) →
+          (k : ℕ) × Leads universe more p k v w
+      complete p v w known (inl h) = old (are.complete p v w known h)
+        where
+          old : (k : ℕ) × Leads universe edges p k v w → (k : ℕ) × Leads universe more p k v w
           old k = (
             k.0,
             record {
               inside = up k.0 k.1.inside;
               from = ap (λ (e : Edge). e.from) (stays k.0 k.1.inside) ∙ k.1.from;
               to = ap (λ (e : Edge). e.to) (stays k.0 k.1.inside) ∙ k.1.to;
-              holds = ap (λ (e : Edge). has arena e.products p) (stays k.0 k.1.inside) ∙ k.1.holds;
+              holds = ap (λ (e : Edge). has universe e.products p) (stays k.0 k.1.inside) ∙ k.1.holds;
             },
           )
-      complete p v w (inr h) = (
+      complete p v w known (inr h) = (
         length edges,
         record {
           inside = omega (arith, count_more);
           from = ap (λ (e : Edge). e.from) last ∙ sym h.0;
           to = ap (λ (e : Edge). e.to) last ∙ sym h.1;
-          holds = ap (λ (e : Edge). has arena e.products p) last ∙ is.each p ∙ h.2;
+          holds = ap (λ (e : Edge). has universe e.products p) last ∙ is.each p known ∙ h.2;
         },
       )
 
@@ -308,15 +312,15 @@ abbrev pub IsNamedUpTo : GuardedGame Formula → ℕ → ℕ → List Bool → �
 IsNamedUpTo graph v n p u w =
     ((u < v) × HasEdge (game_in graph p) u w) ⊎ ((u ≡ v) × LeadsAmong p (vertex_in graph v).edges n w)
 
-module _ (a b : Arena) (g : IsGrown a b) (graph : GuardedGame Formula) (v i : ℕ) (inside : v < length graph)
+module _ (a b : Universe) (g : IsGrown a b) (graph : GuardedGame Formula) (v i : ℕ) (inside : v < length graph)
     (e : GuardedEdge Formula) (more_edges : i < length (vertex_in graph v).edges)
     (e_is : (d : GuardedEdge Formula) → get_or (vertex_in graph v).edges i d ≡ e)
-    (edges : List Edge) (leaving entering more_leaving more_entering : List (List ℕ)) (products : Set) where
+    (edges : List Edge) (leaving entering more_leaving more_entering : List (List ℕ)) (products : Subset) where
   abbrev next_edge : Edge
   next_edge = record { from = v; to = e.to; products = products }
 
   pub listed_next : AreListed a graph (IsNamedUpTo graph v i) edges leaving entering →
-      IsSetOf b (λ p. truth p e.guard) products → e.to < length graph →
+      IsGuardSet b e.guard products → e.to < length graph →
       NotesAlso leaving (length edges) (v ∷ []) more_leaving →
       NotesAlso entering (length edges) (e.to ∷ []) more_entering →
       AreListed b graph (IsNamedUpTo graph v (i + 1)) (edges ++ next_edge ∷ []) more_leaving more_entering
@@ -347,12 +351,12 @@ module _ (a b : Arena) (g : IsGrown a b) (graph : GuardedGame Formula) (v i : �
               below : j.0 < i + 1 → j.0 < i
               below l = omega (arith, n, l)
 
-module _ (arena : Arena) (graph : GuardedGame Formula) (edges : List Edge) (leaving entering : List (List ℕ)) where
+module _ (universe : Universe) (graph : GuardedGame Formula) (edges : List Edge) (leaving entering : List (List ℕ)) where
   -- all edges of the vertex are there
   pub listed_vertex : (v i : ℕ) → i ≡ length (vertex_in graph v).edges →
-      AreListed arena graph (IsNamedUpTo graph v i) edges leaving entering →
-      AreEdgesUpTo arena graph (v + 1) edges leaving entering
-  listed_vertex v i end are = listed_less arena graph (IsNamedUpTo graph v i)
+      AreListed universe graph (IsNamedUpTo graph v i) edges leaving entering →
+      AreEdgesUpTo universe graph (v + 1) edges leaving entering
+  listed_vertex v i end are = listed_less universe graph (IsNamedUpTo graph v i)
       (λ p u w. (u < v + 1) × HasEdge (game_in graph p) u w) edges leaving entering
       (λ p u w h. of p u w h.0 h.1 (cases_eq u v)) are
     where
@@ -366,14 +370,14 @@ module _ (arena : Arena) (graph : GuardedGame Formula) (edges : List Edge) (leav
       of p u w l edge (inr n) = inl (omega (arith, n, l), edge)
 
   -- all edges of the game are there
-  pub listed_all : (n : ℕ) → n ≡ length graph → AreEdgesUpTo arena graph n edges leaving entering →
-      AreEdges arena graph edges leaving entering
-  listed_all n end are = listed_less arena graph (λ p u w. (u < n) × HasEdge (game_in graph p) u w)
+  pub listed_all : (n : ℕ) → n ≡ length graph → AreEdgesUpTo universe graph n edges leaving entering →
+      AreEdges universe graph edges leaving entering
+  listed_all n end are = listed_less universe graph (λ p u w. (u < n) × HasEdge (game_in graph p) u w)
       (λ p u w. HasEdge (game_in graph p) u w) edges leaving entering
       (λ p u w edge. (subst (λ m. u < m) (sym end) (from_below graph p u w edge), edge)) are
 
--- the arena may grow
-pub edges_grown : (a b : Arena) → IsGrown a b → (graph : GuardedGame Formula) (edges : List Edge)
+-- the universe may grow
+pub edges_grown : (a b : Universe) → IsGrown a b → (graph : GuardedGame Formula) (edges : List Edge)
     (leaving entering : List (List ℕ)) → AreEdges a graph edges leaving entering →
     AreEdges b graph edges leaving entering
 edges_grown a b g graph edges leaving entering are =

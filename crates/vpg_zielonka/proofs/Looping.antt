@@ -6,9 +6,10 @@ use Rattle.vpg_sides.specs.Players.{WinsAt, opponent}
 use Rattle.vpg_guards.specs.Formula.{Formula}
 use Rattle.vpg_game.specs.Guarded.{GuardedGame}
 use Rattle.vpg_hope.specs.Games.{priority_of}
-use Rattle.vpg_sets.specs.declared.node.Set.{Set}
-use Rattle.vpg_sets.specs.Sets.{Arena, IsGrown}
-use Rattle.vpg_sets.proofs.Growth.{grown_self, grown_then}
+use Rattle.vpg_zielonka.specs.declared.subset.Subset.{Subset}
+use Rattle.vpg_zielonka.specs.declared.universe.Universe.{Universe}
+use Rattle.vpg_zielonka.specs.Universes.{IsGrown}
+use Rattle.vpg_zielonka.proofs.Growing.{grown_self, grown_then}
 use Rattle.vpg_zielonka.specs.Attractors.{Vertices}
 use Rattle.vpg_zielonka.specs.Parts.{game_in, part_in, AreSets}
 use Rattle.vpg_zielonka.specs.Rounds.{IsLive, IsBelowTops, IsGivenAway}
@@ -18,8 +19,8 @@ use Rattle.vpg_zielonka.specs.declared.winners.Winners.{Winners}
 use Rattle.vpg_zielonka.proofs.Filling.{part_below, part_grown}
 use Rattle.vpg_zielonka.proofs.Recursion.{Continues, continues_begin, continues_end, continues_round, left_lives, given_within}
 
--- what the players have stays what it is when the arena grows
-pub wins_grown : (a b : Arena) → IsGrown a b → (n : ℕ) (winners : Winners) → AreWinners a n winners →
+-- what the players have stays what it is when the universe grows
+pub wins_grown : (a b : Universe) → IsGrown a b → (n : ℕ) (winners : Winners) → AreWinners a n winners →
     (p : List Bool) → wins_in b winners p ≡ wins_in a winners p
 wins_grown a b g n winners are p = λ x player v. each player v x
   where
@@ -30,9 +31,9 @@ wins_grown a b g n winners are p = λ x player v. each player v x
     each : (player : Player) (v : ℕ) → wins_in b winners p player v ≡ wins_in a winners p player v
     each player v = part_grown a b g n (sets_of winners player) (sets_in player) p v
 
-module _ (old : Arena) (graph : GuardedGame Formula) (first : List Set) (bound : ℕ) where
+module _ (old : Universe) (graph : GuardedGame Formula) (first : List Subset) (bound : ℕ) where
   -- so far these are given away, and this part goes on
-  pub record IsSolvedSoFar (now : Arena) (part : List Set) (winners : Winners) : Type 0 where
+  pub record IsSolvedSoFar (now : Universe) (part : List Subset) (winners : Winners) : Type 0 where
     pub grown : IsGrown old now
     pub given : AreWinners now (length graph) winners
     pub sets : AreSets now (length graph) part
@@ -55,7 +56,7 @@ module _ (old : Arena) (graph : GuardedGame Formula) (first : List Set) (bound :
     continues = λ p. continues_begin (game_in graph p) (part_in old first p) (wins_in old winners p) (none p);
   }
 
-  pub loop_end : (now : Arena) (part : List Set) (winners : Winners) → IsSolvedSoFar now part winners →
+  pub loop_end : (now : Universe) (part : List Subset) (winners : Winners) → IsSolvedSoFar now part winners →
       ((p : List Bool) (v : ℕ) → part_in now part p v ≡ false) → (p : List Bool) →
       IsSolution (game_in graph p) (part_in old first p) (wins_in now winners p)
   loop_end now part winners is none p =
@@ -63,7 +64,7 @@ module _ (old : Arena) (graph : GuardedGame Formula) (first : List Set) (bound :
       (is.continues p) (none p)
 
   -- a round: below the tops (from a to b), the recursion (to c), and what is given away (to e)
-  module _ (a b c e : Arena) (part left next : List Set) (winners inner more : Winners) (q : Player) (d : ℕ)
+  module _ (a b c e : Universe) (part left next : List Subset) (winners inner more : Winners) (q : Player) (d : ℕ)
       (is : IsSolvedSoFar a part winners) (to_b : IsGrown a b) (to_c : IsGrown b c) (to_e : IsGrown c e)
       (parity : WinsAt q d)
       (greatest : (p : List Bool) (v : ℕ) → part_in a part p v ≡ true → priority_of (game_in graph p) v ≤ d)

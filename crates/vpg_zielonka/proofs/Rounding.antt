@@ -5,9 +5,10 @@ use Rattle.vpg_sides.specs.Players.{opponent}
 use Rattle.vpg_guards.specs.Formula.{Formula}
 use Rattle.vpg_game.specs.Guarded.{GuardedGame}
 use Rattle.vpg_hope.proofs.Dual.{opponent_twice}
-use Rattle.vpg_sets.specs.declared.node.Set.{Set}
-use Rattle.vpg_sets.specs.Sets.{Arena, IsInside, has, IsGrown}
-use Rattle.vpg_sets.proofs.Growth.{grown_then}
+use Rattle.vpg_zielonka.specs.declared.subset.Subset.{Subset}
+use Rattle.vpg_zielonka.specs.declared.universe.Universe.{Universe}
+use Rattle.vpg_zielonka.specs.Universes.{IsInside, has, IsGrown}
+use Rattle.vpg_zielonka.proofs.Growing.{grown_then}
 use Rattle.vpg_zielonka.specs.Attractors.{Vertices, IsAttractor, IsRest, IsJoined, IsWithin}
 use Rattle.vpg_zielonka.specs.Parts.{game_in, part_in, AreSets}
 use Rattle.vpg_zielonka.specs.Rounds.{IsLive, IsLiveOrSeed, AreTops, AreStuck, IsBelowTops, IsGivenAway, IsWithoutStuck}
@@ -16,30 +17,30 @@ use Rattle.vpg_zielonka.specs.declared.winners.Winners.{Winners}
 use Rattle.vpg_zielonka.proofs.Filling.{part_grown, sets_grown}
 use Rattle.vpg_zielonka.proofs.Looping.{wins_grown}
 
--- a part is the same in each product when the arena grows
-pub same_part : (a b : Arena) → IsGrown a b → (n : ℕ) (sets : List Set) → AreSets a n sets → (p : List Bool) →
+-- a part is the same in each product when the universe grows
+pub same_part : (a b : Universe) → IsGrown a b → (n : ℕ) (sets : List Subset) → AreSets a n sets → (p : List Bool) →
     part_in b sets p ≡ part_in a sets p
 same_part a b g n sets are p = λ x v. part_grown a b g n sets are p v x
 
-pub within_grown : (a b : Arena) → IsGrown a b → (n : ℕ) (few many : List Set) → AreSets a n few → AreSets a n many →
+pub within_grown : (a b : Universe) → IsGrown a b → (n : ℕ) (few many : List Subset) → AreSets a n few → AreSets a n many →
     ((p : List Bool) → IsWithin (part_in a few p) (part_in a many p)) →
     (p : List Bool) → IsWithin (part_in b few p) (part_in b many p)
 within_grown a b g n few many fews manys within p v h = part_grown a b g n many manys p v
     ∙ within p v (sym (part_grown a b g n few fews p v) ∙ h)
 
-pub live_grown : (a b : Arena) → IsGrown a b → (graph : GuardedGame Formula) (part : List Set) →
+pub live_grown : (a b : Universe) → IsGrown a b → (graph : GuardedGame Formula) (part : List Subset) →
     AreSets a (length graph) part → ((p : List Bool) → IsLive (game_in graph p) (part_in a part p)) →
     (p : List Bool) → IsLive (game_in graph p) (part_in b part p)
 live_grown a b g graph part parts live p = subst (λ (m : Vertices). IsLive (game_in graph p) m)
     (sym (same_part a b g (length graph) part parts p)) (live p)
 
 -- each vertex can move on, so the opponent can
-pub live_or_seed : (arena : Arena) (graph : GuardedGame Formula) (player : Player) (part seeds : List Set) →
-    ((p : List Bool) → IsLive (game_in graph p) (part_in arena part p)) → (p : List Bool) →
-    IsLiveOrSeed (game_in graph p) player (part_in arena part p) (part_in arena seeds p)
-live_or_seed arena graph player part seeds live p = λ v m o f. live p v m
+pub live_or_seed : (universe : Universe) (graph : GuardedGame Formula) (player : Player) (part seeds : List Subset) →
+    ((p : List Bool) → IsLive (game_in graph p) (part_in universe part p)) → (p : List Bool) →
+    IsLiveOrSeed (game_in graph p) player (part_in universe part p) (part_in universe seeds p)
+live_or_seed universe graph player part seeds live p = λ v m o f. live p v m
 
-pub winners_grown : (a b : Arena) → IsGrown a b → (n : ℕ) (winners : Winners) → AreWinners a n winners →
+pub winners_grown : (a b : Universe) → IsGrown a b → (n : ℕ) (winners : Winners) → AreWinners a n winners →
     AreWinners b n winners
 winners_grown a b g n winners are = record {
   won = sets_grown a b g n winners.won.items are.won;
@@ -48,8 +49,8 @@ winners_grown a b g n winners are = record {
 
 -- ---- below the tops
 
-module _ (a b c : Arena) (g : IsGrown a b) (graph : GuardedGame Formula) (player : Player) (d : ℕ)
-    (part seeds seeds_read drawn drawn_read left : List Set) (seeds_are : seeds_read ≡ seeds)
+module _ (a b c : Universe) (g : IsGrown a b) (graph : GuardedGame Formula) (player : Player) (d : ℕ)
+    (part seeds seeds_read drawn drawn_read left : List Subset) (seeds_are : seeds_read ≡ seeds)
     (drawn_are : drawn_read ≡ drawn) (parts : AreSets a (length graph) part)
     (tops : (p : List Bool) → AreTops (game_in graph p) (part_in a part p) d (part_in a seeds p))
     (attractor : (p : List Bool) → IsAttractor (game_in graph p) player (part_in a part p) (part_in a seeds_read p)
@@ -60,17 +61,17 @@ module _ (a b c : Arena) (g : IsGrown a b) (graph : GuardedGame Formula) (player
     seeds = part_in a seeds p;
     drawn = part_in b drawn p;
     tops = tops p;
-    attractor = subst (λ (xs : List Set). IsAttractor (game_in graph p) player (part_in a part p) (part_in a xs p)
+    attractor = subst (λ (xs : List Subset). IsAttractor (game_in graph p) player (part_in a part p) (part_in a xs p)
         (part_in b drawn p)) seeds_are (attractor p);
-    rest = λ v. rest p v ∙ ap (λ (xs : List Set). part_in b part p v && not (part_in b xs p v)) drawn_are
+    rest = λ v. rest p v ∙ ap (λ (xs : List Subset). part_in b part p v && not (part_in b xs p v)) drawn_are
         ∙ ap (λ (x : Bool). x && not (part_in b drawn p v)) (part_grown a b g (length graph) part parts p v);
   }
 
 -- ---- a round given away
 
-module _ (a b c d e f g h : Arena) (graph : GuardedGame Formula) (player q : Player) (q_is : q ≡ opponent player)
-    (part others drawn gone on left gone_read drawn_given drawn_read on_read : List Set) (gone_are : gone_read ≡ gone)
-    (given_are : drawn_given ≡ drawn) (drawn_are : drawn_read ≡ drawn) (on_are : on_read ≡ on) (some : Set)
+module _ (a b c d e f g h : Universe) (graph : GuardedGame Formula) (player q : Player) (q_is : q ≡ opponent player)
+    (part others drawn gone on left gone_read drawn_given drawn_read on_read : List Subset) (gone_are : gone_read ≡ gone)
+    (given_are : drawn_given ≡ drawn) (drawn_are : drawn_read ≡ drawn) (on_are : on_read ≡ on) (some : Subset)
     (w0 w1 w2 : Winners)
     (ab : IsGrown a b) (bc : IsGrown b c) (cd : IsGrown c d) (de : IsGrown d e) (ef : IsGrown e f) (fg : IsGrown f g)
     (gh : IsGrown g h) (parts : AreSets a (length graph) part) (other_sets : AreSets a (length graph) others)
@@ -133,16 +134,16 @@ module _ (a b c d e f g h : Arena) (graph : GuardedGame Formula) (player q : Pla
         q_is (attractor p)));
     others_more = λ v. end_wins p (opponent player) v
         ∙ subst (λ (r : Player). wins_in f w2 p r v ≡ (wins_in e w1 p r v || part_in e drawn_given p v)) q_is (more p v)
-        ∙ ap (λ (xs : List Set). wins_in e w1 p (opponent player) v || part_in e xs p v) given_are
+        ∙ ap (λ (xs : List Subset). wins_in e w1 p (opponent player) v || part_in e xs p v) given_are
         ∙ two (λ (x y : Bool). x || y) (λ (x y : Bool). x || y) refl
         (same p v ∙ start_wins p (opponent player) v) (part_grown c e ce (length graph) drawn drawns p v);
     own_more = λ v. end_wins p player v ∙ back p v ∙ own p v
-        ∙ ap (λ (xs : List Set). wins_in d w0 p player v || part_in d xs p v) gone_are
+        ∙ ap (λ (xs : List Subset). wins_in d w0 p player v || part_in d xs p v) gone_are
         ∙ two (λ (x y : Bool). x || y) (λ (x y : Bool). x || y) refl (start_wins p player v)
         (gone_is p v ∙ two (λ (x y : Bool). x && not y) (λ (x y : Bool). x && not y) refl
         (part_grown a c ac (length graph) part parts p v) (bc.same some some_in p));
-    rest = λ v. rest p v ∙ ap (λ (xs : List Set). part_in g xs p v && not (part_in g drawn_read p v)) on_are
-        ∙ ap (λ (xs : List Set). part_in g on p v && not (part_in g xs p v)) drawn_are
+    rest = λ v. rest p v ∙ ap (λ (xs : List Subset). part_in g xs p v && not (part_in g drawn_read p v)) on_are
+        ∙ ap (λ (xs : List Subset). part_in g on p v && not (part_in g xs p v)) drawn_are
         ∙ two (λ (x y : Bool). x && not y) (λ (x y : Bool). x && not y) refl
         (on_is p v ∙ two (λ (x y : Bool). x && y) (λ (x y : Bool). x && y) refl
         (part_grown a f af (length graph) part parts p v) (bf.same some some_in p))
@@ -151,23 +152,23 @@ module _ (a b c d e f g h : Arena) (graph : GuardedGame Formula) (player q : Pla
 
 -- ---- vertices without a move
 
-pub stuck_inside : (a b : Arena) → IsGrown a b → (graph : GuardedGame Formula) (player : Player) (part seeds : List Set) →
+pub stuck_inside : (a b : Universe) → IsGrown a b → (graph : GuardedGame Formula) (player : Player) (part seeds : List Subset) →
     AreSets a (length graph) part →
     ((p : List Bool) → AreStuck (game_in graph p) player (part_in a part p) (part_in b seeds p)) →
     (p : List Bool) → IsWithin (part_in b seeds p) (part_in b part p)
 stuck_inside a b g graph player part seeds parts stuck p v m =
     part_grown a b g (length graph) part parts p v ∙ (stuck p).inside v m
 
-pub stuck_live : (a b : Arena) → IsGrown a b → (graph : GuardedGame Formula) (player q : Player) → q ≡ opponent player →
-    (part seeds : List Set) → AreSets a (length graph) part →
+pub stuck_live : (a b : Universe) → IsGrown a b → (graph : GuardedGame Formula) (player q : Player) → q ≡ opponent player →
+    (part seeds : List Subset) → AreSets a (length graph) part →
     ((p : List Bool) → AreStuck (game_in graph p) q (part_in a part p) (part_in b seeds p)) →
     (p : List Bool) → IsLiveOrSeed (game_in graph p) player (part_in b part p) (part_in b seeds p)
 stuck_live a b g graph player q q_is part seeds parts stuck p =
     subst (λ (m : Vertices). IsLiveOrSeed (game_in graph p) player m (part_in b seeds p))
     (sym (same_part a b g (length graph) part parts p)) (λ v m o f. (stuck p).all v m (o ∙ sym q_is) f)
 
-module _ (a b c d e : Arena) (graph : GuardedGame Formula) (player q : Player) (q_is : q ≡ opponent player)
-    (part seeds drawn left seeds_read drawn_given drawn_read : List Set) (seeds_are : seeds_read ≡ seeds)
+module _ (a b c d e : Universe) (graph : GuardedGame Formula) (player q : Player) (q_is : q ≡ opponent player)
+    (part seeds drawn left seeds_read drawn_given drawn_read : List Subset) (seeds_are : seeds_read ≡ seeds)
     (given_are : drawn_given ≡ drawn) (drawn_are : drawn_read ≡ drawn) (w0 w1 : Winners) (ab : IsGrown a b)
     (bc : IsGrown b c) (cd : IsGrown c d) (de : IsGrown d e) (parts : AreSets a (length graph) part)
     (drawns : AreSets c (length graph) drawn) (before : AreWinners a (length graph) w0)
@@ -186,14 +187,14 @@ module _ (a b c d e : Arena) (graph : GuardedGame Formula) (player q : Player) (
     stuck = subst (λ (r : Player). AreStuck (game_in graph p) r (part_in a part p) (part_in b seeds p)) q_is (stuck p);
     attractor = subst (λ (m : Vertices). IsAttractor (game_in graph p) player m (part_in b seeds p) (part_in c drawn p))
         (same_part a b ab (length graph) part parts p)
-        (subst (λ (xs : List Set). IsAttractor (game_in graph p) player (part_in b part p) (part_in b xs p)
+        (subst (λ (xs : List Subset). IsAttractor (game_in graph p) player (part_in b part p) (part_in b xs p)
         (part_in c drawn p)) seeds_are (attractor p));
     own_more = λ v. end_wins player v ∙ own p v
-        ∙ ap (λ (xs : List Set). wins_in c w0 p player v || part_in c xs p v) given_are
+        ∙ ap (λ (xs : List Subset). wins_in c w0 p player v || part_in c xs p v) given_are
         ∙ ap (λ (x : Bool). x || part_in c drawn p v) (start_wins player v);
     others_stay = λ v. end_wins (opponent player) v ∙ others p v ∙ start_wins (opponent player) v;
     rest = λ v. rest p v
-        ∙ ap (λ (xs : List Set). part_in d part p v && not (part_in d xs p v)) drawn_are
+        ∙ ap (λ (xs : List Subset). part_in d part p v && not (part_in d xs p v)) drawn_are
         ∙ ap (λ (x : Bool). x && not (part_in d drawn p v))
         (part_grown a d (grown_then a c d (grown_then a b c ab bc) cd) (length graph) part parts p v)
         ∙ ap (λ (x : Bool). part_in a part p v && not x) (part_grown c d cd (length graph) drawn drawns p v);

@@ -4,9 +4,10 @@ use Rattle.std.proofs.lemmas.Bool.{cases_eq}
 use Rattle.vpg_sides.specs.declared.player.Player.{Player}
 use Rattle.vpg_guards.specs.Formula.{Formula}
 use Rattle.vpg_game.specs.Guarded.{GuardedGame}
-use Rattle.vpg_sets.specs.declared.node.Set.{Set}
-use Rattle.vpg_sets.specs.Sets.{Arena, IsGrown}
-use Rattle.vpg_sets.proofs.Growth.{grown_self, grown_then}
+use Rattle.vpg_zielonka.specs.declared.subset.Subset.{Subset}
+use Rattle.vpg_zielonka.specs.declared.universe.Universe.{Universe}
+use Rattle.vpg_zielonka.specs.Universes.{IsGrown}
+use Rattle.vpg_zielonka.proofs.Growing.{grown_self, grown_then}
 use Rattle.vpg_zielonka.specs.Attractors.{Vertices, IsAttractor, IsWithin}
 use Rattle.vpg_zielonka.specs.Drawing.{IsSettled, IsDrawnFrom}
 use Rattle.vpg_zielonka.specs.Parts.{game_in, part_in, AreSets}
@@ -15,12 +16,12 @@ use Rattle.vpg_zielonka.proofs.Drawing.{drawn_self, drawn_then, settled_later, s
 use Rattle.vpg_zielonka.proofs.Draws.{set_there, set_count}
 use Rattle.vpg_zielonka.proofs.Filling.{part_grown}
 
-module _ (old : Arena) (graph : GuardedGame Formula) (player : Player) (part seeds : List Set) where
+module _ (old : Universe) (graph : GuardedGame Formula) (player : Player) (part seeds : List Subset) where
   abbrev Waits : List Bool → ℕ → ℕ → Type 0
   Waits waiting v x = get_or waiting x false ≡ true
 
   -- so far these are drawn, and these vertices wait
-  pub record IsSpread (now : Arena) (drawn : List Set) (waiting : List Bool) : Type 0 where
+  pub record IsSpread (now : Universe) (drawn : List Subset) (waiting : List Bool) : Type 0 where
     pub grown : IsGrown old now
     pub sets : AreSets now (length graph) drawn
     pub count : length waiting ≡ length graph
@@ -44,11 +45,11 @@ module _ (old : Arena) (graph : GuardedGame Formula) (player : Player) (part see
   }
 
   module _ (parts : AreSets old (length graph) part) where
-    same_part : (now : Arena) → IsGrown old now → (p : List Bool) → part_in now part p ≡ part_in old part p
+    same_part : (now : Universe) → IsGrown old now → (p : List Bool) → part_in now part p ≡ part_in old part p
     same_part now g p = λ x v. part_grown old now g (length graph) part parts p v x
 
     -- a vertex that was taken from those that wait is to be looked at
-    pub spread_pop : (now : Arena) (drawn : List Set) (waiting left : List Bool) (w : ℕ) → IsSpread now drawn waiting →
+    pub spread_pop : (now : Universe) (drawn : List Subset) (waiting left : List Bool) (w : ℕ) → IsSpread now drawn waiting →
         left ≡ set waiting w false → (p : List Bool) →
         IsSettled (game_in graph p) player (part_in now part p) (part_in now drawn p)
         (λ v x. (get_or left x false ≡ true) ⊎ (x ≡ w))
@@ -56,7 +57,7 @@ module _ (old : Arena) (graph : GuardedGame Formula) (player : Player) (part see
         subst (λ (m : Vertices). IsSettled (game_in graph p) player m (part_in now drawn p)
         (λ v x. (get_or left x false ≡ true) ⊎ (x ≡ w))) (sym (same_part now is.grown p))
         (settled_later (game_in graph p) player (part_in old part p) (part_in now drawn p) (Waits waiting)
-        (λ v x. (get_or left x false ≡ true) ⊎ (x ≡ w)) (λ v x edge h. of x h (cases_eq x w)) (is.settled p))
+        (λ v x. (get_or left x false ≡ true) ⊎ (x ≡ w)) (λ v x m edge h. of x h (cases_eq x w)) (is.settled p))
       where
         of : (x : ℕ) → get_or waiting x false ≡ true → (x ≡ w) ⊎ (x ≡ w → ⊥) → (get_or left x false ≡ true) ⊎ (x ≡ w)
         of x h (inl s) = inr s
@@ -67,7 +68,7 @@ module _ (old : Arena) (graph : GuardedGame Formula) (player : Player) (part see
     popped_count waiting left w count e = ap (λ (l : List Bool). length l) e ∙ set_count waiting w false ∙ count
 
     -- it was looked at
-    pub spread_more : (a b : Arena) (drawn more : List Set) (waiting later : List Bool) → IsSpread a drawn waiting →
+    pub spread_more : (a b : Universe) (drawn more : List Subset) (waiting later : List Bool) → IsSpread a drawn waiting →
         IsGrown a b → AreSets b (length graph) more → length later ≡ length graph →
         ((p : List Bool) → IsDrawnFrom (game_in graph p) player (part_in a part p) (part_in a drawn p) (part_in b more p)) →
         ((p : List Bool) → IsSettled (game_in graph p) player (part_in a part p) (part_in b more p) (Waits later)) →
@@ -85,7 +86,7 @@ module _ (old : Arena) (graph : GuardedGame Formula) (player : Player) (part see
     }
 
   -- no vertex waits any more
-  pub spread_end : (now : Arena) (drawn : List Set) (waiting : List Bool) → IsSpread now drawn waiting →
+  pub spread_end : (now : Universe) (drawn : List Subset) (waiting : List Bool) → IsSpread now drawn waiting →
       ((p : List Bool) → IsWithin (part_in old seeds p) (part_in old part p)) →
       ((p : List Bool) → IsLiveOrSeed (game_in graph p) player (part_in old part p) (part_in old seeds p)) →
       ((v : ℕ) → get_or waiting v false ≡ false) → (p : List Bool) →
@@ -94,7 +95,7 @@ module _ (old : Arena) (graph : GuardedGame Formula) (player : Player) (part see
       attractor_end (game_in graph p) player (part_in old part p) (part_in old seeds p) (part_in now drawn p)
       (inside p) (live p) (is.more p)
       (settled_later (game_in graph p) player (part_in old part p) (part_in now drawn p) (Waits waiting) (λ v x. ⊥)
-      (λ v x edge h. clash (none x) h) (is.settled p))
+      (λ v x m edge h. clash (none x) h) (is.settled p))
     where
       clash : {b : Bool} → b ≡ false → b ≡ true → ⊥
       clash f h = cc (f, h)

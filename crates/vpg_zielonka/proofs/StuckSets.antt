@@ -9,27 +9,28 @@ use Rattle.vpg_game.specs.Guarded.{GuardedGame}
 use Rattle.vpg_game.specs.Game.{vertex_in}
 use Rattle.vpg_hope.specs.Games.{HasEdge, owner_of, successors_of}
 use Rattle.vpg_determined.proofs.Masks.{Decided, is_in, search_list}
-use Rattle.vpg_sets.specs.declared.node.Set.{Set}
-use Rattle.vpg_sets.specs.Sets.{Arena, IsInside, has, IsSetOf, IsGrown}
-use Rattle.vpg_sets.proofs.Growth.{grown_self, grown_then, inside_grown}
+use Rattle.vpg_zielonka.specs.declared.subset.Subset.{Subset}
+use Rattle.vpg_zielonka.specs.declared.universe.Universe.{Universe}
+use Rattle.vpg_zielonka.specs.Universes.{no_subset, IsInside, has, IsSetOf, IsGrown}
+use Rattle.vpg_zielonka.proofs.Growing.{grown_self, grown_then, inside_grown}
 use Rattle.vpg_zielonka.specs.Drawing.{Confines}
 use Rattle.vpg_zielonka.specs.Parts.{set_at, game_in, part_in, AreSets}
 use Rattle.vpg_zielonka.specs.Rounds.{AreStuck}
 use Rattle.vpg_zielonka.proofs.Confining.{owner_is}
 use Rattle.vpg_zielonka.proofs.Filling.{part_inside, part_below, part_grown}
 
-module _ (old : Arena) (graph : GuardedGame Formula) (player : Player) (part : List Set) where
+module _ (old : Universe) (graph : GuardedGame Formula) (player : Player) (part : List Subset) where
   -- the vertex is the player's, and no edge leads from it to the part
   abbrev pub IsStuckAt : ℕ → List Bool → Type 0
   IsStuckAt v p = (owner_of (game_in graph p) v ≡ player) × (has old (set_at part v) p ≡ true) ×
       ((w : ℕ) → HasEdge (game_in graph p) v w → part_in old part p w ≡ true → ⊥)
 
-  pub record AreStuckUpTo (now : Arena) (count : ℕ) (seeds : List Set) : Type 0 where
+  pub record AreStuckUpTo (now : Universe) (count : ℕ) (seeds : List Subset) : Type 0 where
     pub count_is : length seeds ≡ count
     pub inside : (v : ℕ) → v < count → IsInside now (set_at seeds v)
     pub each : (v : ℕ) → v < count → (p : List Bool) → (has now (set_at seeds v) p ≡ true) ↔ IsStuckAt v p
 
-  pub stuck_none : (now : Arena) → AreStuckUpTo now 0 []
+  pub stuck_none : (now : Universe) → AreStuckUpTo now 0 []
   stuck_none now = record {
     count_is = refl;
     inside = λ v l. absurd (omega arith);
@@ -39,7 +40,7 @@ module _ (old : Arena) (graph : GuardedGame Formula) (player : Player) (part : L
       none : (v : ℕ) → v < 0 → ⊥
       none v l = omega arith
 
-  pub stuck_more : (a b : Arena) → IsGrown a b → (count : ℕ) (seeds : List Set) (new : Set) → IsInside b new →
+  pub stuck_more : (a b : Universe) → IsGrown a b → (count : ℕ) (seeds : List Subset) (new : Subset) → IsInside b new →
       ((p : List Bool) → (has b new p ≡ true) ↔ IsStuckAt count p) → AreStuckUpTo a count seeds →
       AreStuckUpTo b (count + 1) (seeds ++ new ∷ [])
   stuck_more a b g count seeds new new_in is are = record {
@@ -49,34 +50,34 @@ module _ (old : Arena) (graph : GuardedGame Formula) (player : Player) (part : L
   }
     where
       last : set_at (seeds ++ new ∷ []) (length seeds) ≡ new
-      last = get_or-append_seam seeds new [] (record { node = 0 })
+      last = get_or-append_seam seeds new [] no_subset
 
       at_last : set_at (seeds ++ new ∷ []) count ≡ new
       at_last = ap (λ n. set_at (seeds ++ new ∷ []) n) (sym are.count_is) ∙ last
 
       stays : (v : ℕ) → v < count → set_at (seeds ++ new ∷ []) v ≡ set_at seeds v
-      stays v l = get_or_append_left seeds (new ∷ []) (record { node = 0 }) v (subst (λ n. v < n) (sym are.count_is) l)
+      stays v l = get_or_append_left seeds (new ∷ []) no_subset v (subst (λ n. v < n) (sym are.count_is) l)
 
       inner : (v : ℕ) → v < count + 1 → (v ≡ count) ⊎ (v ≡ count → ⊥) → IsInside b (set_at (seeds ++ new ∷ []) v)
-      inner v l (inl e) = subst (λ (s : Set). IsInside b s) (sym (ap (λ n. set_at (seeds ++ new ∷ []) n) e ∙ at_last)) new_in
-      inner v l (inr n) = subst (λ (s : Set). IsInside b s) (sym (stays v (omega (arith, n))))
+      inner v l (inl e) = subst (λ (s : Subset). IsInside b s) (sym (ap (λ n. set_at (seeds ++ new ∷ []) n) e ∙ at_last)) new_in
+      inner v l (inr n) = subst (λ (s : Subset). IsInside b s) (sym (stays v (omega (arith, n))))
           (inside_grown a b g (set_at seeds v) (are.inside v (omega (arith, n))))
 
       of : (v : ℕ) → v < count + 1 → (v ≡ count) ⊎ (v ≡ count → ⊥) → (p : List Bool) →
           (has b (set_at (seeds ++ new ∷ []) v) p ≡ true) ↔ IsStuckAt v p
       of v l (inl e) p = subst (λ n. (has b (set_at (seeds ++ new ∷ []) n) p ≡ true) ↔ IsStuckAt n p) (sym e)
-          (subst (λ (s : Set). (has b s p ≡ true) ↔ IsStuckAt count p) (sym at_last) (is p))
-      of v l (inr n) p = subst (λ (s : Set). (has b s p ≡ true) ↔ IsStuckAt v p) (sym (stays v (omega (arith, n))))
+          (subst (λ (s : Subset). (has b s p ≡ true) ↔ IsStuckAt count p) (sym at_last) (is p))
+      of v l (inr n) p = subst (λ (s : Subset). (has b s p ≡ true) ↔ IsStuckAt v p) (sym (stays v (omega (arith, n))))
           (subst (λ (c : Bool). (c ≡ true) ↔ IsStuckAt v p)
           (sym (g.same (set_at seeds v) (are.inside v (omega (arith, n))) p)) (are.each v (omega (arith, n)) p))
 
-  pub stuck_sets : (now : Arena) (count : ℕ) (seeds : List Set) → AreStuckUpTo now count seeds → AreSets now count seeds
+  pub stuck_sets : (now : Universe) (count : ℕ) (seeds : List Subset) → AreStuckUpTo now count seeds → AreSets now count seeds
   stuck_sets now count seeds are = record {
     count_is = are.count_is;
     inside = λ v l. are.inside v (subst (λ n. v < n) are.count_is l);
   }
 
-  pub stuck_all : (now : Arena) (seeds : List Set) → AreSets old (length graph) part →
+  pub stuck_all : (now : Universe) (seeds : List Subset) → AreSets old (length graph) part →
       AreStuckUpTo now (length graph) seeds → (p : List Bool) →
       AreStuck (game_in graph p) player (part_in old part p) (part_in now seeds p)
   stuck_all now seeds parts are p = record {
@@ -124,18 +125,18 @@ module _ (old : Arena) (graph : GuardedGame Formula) (player : Player) (part : L
           clash a b = cc (a, b)
 
 -- one vertex more
-module _ (old : Arena) (graph : GuardedGame Formula) (player : Player) (part : List Set)
-    (parts : AreSets old (length graph) part) (i : ℕ) (inside : i < length graph) (a : Arena) (g : IsGrown old a)
-    (seeds more : List Set) (new : Set) (more_is : more ≡ seeds ++ new ∷ []) where
+module _ (old : Universe) (graph : GuardedGame Formula) (player : Player) (part : List Subset)
+    (parts : AreSets old (length graph) part) (i : ℕ) (inside : i < length graph) (a : Universe) (g : IsGrown old a)
+    (seeds more : List Subset) (new : Subset) (more_is : more ≡ seeds ++ new ∷ []) where
   -- the player moves there: it has no move where it is confined to nothing
-  pub stuck_confined : AreStuckUpTo old graph player part a i seeds → (vertex_in graph i).owner ≡ player → (b : Arena) →
-      IsGrown a b → IsInside b new → (nothing : List Set) → ((p : List Bool) (v : ℕ) → part_in a nothing p v ≡ false) →
+  pub stuck_confined : AreStuckUpTo old graph player part a i seeds → (vertex_in graph i).owner ≡ player → (b : Universe) →
+      IsGrown a b → IsInside b new → (nothing : List Subset) → ((p : List Bool) (v : ℕ) → part_in a nothing p v ≡ false) →
       ((p : List Bool) → (has b new p ≡ true) ↔ ((has a (set_at part i) p ≡ true) ×
       Confines (game_in graph p) (part_in a part p) (part_in a nothing p) i)) →
       IsGrown old b × AreStuckUpTo old graph player part b (i + 1) more
   stuck_confined are own b h new_in nothing none is = (
     grown_then old a b g h,
-    subst (λ (xs : List Set). AreStuckUpTo old graph player part b (i + 1) xs) (sym more_is)
+    subst (λ (xs : List Subset). AreStuckUpTo old graph player part b (i + 1) xs) (sym more_is)
         (stuck_more old graph player part a b h i seeds new new_in
         (λ p. (λ e. there p ((is p).0 e), λ s. (is p).1 (back p s))) are),
   )
@@ -166,7 +167,7 @@ module _ (old : Arena) (graph : GuardedGame Formula) (player : Player) (part : L
       IsSetOf a (λ p. false) new → IsGrown old a × AreStuckUpTo old graph player part a (i + 1) more
   stuck_passed are other none = (
     g,
-    subst (λ (xs : List Set). AreStuckUpTo old graph player part a (i + 1) xs) (sym more_is)
+    subst (λ (xs : List Subset). AreStuckUpTo old graph player part a (i + 1) xs) (sym more_is)
         (stuck_more old graph player part a a (grown_self a) i seeds new none.inside
         (λ p. (λ e. absurd (clash (none.each p) e), λ s. absurd (other (sym (owner_is graph p i) ∙ s.0)))) are),
   )

@@ -2,8 +2,9 @@
 use Rattle.std.proofs.Common.{◌≡◌, ℕ, suc, ◌+◌, ◌<◌, ◌≤◌, ◌⊎◌, inl, inr, List, ◌∷◌, Bool, true, false, length, get_or, set, sym, ◌∙◌, subst, Contains, arith}
 use Rattle.std.proofs.lemmas.Bool.{cases_eq}
 use Rattle.vpg_hope.proofs.Edges.{Contains-cases}
-use Rattle.vpg_sets.specs.declared.node.Set.{Set}
-use Rattle.vpg_sets.specs.Sets.{Arena, has}
+use Rattle.vpg_zielonka.specs.declared.subset.Subset.{Subset}
+use Rattle.vpg_zielonka.specs.declared.universe.Universe.{Universe}
+use Rattle.vpg_zielonka.specs.Universes.{has}
 use Rattle.vpg_zielonka.specs.Parts.{set_at, part_in, AreSets}
 use Rattle.vpg_zielonka.specs.Worklists.{IsQueue}
 use Rattle.vpg_zielonka.proofs.Draws.{set_here, set_there, set_count}
@@ -30,30 +31,30 @@ queue_rest list rest v is = record {
     of x e (inr n) = other x n (Contains-cases v rest x (is.all x (sym (set_there list v x false false n) ∙ e)))
 
 -- the first vertices that have a product wait
-pub record AreWaiting (arena : Arena) (part : List Set) (n i : ℕ) (waiting : List Bool) : Type 0 where
+pub record AreWaiting (universe : Universe) (part : List Subset) (n i : ℕ) (waiting : List Bool) : Type 0 where
   pub count : length waiting ≡ n
-  pub waits : (p : List Bool) (v : ℕ) → v < i → part_in arena part p v ≡ true → get_or waiting v false ≡ true
+  pub waits : (p : List Bool) (v : ℕ) → v < i → part_in universe part p v ≡ true → get_or waiting v false ≡ true
 
-module _ (arena : Arena) (part : List Set) (n : ℕ) where
-  pub waiting_none : (waiting : List Bool) → length waiting ≡ n → AreWaiting arena part n 0 waiting
+module _ (universe : Universe) (part : List Subset) (n : ℕ) where
+  pub waiting_none : (waiting : List Bool) → length waiting ≡ n → AreWaiting universe part n 0 waiting
   waiting_none waiting count = record { count = count; waits = λ p v l. absurd (omega arith) }
 
   pub waiting_add : (i : ℕ) (waiting later : List Bool) → i < n → later ≡ set waiting i true →
-      AreWaiting arena part n i waiting → AreWaiting arena part n (i + 1) later
-  waiting_add i waiting later l e are = subst (λ (xs : List Bool). AreWaiting arena part n (i + 1) xs) (sym e) (record {
+      AreWaiting universe part n i waiting → AreWaiting universe part n (i + 1) later
+  waiting_add i waiting later l e are = subst (λ (xs : List Bool). AreWaiting universe part n (i + 1) xs) (sym e) (record {
     count = set_count waiting i true ∙ are.count;
     waits = λ p v k m. of p v k m (cases_eq v i);
   })
     where
-      of : (p : List Bool) (v : ℕ) → v < i + 1 → part_in arena part p v ≡ true → (v ≡ i) ⊎ (v ≡ i → ⊥) →
+      of : (p : List Bool) (v : ℕ) → v < i + 1 → part_in universe part p v ≡ true → (v ≡ i) ⊎ (v ≡ i → ⊥) →
           get_or (set waiting i true) v false ≡ true
       of p v k m (inl h) = subst (λ x. get_or (set waiting i true) x false ≡ true) (sym h)
           (set_here waiting i true false (subst (λ x. i < x) (sym are.count) l))
       of p v k m (inr h) = set_there waiting i v true false h ∙ are.waits p v (omega (arith, h, k)) m
 
-  pub waiting_skip : (i : ℕ) (waiting : List Bool) → AreSets arena n part → i < n →
-      ((p : List Bool) → has arena (set_at part i) p ≡ false) →
-      AreWaiting arena part n i waiting → AreWaiting arena part n (i + 1) waiting
+  pub waiting_skip : (i : ℕ) (waiting : List Bool) → AreSets universe n part → i < n →
+      ((p : List Bool) → has universe (set_at part i) p ≡ false) →
+      AreWaiting universe part n i waiting → AreWaiting universe part n (i + 1) waiting
   waiting_skip i waiting sets l none are = record {
     count = are.count;
     waits = λ p v k m. of p v k m (cases_eq v i);
@@ -62,15 +63,15 @@ module _ (arena : Arena) (part : List Set) (n : ℕ) where
       clash : {b : Bool} → b ≡ false → b ≡ true → ⊥
       clash f t = cc (f, t)
 
-      of : (p : List Bool) (v : ℕ) → v < i + 1 → part_in arena part p v ≡ true → (v ≡ i) ⊎ (v ≡ i → ⊥) →
+      of : (p : List Bool) (v : ℕ) → v < i + 1 → part_in universe part p v ≡ true → (v ≡ i) ⊎ (v ≡ i → ⊥) →
           get_or waiting v false ≡ true
-      of p v k m (inl h) = absurd (clash (none p) (sym (part_inside arena part p i
-          (subst (λ x. i < x) (sym sets.count_is) l)) ∙ subst (λ x. part_in arena part p x ≡ true) h m))
+      of p v k m (inl h) = absurd (clash (none p) (sym (part_inside universe part p i
+          (subst (λ x. i < x) (sym sets.count_is) l)) ∙ subst (λ x. part_in universe part p x ≡ true) h m))
       of p v k m (inr h) = are.waits p v (omega (arith, h, k)) m
 
-  pub waiting_all : (i : ℕ) (waiting : List Bool) → AreSets arena n part → n ≤ i → AreWaiting arena part n i waiting →
-      (p : List Bool) (v : ℕ) → part_in arena part p v ≡ true → get_or waiting v false ≡ true
+  pub waiting_all : (i : ℕ) (waiting : List Bool) → AreSets universe n part → n ≤ i → AreWaiting universe part n i waiting →
+      (p : List Bool) (v : ℕ) → part_in universe part p v ≡ true → get_or waiting v false ≡ true
   waiting_all i waiting sets l are p v m = are.waits p v below m
     where
       below : v < i
-      below = omega (arith, l, part_below arena part p v m, sets.count_is)
+      below = omega (arith, l, part_below universe part p v m, sets.count_is)

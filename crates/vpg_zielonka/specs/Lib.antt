@@ -6,5 +6,7 @@ pub mod Reached
 pub mod Rounds
 pub mod Solutions
 pub mod Stops
+pub mod Universes
 pub mod Winners
+pub mod Words
 pub mod Worklists

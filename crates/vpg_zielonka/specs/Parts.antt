@@ -4,8 +4,9 @@ use Rattle.vpg_guards.specs.Formula.{Formula, truth}
 use Rattle.vpg_game.specs.Guarded.{GuardedGame}
 use Rattle.vpg_hope.specs.Games.{Game}
 use Rattle.vpg_hope.specs.Hope.{product_game}
-use Rattle.vpg_sets.specs.declared.node.Set.{Set}
-use Rattle.vpg_sets.specs.Sets.{Arena, IsInside, has}
+use Rattle.vpg_zielonka.specs.declared.subset.Subset.{Subset}
+use Rattle.vpg_zielonka.specs.declared.universe.Universe.{Universe}
+use Rattle.vpg_zielonka.specs.Universes.{no_subset, IsInside, has}
 use Rattle.vpg_zielonka.specs.Attractors.{Vertices}
 
 -- the game of a product
@@ -13,14 +14,14 @@ abbrev pub game_in : GuardedGame Formula → List Bool → Game
 game_in graph product = product_game (truth product) graph
 
 -- the set of a vertex
-abbrev pub set_at : List Set → ℕ → Set
-set_at sets v = slice_index_or sets v (record { node = 0 })
+abbrev pub set_at : List Subset → ℕ → Subset
+set_at sets v = slice_index_or sets v no_subset
 
--- each is a set of the arena
-pub record AreSets (arena : Arena) (count : ℕ) (sets : List Set) : Type 0 where
+-- each is a set of the universe
+pub record AreSets (universe : Universe) (count : ℕ) (sets : List Subset) : Type 0 where
   pub count_is : length sets ≡ count
-  pub inside : (v : ℕ) → v < length sets → IsInside arena (set_at sets v)
+  pub inside : (v : ℕ) → v < length sets → IsInside universe (set_at sets v)
 
 -- the vertices whose sets have the product
-unfoldable pub part_in : Arena → List Set → List Bool → Vertices
-part_in arena sets product v = nat_lt v (length sets) && has arena (set_at sets v) product
+unfoldable pub part_in : Universe → List Subset → List Bool → Vertices
+part_in universe sets product v = nat_lt v (length sets) && has universe (set_at sets v) product

@@ -1,7 +1,7 @@
 //! The vertices and products from which a player draws each play into a part of the game.
 ghost use Rattle.std.specs.Prelude.{◌≡◌, ℕ, ◌<◌, ◌≤◌, ◌↔◌, ◌⊎◌, List, Bool, true, false, IfOk, IfErr, length, slice_index_or};
 ghost use Rattle.vpg_game.specs.Game.{IsGame, graph_of};
-ghost use Rattle.vpg_sets.specs.Sets.{IsGrown, IsInside, IsTrueFault, has};
+ghost use Rattle.vpg_zielonka.specs.Universes.{IsGrown, IsInside, IsTrueFault, has};
 ghost use Rattle.vpg_zielonka.specs.Attractors.{IsAttractor, IsWithin};
 ghost use Rattle.vpg_zielonka.specs.Drawing.{Confines, Joins, IsSettled, IsDrawnFrom};
 ghost use Rattle.vpg_zielonka.specs.Edges.{AreAllEdges, edge_at};
@@ -11,25 +11,24 @@ ghost use Rattle.vpg_zielonka.specs.Stops.{StopsAt};
 
 use crate::edges::Edges;
 use crate::stop::{Stop, take_steps};
+use crate::subset::Subset;
+use crate::universe::Universe;
 use crate::worklist::Worklist;
 use std::alloc::{AllocError, Global};
 use vpg_game::GuardedGame;
-use vpg_sets::{Set, Sets, SetsFault};
+use vpg_sets::SetsFault;
 use vpg_sides::Player;
-
-/// The steps for a vertex that is looked at: sets are made for its edges.
-const OF_A_VERTEX: u64 = 64;
 
 /// Returns the products of a set in which each edge from the vertex within the part leads to `drawn`.
 pub(crate) fn confined(
-    sets: &mut Sets,
+    sets: &mut Universe,
     game: &GuardedGame,
     edges: &Edges,
-    set: Set,
+    set: Subset,
     v: u32,
-    part: &[Set],
-    drawn: &[Set],
-) -> Result<Set, SetsFault>
+    part: &[Subset],
+    drawn: &[Subset],
+) -> Result<Subset, SetsFault>
     requires edges { AreAllEdges sets.old (graph_of game.now) edges.now }
     requires set { IsInside sets.old set }
     requires vertex { v < length (graph_of game.now) }
@@ -55,14 +54,14 @@ pub(crate) fn confined(
 
 /// Returns the products in which the vertex that an edge leaves joins `drawn` because of the edge.
 fn joining(
-    sets: &mut Sets,
+    sets: &mut Universe,
     game: &GuardedGame,
     edges: &Edges,
     player: Player,
     number: usize,
-    part: &[Set],
-    drawn: &[Set],
-) -> Result<Set, SetsFault>
+    part: &[Subset],
+    drawn: &[Subset],
+) -> Result<Subset, SetsFault>
     requires edges { AreAllEdges sets.old (graph_of game.now) edges.now }
     requires number { number < length edges.now.list.items }
     requires part { AreSets sets.old (length (graph_of game.now)) part.now }
@@ -91,13 +90,13 @@ fn joining(
 
 /// Adds to `drawn` what joins it because of the edges that enter a vertex. What grows by it waits.
 fn draw(
-    sets: &mut Sets,
+    sets: &mut Universe,
     game: &GuardedGame,
     edges: &Edges,
     player: Player,
     w: u32,
-    part: &[Set],
-    drawn: &mut Vec<Set>,
+    part: &[Subset],
+    drawn: &mut Vec<Subset>,
     waiting: &mut Worklist,
 ) -> Result<(), SetsFault>
     requires edges { AreAllEdges sets.old (graph_of game.now) edges.now }
@@ -134,9 +133,9 @@ fn draw(
 /// Returns the list of the vertices that have a product.
 fn waiting_at(
     alloc: Global,
-    sets: &Sets,
+    sets: &Universe,
     game: &GuardedGame,
-    part: &[Set],
+    part: &[Subset],
 ) -> Result<Worklist, AllocError>
     requires { AreSets sets.now (length (graph_of game.now)) part.now }
     ensures count { IfOk result (λ waiting. length waiting ≡ length (graph_of game.now)) }
@@ -155,14 +154,14 @@ fn waiting_at(
 /// Returns for each vertex the products in which the player draws each play from it into the seeds, within the part.
 pub(crate) fn attracted(
     alloc: Global,
-    sets: &mut Sets,
+    sets: &mut Universe,
     game: &GuardedGame,
     edges: &Edges,
     player: Player,
-    part: &[Set],
-    seeds: &[Set],
+    part: &[Subset],
+    seeds: &[Subset],
     steps: &mut u64,
-) -> Result<Vec<Set>, Stop>
+) -> Result<Vec<Subset>, Stop>
     requires edges { AreAllEdges sets.old (graph_of game.now) edges.now }
     requires part { AreSets sets.old (length (graph_of game.now)) part.now }
     requires seeds { AreSets sets.old (length (graph_of game.now)) seeds.now }
@@ -180,7 +179,7 @@ pub(crate) fn attracted(
     let mut waiting = waiting_at(alloc, sets, game, seeds)?;
     let mut drawn = Vec::from_slice(alloc, seeds)?;
     while let Some(w) = waiting.pop() {
-        take_steps(steps, OF_A_VERTEX)?;
+        take_steps(steps, sets.steps_of_a_vertex())?;
         draw(sets, game, edges, player, w, part, &mut drawn, &mut waiting)?;
     }
     Ok(drawn)

@@ -1,20 +1,22 @@
 //! The edges of a guarded game, with the products in which each can be taken.
 ghost use Rattle.std.specs.Prelude.{◌≡◌, ℕ, ◌<◌, ◌≤◌, ◌^◌, [], ◌∷◌, ◌++◌, IfOk, OnOk, IfErr, ◌+◌, length};
 ghost use Rattle.vpg_game.specs.Game.{IsGame, graph_of, vertex_in};
-ghost use Rattle.vpg_sets.specs.Sets.{IsGrown, IsTrueFault};
+ghost use Rattle.vpg_zielonka.specs.Universes.{features_of, IsGrown, IsTrueFault};
 ghost use Rattle.vpg_zielonka.specs.Edges.{AreAllEdges, AreFirstEdges, numbers_at};
 
+use crate::subset::Subset;
+use crate::universe::Universe;
 use std::alloc::{AllocError, Global};
 use vpg_features::Index;
 use vpg_game::GuardedGame;
-use vpg_sets::{Set, Sets, SetsFault};
+use vpg_sets::SetsFault;
 
 /// An edge, and the products in which its guard holds.
 #[derive(Clone, Copy)]
 pub(crate) struct Edge {
     pub(crate) from: u32,
     pub(crate) to: u32,
-    pub(crate) products: Set,
+    pub(crate) products: Subset,
 }
 
 /// Adds an edge to a list.
@@ -36,8 +38,12 @@ pub(crate) struct Edges {
 
 impl Edges {
     /// Returns the edges of a game. Its guards are over the features of the sets.
-    pub(crate) fn of(alloc: Global, sets: &mut Sets, game: &GuardedGame) -> Result<Edges, SetsFault>
-        requires { game.now.features ≡ sets.old.features }
+    pub(crate) fn of(
+        alloc: Global,
+        sets: &mut Universe,
+        game: &GuardedGame,
+    ) -> Result<Edges, SetsFault>
+        requires { game.now.features ≡ features_of sets.old }
         ensures grown { IsGrown sets.old sets.new }
         ensures edges { IfOk result (AreAllEdges sets.new (graph_of game.now)) }
         ensures failed { IfErr result (IsTrueFault sets.new) }
@@ -55,9 +61,9 @@ impl Edges {
     }
 
     /// Adds the edges of a vertex, the next one after those that are there.
-    fn add_all(&mut self, sets: &mut Sets, game: &GuardedGame, v: u32) -> Result<(), SetsFault>
+    fn add_all(&mut self, sets: &mut Universe, game: &GuardedGame, v: u32) -> Result<(), SetsFault>
         requires game { IsGame game.now }
-        requires features { game.now.features ≡ sets.old.features }
+        requires features { game.now.features ≡ features_of sets.old }
         requires vertex { v < length (graph_of game.now) }
         requires edges { AreFirstEdges sets.old (graph_of game.now) v self.old }
         ensures grown { IsGrown sets.old sets.new }

@@ -1,15 +1,17 @@
 //! A set of products for each vertex: a part of the game in each product.
 ghost use Rattle.std.specs.Prelude.{◌≡◌, ℕ, ◌<◌, List, [], ◌∷◌, ◌++◌, Bool, ◌&&◌, ◌||◌, not, true, false, IfOk, OnOk, IfErr, length};
-ghost use Rattle.vpg_sets.specs.Sets.{IsGrown, IsInside, IsSetOf, IsTrueFault, has};
+ghost use Rattle.vpg_zielonka.specs.Universes.{IsGrown, IsInside, IsSetOf, IsTrueFault, has};
 ghost use Rattle.vpg_zielonka.specs.Attractors.{IsRest, IsJoined};
 ghost use Rattle.vpg_zielonka.specs.Parts.{AreSets, part_in};
 ghost use Rattle.vpg_zielonka.specs.Reached.{flagged};
 
+use crate::subset::Subset;
+use crate::universe::Universe;
 use std::alloc::{AllocError, Global};
-use vpg_sets::{Set, Sets, SetsFault};
+use vpg_sets::SetsFault;
 
 /// Adds a set to a list.
-pub(crate) fn push(list: &mut Vec<Set>, set: Set) -> Result<(), AllocError>
+pub(crate) fn push(list: &mut Vec<Subset>, set: Subset) -> Result<(), AllocError>
     ensures { OnOk result (list.new.items ≡ list.old.items ++ set ∷ []) }
 {
     list.push(set)?;
@@ -19,10 +21,10 @@ pub(crate) fn push(list: &mut Vec<Set>, set: Set) -> Result<(), AllocError>
 /// Returns a list with this set at each vertex.
 pub(crate) fn same_for_all(
     alloc: Global,
-    sets: &Sets,
-    set: Set,
+    sets: &Universe,
+    set: Subset,
     vertices: usize,
-) -> Result<Vec<Set>, SetsFault>
+) -> Result<Vec<Subset>, SetsFault>
     requires { IsInside sets.now set }
     ensures sets { IfOk result (λ part. AreSets sets.now vertices part.items) }
     ensures each { IfOk result (λ part. (p : List Bool) (v : ℕ) → v < vertices →
@@ -33,7 +35,7 @@ pub(crate) fn same_for_all(
 }
 
 /// Returns the set if it is wanted, else none.
-fn set_if(sets: &Sets, set: Set, is_wanted: bool) -> Set
+fn set_if(sets: &Universe, set: Subset, is_wanted: bool) -> Subset
     requires { IsInside sets.now set }
     ensures { IsSetOf sets.now (λ p. is_wanted && has sets.now set p) result }
 {
@@ -43,10 +45,10 @@ fn set_if(sets: &Sets, set: Set, is_wanted: bool) -> Set
 /// Returns a list with this set for each of the vertices that are wanted, and none for the others.
 pub(crate) fn set_for(
     alloc: Global,
-    sets: &Sets,
-    set: Set,
+    sets: &Universe,
+    set: Subset,
     wanted: &[bool],
-) -> Result<Vec<Set>, AllocError>
+) -> Result<Vec<Subset>, AllocError>
     requires { IsInside sets.now set }
     ensures sets { IfOk result (λ part. AreSets sets.now (length wanted.now) part.items) }
     ensures each { IfOk result (λ part. (p : List Bool) (v : ℕ) →
@@ -63,10 +65,10 @@ pub(crate) fn set_for(
 /// Returns the first part without the second.
 pub(crate) fn without(
     alloc: Global,
-    sets: &mut Sets,
-    part: &[Set],
-    other: &[Set],
-) -> Result<Vec<Set>, SetsFault>
+    sets: &mut Universe,
+    part: &[Subset],
+    other: &[Subset],
+) -> Result<Vec<Subset>, SetsFault>
     requires part { AreSets sets.old (length part.now) part.now }
     requires other { AreSets sets.old (length part.now) other.now }
     ensures grown { IsGrown sets.old sets.new }
@@ -86,10 +88,10 @@ pub(crate) fn without(
 /// Returns both parts together.
 pub(crate) fn joined(
     alloc: Global,
-    sets: &mut Sets,
-    part: &[Set],
-    other: &[Set],
-) -> Result<Vec<Set>, SetsFault>
+    sets: &mut Universe,
+    part: &[Subset],
+    other: &[Subset],
+) -> Result<Vec<Subset>, SetsFault>
     requires part { AreSets sets.old (length part.now) part.now }
     requires other { AreSets sets.old (length part.now) other.now }
     ensures grown { IsGrown sets.old sets.new }
@@ -109,10 +111,10 @@ pub(crate) fn joined(
 /// Returns the part in the products of a set.
 pub(crate) fn within(
     alloc: Global,
-    sets: &mut Sets,
-    part: &[Set],
-    set: Set,
-) -> Result<Vec<Set>, SetsFault>
+    sets: &mut Universe,
+    part: &[Subset],
+    set: Subset,
+) -> Result<Vec<Subset>, SetsFault>
     requires part { AreSets sets.old (length part.now) part.now }
     requires set { IsInside sets.old set }
     ensures grown { IsGrown sets.old sets.new }
@@ -132,10 +134,10 @@ pub(crate) fn within(
 /// Returns the part in the products outside of a set.
 pub(crate) fn outside(
     alloc: Global,
-    sets: &mut Sets,
-    part: &[Set],
-    set: Set,
-) -> Result<Vec<Set>, SetsFault>
+    sets: &mut Universe,
+    part: &[Subset],
+    set: Subset,
+) -> Result<Vec<Subset>, SetsFault>
     requires part { AreSets sets.old (length part.now) part.now }
     requires set { IsInside sets.old set }
     ensures grown { IsGrown sets.old sets.new }
@@ -153,7 +155,7 @@ pub(crate) fn outside(
 }
 
 /// Returns the products in which the part has a vertex.
-pub(crate) fn occupied(sets: &mut Sets, part: &[Set]) -> Result<Set, SetsFault>
+pub(crate) fn occupied(sets: &mut Universe, part: &[Subset]) -> Result<Subset, SetsFault>
     requires { AreSets sets.old (length part.now) part.now }
     ensures grown { IsGrown sets.old sets.new }
     ensures inside { IfOk result (IsInside sets.new) }

@@ -3,7 +3,7 @@ ghost use Rattle.std.specs.Prelude.{◌≡◌, ℕ, ◌<◌, ◌≤◌, List, Bo
 ghost use Rattle.vpg_sides.specs.Players.{WinsAt};
 ghost use Rattle.vpg_game.specs.Game.{graph_of};
 ghost use Rattle.vpg_hope.specs.Games.{priority_of};
-ghost use Rattle.vpg_sets.specs.Sets.{IsGrown, IsTrueFault};
+ghost use Rattle.vpg_zielonka.specs.Universes.{IsGrown, IsTrueFault};
 ghost use Rattle.vpg_zielonka.specs.Edges.{AreAllEdges};
 ghost use Rattle.vpg_zielonka.specs.Parts.{AreSets, part_in, game_in};
 ghost use Rattle.vpg_zielonka.specs.Rounds.{AreTops, AreStuck};
@@ -11,9 +11,11 @@ ghost use Rattle.vpg_zielonka.specs.Rounds.{AreTops, AreStuck};
 use crate::attracting::confined;
 use crate::edges::Edges;
 use crate::parts::{push, same_for_all};
+use crate::subset::Subset;
+use crate::universe::Universe;
 use std::alloc::{AllocError, Global};
 use vpg_game::GuardedGame;
-use vpg_sets::{Set, Sets, SetsFault};
+use vpg_sets::SetsFault;
 use vpg_sides::Player;
 
 /// Returns the player that wins a play whose greatest recurring priority is this one.
@@ -40,7 +42,7 @@ fn greater(greatest: Option<u32>, priority: u32) -> u32
 }
 
 /// Returns the greatest priority of a vertex that has a product, if one has.
-pub(crate) fn greatest(sets: &Sets, game: &GuardedGame, part: &[Set]) -> Option<u32>
+pub(crate) fn greatest(sets: &Universe, game: &GuardedGame, part: &[Subset]) -> Option<u32>
     requires { AreSets sets.now (length (graph_of game.now)) part.now }
     ensures greatest { IfSome result (λ d. (p : List Bool) (v : ℕ) → part_in sets.now part.now p v ≡ true →
         priority_of (game_in (graph_of game.now) p) v ≤ d) }
@@ -60,11 +62,11 @@ pub(crate) fn greatest(sets: &Sets, game: &GuardedGame, part: &[Set]) -> Option<
 /// Returns the part at the vertices of a priority.
 pub(crate) fn tops(
     alloc: Global,
-    sets: &Sets,
+    sets: &Universe,
     game: &GuardedGame,
-    part: &[Set],
+    part: &[Subset],
     priority: u32,
-) -> Result<Vec<Set>, AllocError>
+) -> Result<Vec<Subset>, AllocError>
     requires { AreSets sets.now (length (graph_of game.now)) part.now }
     ensures sets { IfOk result (λ seeds. AreSets sets.now (length (graph_of game.now)) seeds.items) }
     ensures tops { IfOk result (λ seeds. (p : List Bool) → AreTops (game_in (graph_of game.now) p)
@@ -85,12 +87,12 @@ pub(crate) fn tops(
 /// Returns the part at the vertices of a player, in the products in which no edge leads from there to the part.
 pub(crate) fn stuck(
     alloc: Global,
-    sets: &mut Sets,
+    sets: &mut Universe,
     game: &GuardedGame,
     edges: &Edges,
     player: Player,
-    part: &[Set],
-) -> Result<Vec<Set>, SetsFault>
+    part: &[Subset],
+) -> Result<Vec<Subset>, SetsFault>
     requires edges { AreAllEdges sets.old (graph_of game.now) edges.now }
     requires part { AreSets sets.old (length (graph_of game.now)) part.now }
     ensures grown { IsGrown sets.old sets.new }

@@ -1,16 +1,16 @@
 //! The recursion over the greatest priority.
-ghost use Rattle.std.specs.Prelude.{◌≡◌, ℕ, ◌<◌, ◌≤◌, ◌⊎◌, List, Bool, true, false, IfOk, IfErr, IfSome, IfNone, length};
+ghost use Rattle.std.specs.Prelude.{◌≡◌, ℕ, ◌<◌, ◌≤◌, List, Bool, true, false, IfOk, IfErr, length};
 ghost use Rattle.vpg_sides.specs.Players.{WinsAt, opponent};
 ghost use Rattle.vpg_game.specs.Game.{graph_of};
 ghost use Rattle.vpg_hope.specs.Games.{priority_of};
-ghost use Rattle.vpg_sets.specs.Sets.{IsGrown, IsInside, has};
+ghost use Rattle.vpg_zielonka.specs.Universes.{features_of, has, IsGrown, IsInside};
 ghost use Rattle.vpg_zielonka.specs.Attractors.{IsWithin};
 ghost use Rattle.vpg_zielonka.specs.Edges.{AreAllEdges};
 ghost use Rattle.vpg_zielonka.specs.Parts.{AreSets, part_in, game_in};
 ghost use Rattle.vpg_zielonka.specs.Rounds.{IsLive, IsBelowTops, IsGivenAway, IsWithoutStuck};
 ghost use Rattle.vpg_zielonka.specs.Solutions.{IsSolution};
-ghost use Rattle.vpg_zielonka.specs.Stops.{StopsAt, IsFull};
-ghost use Rattle.vpg_zielonka.specs.Winners.{IsDivided, AreWinners, wins_in};
+ghost use Rattle.vpg_zielonka.specs.Stops.{StopsAt};
+ghost use Rattle.vpg_zielonka.specs.Winners.{AreShared, AreWinners, wins_in};
 
 use crate::attracting::attracted;
 use crate::edges::Edges;
@@ -18,23 +18,24 @@ use crate::parts::{occupied, outside, set_for, within, without};
 use crate::reaching::reached;
 use crate::rounds::{greatest, stuck, tops, winner_at};
 use crate::stop::{Stop, take_steps};
-use crate::winners::{Division, Winners};
-use std::alloc::{AllocError, Global};
+use crate::subset::Subset;
+use crate::universe::Universe;
+use crate::winners::{Shares, Winners};
+use std::alloc::Global;
 use vpg_game::GuardedGame;
-use vpg_sets::{Set, Sets};
 use vpg_sides::Player;
 
 /// Returns the part without what the player draws to its vertices of a priority.
 fn below_tops(
     alloc: Global,
-    sets: &mut Sets,
+    sets: &mut Universe,
     game: &GuardedGame,
     edges: &Edges,
     player: Player,
     priority: u32,
-    part: &[Set],
+    part: &[Subset],
     steps: &mut u64,
-) -> Result<Vec<Set>, Stop>
+) -> Result<Vec<Subset>, Stop>
     requires edges { AreAllEdges sets.old (graph_of game.now) edges.now }
     requires part { AreSets sets.old (length (graph_of game.now)) part.now }
     requires live { (p : List Bool) → IsLive (game_in (graph_of game.now) p) (part_in sets.old part.now p) }
@@ -53,15 +54,15 @@ fn below_tops(
 /// Gives away what a round settles, and returns the part that goes on. `inner` are the winners below the tops.
 fn give_away(
     alloc: Global,
-    sets: &mut Sets,
+    sets: &mut Universe,
     game: &GuardedGame,
     edges: &Edges,
     player: Player,
-    part: &[Set],
-    others: &[Set],
+    part: &[Subset],
+    others: &[Subset],
     winners: &mut Winners,
     steps: &mut u64,
-) -> Result<Vec<Set>, Stop>
+) -> Result<Vec<Subset>, Stop>
     requires edges { AreAllEdges sets.old (graph_of game.now) edges.now }
     requires part { AreSets sets.old (length (graph_of game.now)) part.now }
     requires others { AreSets sets.old (length (graph_of game.now)) others.now }
@@ -90,10 +91,10 @@ fn give_away(
 /// Returns who wins where in a part whose vertices have priorities below a bound, and edges to the part.
 fn solve_part(
     alloc: Global,
-    sets: &mut Sets,
+    sets: &mut Universe,
     game: &GuardedGame,
     edges: &Edges,
-    part: Vec<Set>,
+    part: Vec<Subset>,
     bound: u32,
     steps: &mut u64,
 ) -> Result<Winners, Stop>
@@ -135,14 +136,14 @@ fn solve_part(
 /// Gives a player the vertices where the opponent has no move, and what it draws to them. Returns the rest of the part.
 fn give_stuck(
     alloc: Global,
-    sets: &mut Sets,
+    sets: &mut Universe,
     game: &GuardedGame,
     edges: &Edges,
     player: Player,
-    part: &[Set],
+    part: &[Subset],
     winners: &mut Winners,
     steps: &mut u64,
-) -> Result<Vec<Set>, Stop>
+) -> Result<Vec<Subset>, Stop>
     requires edges { AreAllEdges sets.old (graph_of game.now) edges.now }
     requires part { AreSets sets.old (length (graph_of game.now)) part.now }
     requires winners { AreWinners sets.old (length (graph_of game.now)) winners.old }
@@ -162,19 +163,19 @@ fn give_stuck(
 }
 
 /// Returns which of the products of a set each player wins from a vertex.
-fn solve_from(
+pub(crate) fn solve_from(
     alloc: Global,
-    sets: &mut Sets,
+    sets: &mut Universe,
     game: &GuardedGame,
     vertex: u32,
-    products: Set,
+    products: Subset,
     steps: &mut u64,
-) -> Result<Division, Stop>
+) -> Result<Shares, Stop>
     requires vertex { vertex < length (graph_of game.now) }
     requires products { IsInside sets.old products }
-    requires features { game.now.features ≡ sets.old.features }
+    requires features { game.now.features ≡ features_of sets.old }
     ensures grown { IsGrown sets.old sets.new }
-    ensures divided { IfOk result (IsDivided sets.new (graph_of game.now) vertex products) }
+    ensures divided { IfOk result (AreShared sets.new (graph_of game.now) vertex products) }
     ensures steps { steps.new ≤ steps.old }
     ensures stopped { IfErr result (StopsAt sets.new steps.new) }
 {
@@ -206,34 +207,4 @@ fn solve_from(
     winners.give(alloc, sets, Player::Even, &solved.won)?;
     winners.give(alloc, sets, Player::Odd, &solved.lost)?;
     Ok(winners.at(vertex))
-}
-
-/// Returns in which of the products of a set Even wins from a vertex, and in which Odd does. Each product of the set is
-/// in one of the two. Only vertices that plays from this one can come to are solved.
-///
-/// Returns `None` if the arena of the sets is full, or if the steps do not suffice; `steps` counts those that are left.
-/// A round of the recursion takes a step for each vertex of the game, and one more. A vertex whose edges are looked at
-/// takes 64. Out of memory is the only error.
-pub fn solve(
-    alloc: Global,
-    sets: &mut Sets,
-    game: &GuardedGame,
-    vertex: u32,
-    products: Set,
-    steps: &mut u64,
-) -> Result<Option<Division>, AllocError>
-    requires vertex { vertex < length (graph_of game.now) }
-    requires products { IsInside sets.old products }
-    requires features { game.now.features ≡ sets.old.features }
-    ensures grown { IsGrown sets.old sets.new }
-    ensures divided { IfOk result
-        (λ found. IfSome found (IsDivided sets.new (graph_of game.now) vertex products)) }
-    ensures steps { steps.new ≤ steps.old }
-    ensures limits { IfOk result (λ found. IfNone found (IsFull sets.new ⊎ (steps.new ≡ 0))) }
-{
-    match solve_from(alloc, sets, game, vertex, products, steps) {
-        Ok(division) => Ok(Some(division)),
-        Err(Stop::Memory) => Err(AllocError),
-        Err(Stop::Full | Stop::Spent) => Ok(None),
-    }
 }

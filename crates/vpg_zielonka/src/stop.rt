@@ -9,7 +9,7 @@ use vpg_sets::SetsFault;
 /// A reason to stop before the winners are found.
 #[derive(Clone, Copy, Debug, PartialEq, Eq, Error)]
 pub(crate) enum Stop {
-    /// The arena of the sets has as many nodes as it may have.
+    /// The universe of the sets has as many nodes as it may have.
     #[error("Full")]
     Full,
     /// The steps are spent.

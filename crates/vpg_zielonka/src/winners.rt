@@ -1,14 +1,16 @@
 //! The products that each player wins, for each vertex.
 ghost use Rattle.std.specs.Prelude.{◌≡◌, ℕ, ◌<◌, List, Bool, false, IfOk, IfErr, length};
 ghost use Rattle.vpg_sides.specs.Players.{opponent};
-ghost use Rattle.vpg_sets.specs.Sets.{IsGrown, IsTrueFault};
+ghost use Rattle.vpg_zielonka.specs.Universes.{IsGrown, IsTrueFault};
 ghost use Rattle.vpg_zielonka.specs.Attractors.{IsJoined};
 ghost use Rattle.vpg_zielonka.specs.Parts.{AreSets, part_in, set_at};
 ghost use Rattle.vpg_zielonka.specs.Winners.{sets_of, wins_in, AreWinners};
 
 use crate::parts::{joined, same_for_all};
+use crate::subset::Subset;
+use crate::universe::Universe;
 use std::alloc::Global;
-use vpg_sets::{Set, Sets, SetsFault};
+use vpg_sets::{Set, SetsFault};
 use vpg_sides::Player;
 
 /// Products, divided by who wins in them from a vertex.
@@ -20,16 +22,27 @@ pub struct Division {
     pub lost: Set,
 }
 
+/// Products of a universe, divided in the same way.
+#[derive(Clone, Copy, Debug, PartialEq, Eq)]
+pub(crate) struct Shares {
+    pub(crate) won: Subset,
+    pub(crate) lost: Subset,
+}
+
 /// For each vertex, in file order, the products in which Even wins from it, and those in which Odd does.
 #[derive(Drop)]
 pub(crate) struct Winners {
-    pub(crate) won: Vec<Set>,
-    pub(crate) lost: Vec<Set>,
+    pub(crate) won: Vec<Subset>,
+    pub(crate) lost: Vec<Subset>,
 }
 
 impl Winners {
     /// Returns empty sets for both players.
-    pub(crate) fn nothing(alloc: Global, sets: &Sets, vertices: usize) -> Result<Winners, SetsFault>
+    pub(crate) fn nothing(
+        alloc: Global,
+        sets: &Universe,
+        vertices: usize,
+    ) -> Result<Winners, SetsFault>
         ensures sets { IfOk result (AreWinners sets.now vertices) }
         ensures nothing { IfOk result (λ winners. (p : List Bool) (player : Player) (v : ℕ) →
             wins_in sets.now winners p player v ≡ false) }
@@ -42,7 +55,7 @@ impl Winners {
     }
 
     /// Returns the sets that a player wins.
-    pub(crate) fn of(&self, player: Player) -> &[Set]
+    pub(crate) fn of(&self, player: Player) -> &[Subset]
         ensures { result.now ≡ sets_of self.now player }
     {
         match player {
@@ -52,13 +65,13 @@ impl Winners {
     }
 
     /// Returns what each player wins from a vertex.
-    pub(crate) fn at(&self, v: u32) -> Division
+    pub(crate) fn at(&self, v: u32) -> Shares
         requires won { v < length self.now.won.items }
         requires lost { v < length self.now.lost.items }
         ensures won { result.won ≡ set_at self.now.won.items v }
         ensures lost { result.lost ≡ set_at self.now.lost.items v }
     {
-        Division {
+        Shares {
             won: self.won[v as usize],
             lost: self.lost[v as usize],
         }
@@ -68,9 +81,9 @@ impl Winners {
     pub(crate) fn give(
         &mut self,
         alloc: Global,
-        sets: &mut Sets,
+        sets: &mut Universe,
         player: Player,
-        more: &[Set],
+        more: &[Subset],
     ) -> Result<(), SetsFault>
         requires sets { AreWinners sets.old (length more.now) self.old }
         requires more { AreSets sets.old (length more.now) more.now }

@@ -1,47 +1,39 @@
-use Rattle.std.proofs.Common.{codes}
+use Rattle.std.proofs.Common.{codes, refl}
 use Rattle.vpg_script.proofs.Given.{if_ok}
 use Rattle.vpg_script.specs.declared.exact.ExactVerdict.TheVariants as exacts
 use Rattle.vpg_answers.specs.Asserted.{exact_answer, failing}
 use Rattle.vpg_answers.proofs.Asserted.{found_won, found_lost, found_mixed, told_empty, told_exact, told_open}
 use Rattle.vpg_answers.proofs.asserting.exact.Goals as goal
 
-pub decide-requires-clause-named : goal.decide-requires-clause-named
-decide-requires-clause-named c = rw c.decisions.ensures.decisions c.game-order.ensures.order.named
-
 pub returns-in-Won : goal.returns-in-Won
 returns-in-Won c =
     let order = c.args.order.now in
-    let ds = c.decisions.result.now in
-    let has = found_won order c.args.limits c.args.vertex c.args.asserted ds c.decisions.ensures.decisions c.in_ok-found.found c.in-Won.is c.in_ok-found.ensures.decided in
+    let has = found_won order c.args.limits c.args.vertex c.args.asserted order.decisions refl c.in_ok-found.found c.in-Won.is c.in_ok-found.ensures.decided in
     if_ok c.compared.result _ _
-    (λ tone given. (exact_answer c.args.asserted exacts.Won, (told_exact order c.args.limits c.args.vertex c.args.asserted ds c.decisions.ensures.decisions exacts.Won has, given))) c.compared.ensures
+    (λ tone given. (exact_answer c.args.asserted exacts.Won, (told_exact order c.args.limits c.args.vertex c.args.asserted order.decisions refl exacts.Won has, given))) c.compared.ensures
 
 pub returns-in-Lost : goal.returns-in-Lost
 returns-in-Lost c =
     let order = c.args.order.now in
-    let ds = c.decisions.result.now in
-    let has = found_lost order c.args.limits c.args.vertex c.args.asserted ds c.decisions.ensures.decisions c.in_ok-found.found c.in-Lost.is c.in_ok-found.ensures.decided in
+    let has = found_lost order c.args.limits c.args.vertex c.args.asserted order.decisions refl c.in_ok-found.found c.in-Lost.is c.in_ok-found.ensures.decided in
     if_ok c.compared-in-Lost.result _ _
-    (λ tone given. (exact_answer c.args.asserted exacts.Lost, (told_exact order c.args.limits c.args.vertex c.args.asserted ds c.decisions.ensures.decisions exacts.Lost has, given))) c.compared-in-Lost.ensures
+    (λ tone given. (exact_answer c.args.asserted exacts.Lost, (told_exact order c.args.limits c.args.vertex c.args.asserted order.decisions refl exacts.Lost has, given))) c.compared-in-Lost.ensures
 
 pub returns-in-Mixed : goal.returns-in-Mixed
 returns-in-Mixed c =
     let order = c.args.order.now in
-    let ds = c.decisions.result.now in
-    let has = found_mixed order c.args.limits c.args.vertex c.args.asserted ds c.decisions.ensures.decisions c.in_ok-found.found _ _ c.in-Mixed.is c.in_ok-found.ensures.decided in
+    let has = found_mixed order c.args.limits c.args.vertex c.args.asserted order.decisions refl c.in_ok-found.found _ _ c.in-Mixed.is c.in_ok-found.ensures.decided in
     if_ok c.compared-in-Mixed.result _ _
-    (λ tone given. (exact_answer c.args.asserted exacts.Mixed, (told_exact order c.args.limits c.args.vertex c.args.asserted ds c.decisions.ensures.decisions exacts.Mixed has, given))) c.compared-in-Mixed.ensures
+    (λ tone given. (exact_answer c.args.asserted exacts.Mixed, (told_exact order c.args.limits c.args.vertex c.args.asserted order.decisions refl exacts.Mixed has, given))) c.compared-in-Mixed.ensures
 
 pub returns-in-Empty : goal.returns-in-Empty
 returns-in-Empty c =
     let order = c.args.order.now in
-    let ds = c.decisions.result.now in
     if_ok c.failing.result _ _
-    (λ tone given. (failing (codes "empty"), (told_empty order c.args.limits c.args.vertex c.args.asserted ds c.decisions.ensures.decisions c.in_ok-found.found c.in-Empty.is c.in_ok-found.ensures.decided, given))) c.failing.ensures
+    (λ tone given. (failing (codes "empty"), (told_empty order c.args.limits c.args.vertex c.args.asserted order.decisions refl c.in_ok-found.found c.in-Empty.is c.in_ok-found.ensures.decided, given))) c.failing.ensures
 
 pub returns-in-Unsettled : goal.returns-in-Unsettled
 returns-in-Unsettled c =
     let order = c.args.order.now in
-    let ds = c.decisions.result.now in
     if_ok c.failing-in-Unsettled.result _ _
-    (λ tone given. (failing (codes "unsettled"), (told_open order c.args.limits c.args.vertex c.args.asserted ds c.decisions.ensures.decisions c.in_ok-found.found c.in-Unsettled.is c.in_ok-found.ensures.settled, given))) c.failing-in-Unsettled.ensures
+    (λ tone given. (failing (codes "unsettled"), (told_open order c.args.limits c.args.vertex c.args.asserted order.decisions refl c.in_ok-found.found c.in-Unsettled.is c.in_ok-found.ensures.settled, given))) c.failing-in-Unsettled.ensures

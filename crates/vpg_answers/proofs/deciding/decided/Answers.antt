@@ -1,16 +1,14 @@
+use Rattle.std.proofs.Common.{refl}
 use Rattle.vpg_texts.proofs.Shown.{on_ok}
 use Rattle.vpg_answers.proofs.Parting.{told_won, told_lost, told_mixed, told_empty, told_open}
 use Rattle.vpg_answers.proofs.deciding.decided.Goals as goal
-
-pub decide-requires-clause-named : goal.decide-requires-clause-named
-decide-requires-clause-named c = rw c.decisions.ensures.decisions c.names-names.ensures.order.named
 
 pub returns-in-Won : goal.returns-in-Won
 returns-in-Won c =
     let order = c.args.order.now in
     let found = c.in_ok-found.ensures in
     on_ok c.fact.result _ _
-    (λ appended. told_won order c.args.limits c.args.vertex c.decisions.result.now c.decisions.ensures.decisions c.names-names.result.now c.names-names.ensures.names c.identifier-identifier.result c.identifier-identifier.ensures
+    (λ appended. told_won order c.args.limits c.args.vertex order.decisions refl c.names-names.result.now c.names-names.ensures.names c.identifier-identifier.result c.identifier-identifier.ensures
     c.args.out.now.items c.fact.new.out.items c.in_ok-found.found c.in-Won.is found.decided appended) c.fact.ensures
 
 pub returns-in-Lost : goal.returns-in-Lost
@@ -18,7 +16,7 @@ returns-in-Lost c =
     let order = c.args.order.now in
     let found = c.in_ok-found.ensures in
     on_ok c.fact-in-Lost.result _ _
-    (λ appended. told_lost order c.args.limits c.args.vertex c.decisions.result.now c.decisions.ensures.decisions c.names-names.result.now c.names-names.ensures.names c.identifier-identifier.result c.identifier-identifier.ensures
+    (λ appended. told_lost order c.args.limits c.args.vertex order.decisions refl c.names-names.result.now c.names-names.ensures.names c.identifier-identifier.result c.identifier-identifier.ensures
     c.args.out.now.items c.fact-in-Lost.new.out.items c.in_ok-found.found c.in-Lost.is found.decided appended) c.fact-in-Lost.ensures
 
 pub returns-in-Mixed : goal.returns-in-Mixed
@@ -26,7 +24,7 @@ returns-in-Mixed c =
     let order = c.args.order.now in
     let found = c.in_ok-found.ensures in
     on_ok c.mixed.result _ _
-    (λ appended. told_mixed order c.args.limits c.args.vertex c.decisions.result.now c.decisions.ensures.decisions c.names-names.result.now c.names-names.ensures.names c.identifier-identifier.result c.identifier-identifier.ensures
+    (λ appended. told_mixed order c.args.limits c.args.vertex order.decisions refl c.names-names.result.now c.names-names.ensures.names c.identifier-identifier.result c.identifier-identifier.ensures
     c.args.out.now.items c.mixed.new.out.items c.in_ok-found.found c.in-Mixed.won c.in-Mixed.lost c.in-Mixed.is found.decided found.settled appended) c.mixed.ensures
 
 pub returns-in-Empty : goal.returns-in-Empty
@@ -34,7 +32,7 @@ returns-in-Empty c =
     let order = c.args.order.now in
     let found = c.in_ok-found.ensures in
     on_ok c.empty.result _ _
-    (λ appended. told_empty order c.args.limits c.args.vertex c.decisions.result.now c.decisions.ensures.decisions c.names-names.result.now c.names-names.ensures.names c.identifier-identifier.result c.identifier-identifier.ensures
+    (λ appended. told_empty order c.args.limits c.args.vertex order.decisions refl c.names-names.result.now c.names-names.ensures.names c.identifier-identifier.result c.identifier-identifier.ensures
     c.args.out.now.items c.empty.new.out.items c.in_ok-found.found c.in-Empty.is found.decided appended) c.empty.ensures
 
 pub returns-in-Unsettled : goal.returns-in-Unsettled
@@ -42,5 +40,5 @@ returns-in-Unsettled c =
     let order = c.args.order.now in
     let found = c.in_ok-found.ensures in
     on_ok c.unsettled.result _ _
-    (λ appended. told_open order c.args.limits c.args.vertex c.decisions.result.now c.decisions.ensures.decisions c.names-names.result.now c.names-names.ensures.names c.identifier-identifier.result c.identifier-identifier.ensures
+    (λ appended. told_open order c.args.limits c.args.vertex order.decisions refl c.names-names.result.now c.names-names.ensures.names c.identifier-identifier.result c.identifier-identifier.ensures
     c.args.out.now.items c.unsettled.new.out.items c.in_ok-found.found c.in-Unsettled.is found.settled appended) c.unsettled.ensures

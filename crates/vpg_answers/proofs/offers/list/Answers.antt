@@ -1,6 +1,5 @@
 use Rattle.std.proofs.lemmas.Grind.{common_steps}
 use Rattle.std.proofs.Common.{arith}
-use Rattle.vpg_why.specs.Explained.{choices}
 use Rattle.vpg_answers.proofs.offers.list.Goals as goal
 
 pub listing-preserved : goal.listing-preserved
@@ -10,9 +9,7 @@ pub returns-clause-offers : goal.returns-clause-offers
 returns-clause-offers c = grind (arith, common_steps)
 
 pub listing-init : goal.listing-init
-listing-init c =
-    let order = c.args.order.now in
-    let line = c.line_of-line.ensures order.game order.diagram c.args.vertex (choices order.decisions) in grind (arith, common_steps, line)
+listing-init c = let line = c.in_ok-line.ensures in grind (arith, common_steps, line)
 
 pub list_open-requires-clause-feature : goal.list_open-requires-clause-feature
 list_open-requires-clause-feature c = grind (arith, common_steps)

@@ -1,5 +1,4 @@
-use Rattle.vpg_texts.proofs.Shown.{on_ok}
-use Rattle.vpg_answers.proofs.Repairing.{told_singles, tried_below}
+use Rattle.vpg_answers.proofs.Repairing.{tried_below}
 use Rattle.vpg_answers.proofs.repairs.retractions.Goals as goal
 
 pub tell_singles-requires : goal.tell_singles-requires

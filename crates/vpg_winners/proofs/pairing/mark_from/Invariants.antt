@@ -4,4 +4,4 @@ use Rattle.vpg_winners.proofs.pairing.mark_from.Given as goal
 
 -- the mark goes on with the literals that are left
 abbrev pub invariant-loop-i : goal.invariant-loop-i
-invariant-loop-i l = mark_from l.mark (drop l.i l.literals) ≡ mark_from 0 l.literals
+invariant-loop-i l = mark_from l.mark (drop l.i l.literals) ≡ mark_from l.begin l.literals

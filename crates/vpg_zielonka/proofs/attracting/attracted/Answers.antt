@@ -1,13 +1,13 @@
 use Rattle.std.proofs.Common.{List, sym, subst, arith}
 use Rattle.vpg_game.specs.Game.{graph_of}
-use Rattle.vpg_sets.specs.declared.node.Set.{Set}
+use Rattle.vpg_zielonka.specs.declared.subset.Subset.{Subset}
 use Rattle.vpg_zielonka.proofs.Listing.{edges_grown}
 use Rattle.vpg_zielonka.proofs.Spreading.{IsSpread, spread_start, spread_pop, spread_more, spread_end}
 use Rattle.vpg_zielonka.proofs.attracting.attracted.Goals as goal
 
 pub loop-w-init : goal.loop-w-init
 loop-w-init c = (
-  subst (λ (xs : List Set). IsSpread c.args.sets.now (graph_of c.args.game.now) c.args.player c.args.part.now
+  subst (λ (xs : List Subset). IsSpread c.args.sets.now (graph_of c.args.game.now) c.args.player c.args.part.now
       c.args.seeds.now c.args.sets.now xs c.in_ok-waiting.waiting) (sym c.in_ok-drawn.ensures.items)
       (spread_start c.args.sets.now (graph_of c.args.game.now) c.args.player c.args.part.now c.args.seeds.now
       c.in_ok-waiting.waiting c.requires.seeds c.in_ok-waiting.ensures.count c.requires.inside

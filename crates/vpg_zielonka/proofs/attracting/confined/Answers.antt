@@ -1,6 +1,6 @@
 use Rattle.std.proofs.Common.{◌<◌, length, get_or, sym, subst, arith}
 use Rattle.vpg_game.specs.Game.{graph_of}
-use Rattle.vpg_sets.proofs.Growth.{inside_grown}
+use Rattle.vpg_zielonka.proofs.Growing.{inside_grown}
 use Rattle.vpg_zielonka.proofs.Confining.{leaves_in, read_to, read_products, confined_next, confined_end}
 use Rattle.vpg_zielonka.proofs.attracting.confined.Goals as goal
 

@@ -1,4 +1,4 @@
-use Rattle.vpg_sets.specs.Sets.{IsInside, IsGrown}
+use Rattle.vpg_zielonka.specs.Universes.{IsInside, IsGrown}
 use Rattle.vpg_zielonka.proofs.Confining.{IsConfinedTo}
 use Rattle.vpg_zielonka.proofs.attracting.confined.Given as goal
 

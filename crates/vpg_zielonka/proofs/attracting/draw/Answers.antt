@@ -1,7 +1,7 @@
 use Rattle.std.proofs.Common.{◌≡◌, ◌<◌, ℕ, List, length, get_or, refl, ap, subst, arith}
 use Rattle.vpg_game.specs.Game.{graph_of}
-use Rattle.vpg_sets.specs.declared.node.Set.{Set}
-use Rattle.vpg_sets.proofs.Growth.{inside_grown}
+use Rattle.vpg_zielonka.specs.declared.subset.Subset.{Subset}
+use Rattle.vpg_zielonka.proofs.Growing.{inside_grown}
 use Rattle.vpg_zielonka.specs.Edges.{numbers_at}
 use Rattle.vpg_zielonka.proofs.Confining.{AreJoining}
 use Rattle.vpg_zielonka.proofs.Listing.{edges_grown}
@@ -78,7 +78,7 @@ joins : (c : goal.Joined-not-is_none) → AreJoining c.loop-number.sets c.loop-n
     c.args.edges.now.list.items c.args.part.now c.loop-number.drawn.items
     (get_or c.numbers-number-items.result.now c.loop-number.number-index 0) c.args.player c.joining.new.sets
     c.in_ok-joins.joins
-joins c = subst (λ (xs : List Set). AreJoining c.loop-number.sets c.loop-number.sets (graph_of c.args.game.now)
+joins c = subst (λ (xs : List Subset). AreJoining c.loop-number.sets c.loop-number.sets (graph_of c.args.game.now)
     c.args.edges.now.list.items c.args.part.now xs
     (get_or c.numbers-number-items.result.now c.loop-number.number-index 0) c.args.player c.joining.new.sets
     c.in_ok-joins.joins) c.deref.ensures.value c.in_ok-joins.ensures.joining

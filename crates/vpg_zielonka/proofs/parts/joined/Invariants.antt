@@ -1,5 +1,5 @@
 use Rattle.std.proofs.Common.{◌||◌}
-use Rattle.vpg_sets.specs.Sets.{has, IsGrown}
+use Rattle.vpg_zielonka.specs.Universes.{has, IsGrown}
 use Rattle.vpg_zielonka.specs.Parts.{set_at}
 use Rattle.vpg_zielonka.proofs.Filling.{AreMade}
 use Rattle.vpg_zielonka.proofs.parts.joined.Given as goal

@@ -1,7 +1,7 @@
 use Rattle.std.proofs.Common.{◌≡◌, ℕ, ◌+◌, ◌<◌, ◌≤◌, ◌⊎◌, inl, inr, Bool, true, false, ◌||◌, List, length, refl, sym, ◌∙◌, subst, arith}
 use Rattle.std.proofs.lemmas.Bool.{cases_eq, cases_lt}
-use Rattle.vpg_sets.specs.Sets.{has}
-use Rattle.vpg_sets.proofs.Growth.{grown_then}
+use Rattle.vpg_zielonka.specs.Universes.{has}
+use Rattle.vpg_zielonka.proofs.Growing.{grown_then}
 use Rattle.vpg_zielonka.specs.Parts.{set_at, part_in}
 use Rattle.vpg_zielonka.proofs.Filling.{part_inside, part_beyond}
 use Rattle.vpg_zielonka.proofs.parts.occupied.Goals as goal

@@ -1,5 +1,5 @@
 use Rattle.std.proofs.Common.{◌≡◌, ℕ, ◌<◌, List, Bool, false, true}
-use Rattle.vpg_sets.specs.Sets.{has, IsInside, IsGrown}
+use Rattle.vpg_zielonka.specs.Universes.{has, IsInside, IsGrown}
 use Rattle.vpg_zielonka.specs.Parts.{set_at}
 use Rattle.vpg_zielonka.proofs.parts.occupied.Given as goal
 

@@ -1,5 +1,5 @@
 use Rattle.std.proofs.Common.{ℕ, ◌&&◌, ◌∙◌, length, subst, arith}
-use Rattle.vpg_sets.specs.Sets.{has}
+use Rattle.vpg_zielonka.specs.Universes.{has}
 use Rattle.vpg_zielonka.specs.Reached.{flagged}
 use Rattle.vpg_zielonka.proofs.Filling.{AreMade, made_part}
 use Rattle.vpg_zielonka.proofs.Reachability.{flag_and}

@@ -1,5 +1,5 @@
 use Rattle.std.proofs.Common.{◌&&◌}
-use Rattle.vpg_sets.specs.Sets.{has}
+use Rattle.vpg_zielonka.specs.Universes.{has}
 use Rattle.vpg_zielonka.specs.Reached.{flagged}
 use Rattle.vpg_zielonka.proofs.Filling.{AreMade}
 use Rattle.vpg_zielonka.proofs.parts.set_for.Given as goal

@@ -1,5 +1,5 @@
 use Rattle.vpg_game.specs.Game.{graph_of}
-use Rattle.vpg_sets.specs.Sets.{IsGrown}
+use Rattle.vpg_zielonka.specs.Universes.{IsGrown}
 use Rattle.vpg_zielonka.proofs.StuckSets.{AreStuckUpTo}
 use Rattle.vpg_zielonka.proofs.rounds.stuck.Given as goal
 

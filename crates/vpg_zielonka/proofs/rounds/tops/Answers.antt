@@ -1,7 +1,7 @@
 use Rattle.std.proofs.Common.{◌≡◌, ℕ, false, inl, inr, length, sym, subst, arith}
 use Rattle.vpg_game.specs.Game.{graph_of}
-use Rattle.vpg_sets.specs.declared.node.Set.{Set}
-use Rattle.vpg_sets.specs.Sets.{IsSetOf}
+use Rattle.vpg_zielonka.specs.declared.subset.Subset.{Subset}
+use Rattle.vpg_zielonka.specs.Universes.{IsSetOf}
 use Rattle.vpg_zielonka.proofs.Priorities.{top_test, tops_made, tops_more}
 use Rattle.vpg_zielonka.proofs.rounds.tops.Goals.{then-priority, else-priority}
 use Rattle.vpg_zielonka.proofs.Filling.{AreMade}
@@ -15,7 +15,7 @@ loop-v-preserved c = tops_more c.args.sets.now (graph_of c.args.game.now) c.args
       | then-priority w ↦ inl (w.if-priority.true, w.seed-is)
       | else-priority w ↦ inr (
         w.if-priority.false,
-        subst (λ (s : Set). IsSetOf c.args.sets.now (λ p. false) s) (sym w.seed-is) w.none-seed.ensures,
+        subst (λ (s : Subset). IsSetOf c.args.sets.now (λ p. false) s) (sym w.seed-is) w.none-seed.ensures,
       )
     ]) c.loop-v.invariant
 

@@ -1,7 +1,7 @@
 use Rattle.std.proofs.Common.{◌&&◌}
 use Rattle.std.specs.Prelude.{◌==◌}
 use Rattle.vpg_game.specs.Game.{graph_of, vertex_in}
-use Rattle.vpg_sets.specs.Sets.{has}
+use Rattle.vpg_zielonka.specs.Universes.{has}
 use Rattle.vpg_zielonka.specs.Parts.{set_at}
 use Rattle.vpg_zielonka.proofs.Filling.{AreMade}
 use Rattle.vpg_zielonka.proofs.rounds.tops.Given as goal

@@ -1,6 +1,6 @@
 use Rattle.std.proofs.Common.{◌<◌, arith}
 use Rattle.vpg_game.specs.Game.{graph_of}
-use Rattle.vpg_sets.proofs.Growth.{grown_then}
+use Rattle.vpg_zielonka.proofs.Growing.{grown_then}
 use Rattle.vpg_zielonka.proofs.Listing.{edges_grown}
 use Rattle.vpg_zielonka.proofs.Stepping.{loop_ends, below_bound, next_live, next_below, others_inside, three_live, round_more}
 use Rattle.vpg_zielonka.proofs.solving.+solve_part.Goals as goal

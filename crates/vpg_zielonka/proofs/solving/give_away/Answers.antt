@@ -1,6 +1,6 @@
 use Rattle.std.proofs.Common.{ℕ, List, length, ◌∙◌, ap, subst}
 use Rattle.vpg_game.specs.Game.{graph_of}
-use Rattle.vpg_sets.specs.declared.node.Set.{Set}
+use Rattle.vpg_zielonka.specs.declared.subset.Subset.{Subset}
 use Rattle.vpg_zielonka.specs.Winners.{AreWinners}
 use Rattle.vpg_zielonka.proofs.Listing.{edges_grown}
 use Rattle.vpg_zielonka.proofs.Rounding.{within_grown, live_grown, live_or_seed, given_away}
@@ -33,7 +33,7 @@ returns-clause-given c = given_away c.args.sets.now c.occupied.new.sets c.attrac
     c.in_ok-give-2.ensures.grown c.in_ok-on.ensures.grown c.in_ok-without.ensures.grown c.requires.part
     c.requires.others c.in_ok-drawn.ensures.sets c.in_ok-some.ensures.inside c.requires.winners
     (subst (λ (n : ℕ). AreWinners c.give-2.new.sets n c.give-2.new.self)
-    (ap (λ (xs : List Set). length xs) c.deref-2.ensures.value ∙ c.in_ok-drawn.ensures.sets.count_is)
+    (ap (λ (xs : List Subset). length xs) c.deref-2.ensures.value ∙ c.in_ok-drawn.ensures.sets.count_is)
     c.in_ok-give-2.ensures.sets)
     c.in_ok-some.ensures.none c.in_ok-drawn.ensures.attractor c.in_ok-done.ensures.each c.in_ok-give.ensures.own
     c.in_ok-give.ensures.others c.in_ok-give-2.ensures.own c.in_ok-give-2.ensures.others c.in_ok-on.ensures.each

@@ -1,6 +1,6 @@
 use Rattle.std.proofs.Common.{ℕ, List, Bool, length, sym, ◌∙◌, ap, subst}
 use Rattle.vpg_game.specs.Game.{graph_of}
-use Rattle.vpg_sets.specs.declared.node.Set.{Set}
+use Rattle.vpg_zielonka.specs.declared.subset.Subset.{Subset}
 use Rattle.vpg_zielonka.specs.Attractors.{IsWithin}
 use Rattle.vpg_zielonka.specs.Parts.{game_in, part_in}
 use Rattle.vpg_zielonka.specs.Rounds.{IsLiveOrSeed}
@@ -15,13 +15,13 @@ attracted-requires-clause-edges c = edges_grown c.args.sets.now c.stuck.new.sets
     c.requires.edges
 
 pub attracted-requires-clause-inside : goal.attracted-requires-clause-inside
-attracted-requires-clause-inside c = subst (λ (xs : List Set). (p : List Bool) →
+attracted-requires-clause-inside c = subst (λ (xs : List Subset). (p : List Bool) →
     IsWithin (part_in c.stuck.new.sets xs p) (part_in c.stuck.new.sets c.args.part.now p)) (sym c.deref.ensures.value)
     (stuck_inside c.args.sets.now c.stuck.new.sets c.in_ok-seeds.ensures.grown (graph_of c.args.game.now)
     c.opponent.result c.args.part.now c.in_ok-seeds.seeds.items c.requires.part c.in_ok-seeds.ensures.stuck)
 
 pub attracted-requires-clause-live : goal.attracted-requires-clause-live
-attracted-requires-clause-live c = subst (λ (xs : List Set). (p : List Bool) →
+attracted-requires-clause-live c = subst (λ (xs : List Subset). (p : List Bool) →
     IsLiveOrSeed (game_in (graph_of c.args.game.now) p) c.args.player (part_in c.stuck.new.sets c.args.part.now p)
     (part_in c.stuck.new.sets xs p)) (sym c.deref.ensures.value)
     (stuck_live c.args.sets.now c.stuck.new.sets c.in_ok-seeds.ensures.grown (graph_of c.args.game.now) c.args.player
@@ -37,7 +37,7 @@ returns-clause-given c = stuck_given c.args.sets.now c.stuck.new.sets c.attracte
     c.in_ok-give.ensures.grown c.in_ok-without.ensures.grown c.requires.part c.in_ok-drawn.ensures.sets
     c.requires.winners
     (subst (λ (n : ℕ). AreWinners c.give.new.sets n c.give.new.self)
-    (ap (λ (xs : List Set). length xs) c.deref-2.ensures.value ∙ c.in_ok-drawn.ensures.sets.count_is)
+    (ap (λ (xs : List Subset). length xs) c.deref-2.ensures.value ∙ c.in_ok-drawn.ensures.sets.count_is)
     c.in_ok-give.ensures.sets)
     c.in_ok-seeds.ensures.stuck c.in_ok-drawn.ensures.attractor c.in_ok-give.ensures.own c.in_ok-give.ensures.others
     c.in_ok-without.ensures.rest

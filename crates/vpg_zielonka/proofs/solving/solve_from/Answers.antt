@@ -1,8 +1,8 @@
 use Rattle.std.proofs.Common.{◌≡◌, ℕ, List, Bool, ◌&&◌, length, ◌∙◌, ap, subst}
 use Rattle.vpg_game.specs.Game.{graph_of}
-use Rattle.vpg_sets.specs.declared.node.Set.{Set}
-use Rattle.vpg_sets.specs.Sets.{has}
-use Rattle.vpg_sets.proofs.Growth.{grown_then}
+use Rattle.vpg_zielonka.specs.declared.subset.Subset.{Subset}
+use Rattle.vpg_zielonka.specs.Universes.{has}
+use Rattle.vpg_zielonka.proofs.Growing.{grown_then}
 use Rattle.vpg_zielonka.specs.Parts.{AreSets, part_in}
 use Rattle.vpg_zielonka.specs.Reached.{flagged}
 use Rattle.vpg_zielonka.specs.Winners.{AreWinners}
@@ -59,6 +59,6 @@ returns-clause-divided c = all_solved (graph_of c.args.game.now) c.of.new.sets c
     c.in_ok-solved.ensures.sets c.deref-4.result.now c.deref-5.result.now c.deref-4.ensures.value
     c.deref-5.ensures.value c.in_ok-give.ensures.own c.in_ok-give.ensures.others c.in_ok-give-2.ensures.own
     c.in_ok-give-2.ensures.others) (subst (λ (n : ℕ). AreWinners c.give-2.new.sets n c.give-2.new.self)
-    (ap (λ (xs : List Set). length xs) c.deref-5.ensures.value ∙ c.in_ok-solved.ensures.sets.lost.count_is)
+    (ap (λ (xs : List Subset). length xs) c.deref-5.ensures.value ∙ c.in_ok-solved.ensures.sets.lost.count_is)
     c.in_ok-give-2.ensures.sets) c.args.vertex c.requires.vertex c.in_ok-found.ensures.vertex
     c.at.result c.at.ensures.won c.at.ensures.lost

@@ -5,7 +5,7 @@ use Rattle.vpg_guards.specs.View.{formula_of}
 use Rattle.vpg_game.specs.Edges.{GuardedEdge}
 use Rattle.vpg_game.specs.Game.{graph_of, vertex_in}
 use Rattle.vpg_game.proofs.Graphs.{same_count}
-use Rattle.vpg_sets.proofs.Growth.{grown_then}
+use Rattle.vpg_zielonka.proofs.Growing.{grown_then}
 use Rattle.vpg_zielonka.specs.declared.edges.Edge.{Edge}
 use Rattle.vpg_zielonka.specs.Edges.{AreListed}
 use Rattle.vpg_zielonka.proofs.Listing.{IsNamedUpTo, edge_item, item_facts, listed_next, listed_vertex}
@@ -68,3 +68,15 @@ returns-clause-edges c = listed_vertex c.loop-edge.sets (graph_of c.args.game.no
       c.loop-edge.auto.edge-index-end,
       ap (λ (es : List (GuardedEdge Formula)). length es) c.edges-edge-items.ensures.graph,
     )) c.loop-edge.invariant.1
+
+pub returns-in_err-note-clause-grown : goal.returns-in_err-note-clause-grown
+returns-in_err-note-clause-grown c = grown_then c.args.sets.now c.loop-edge.sets c.of_guard.new.self
+    c.loop-edge.invariant.0 c.in_ok-products.ensures.grown
+
+pub returns-in_err-note-2-clause-grown : goal.returns-in_err-note-2-clause-grown
+returns-in_err-note-2-clause-grown c = grown_then c.args.sets.now c.loop-edge.sets c.of_guard.new.self
+    c.loop-edge.invariant.0 c.in_ok-products.ensures.grown
+
+pub returns-in_err-push-clause-grown : goal.returns-in_err-push-clause-grown
+returns-in_err-push-clause-grown c = grown_then c.args.sets.now c.loop-edge.sets c.of_guard.new.self
+    c.loop-edge.invariant.0 c.in_ok-products.ensures.grown

@@ -1,5 +1,5 @@
 use Rattle.vpg_game.specs.Game.{graph_of}
-use Rattle.vpg_sets.specs.Sets.{IsGrown}
+use Rattle.vpg_zielonka.specs.Universes.{IsGrown}
 use Rattle.vpg_zielonka.specs.Edges.{AreListed}
 use Rattle.vpg_zielonka.proofs.Listing.{IsNamedUpTo}
 use Rattle.vpg_zielonka.proofs.edges.Edges.add_all.Given as goal

@@ -1,5 +1,5 @@
 use Rattle.vpg_game.specs.Game.{graph_of}
-use Rattle.vpg_sets.specs.Sets.{IsGrown}
+use Rattle.vpg_zielonka.specs.Universes.{IsGrown}
 use Rattle.vpg_zielonka.specs.Edges.{AreFirstEdges}
 use Rattle.vpg_zielonka.proofs.edges.Edges.of.Given as goal
 
