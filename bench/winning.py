@@ -11,7 +11,7 @@ family of 2^BITS products, all in processor seconds, medians of three rounds in 
   Bits, parts; BDD, parts  it also writes the parts of `winners V`, as docs/FORMATS.md says, to nowhere
   `winners`                that line by the program, on a page without decisions that was never settled
   Times                    that many times the better of `Bits, parts` and `BDD, parts`
-  `decide`                 `settle` and that line
+  `decide`                 that line, on such a page
   Times                    that many times the better of `Bits` and `BDD`
   Parts                    those of `winners`
 
@@ -319,13 +319,11 @@ class Row:
         for how in ("each", "bits", "bdd"):
             if not self.is_over(how):
                 self.measure(plain, how)
-        desk, before = Timed(program, *self.files, LIMIT), 0
+        desk = Timed(program, *self.files, LIMIT)
         for line in self.answers:
-            if line == "decide":
-                before, _ = desk.ask("settle")
             if not self.is_over(line):
                 seconds, answer = asked(desk, f"{line} {self.vertex}")
-                self.note(line, None if seconds is None else before + seconds)
+                self.note(line, seconds)
                 self.answers[line] = answer
                 if seconds is None:
                     desk = Timed(program, *self.files, LIMIT)
