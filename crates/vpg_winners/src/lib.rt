@@ -14,10 +14,10 @@
 //! page: `find` and `why_lost` (its first product), `needs` (the literals that its products share), `findings` and
 //! `both_findings` (products and literals for `foresee` of `vpg_why`).
 //!
-//! If a limit is met, or there are no sets, each call searches, and `winners` counts no products. A search goes over
-//! features that are not known, cut off by the verdicts of each trial (`vpg_why`). Parity games are determined
-//! (`vpg_determined`): so a product in which Even has no strategy is won by Odd. A search that met a limit is reported
-//! as unsettled, and never wrong.
+//! If a limit is met, or there are no sets, each call searches; but there are no findings then, and `winners` counts no
+//! products. A search goes over features that are not known, cut off by the verdicts of each trial (`vpg_why`). Parity
+//! games are determined (`vpg_determined`): so a product in which Even has no strategy is won by Odd. A search that met
+//! a limit is reported as unsettled, and never wrong.
 //!
 //! Definitions: `specs/Decided` (the winners in the products that are left), `specs/Winners` (the parts, and the rule
 //! by which they are made), `specs/Joined` (how parts are joined), `specs/Numbered` (the numbers of their products),
