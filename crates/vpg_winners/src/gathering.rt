@@ -1,4 +1,4 @@
-//! What the set of all products that meet an aim says of each feature.
+//! Findings and needs, by the set of all products that meet an aim.
 ghost use Rattle.std.specs.Prelude.{◌≡◌, ◌<◌, ◌++◌, ◌∷◌, [], List, true, false, not, length, slice_index_or};
 ghost use Rattle.std.specs.Prelude.{IfOk, IfSome, IsNone, OnOk};
 ghost use Rattle.std.specs.List.{list_any};
