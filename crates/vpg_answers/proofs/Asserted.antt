@@ -1,5 +1,5 @@
 -- Assertions of exact verdicts.
-use Rattle.std.proofs.Common.{◌≡◌, ℕ, Bool, List, refl, sym, ap, ◌∙◌, subst, inl, inr}
+use Rattle.std.proofs.Common.{◌≡◌, ℕ, Bool, List, [], refl, sym, ap, ◌∙◌, subst, inl, inr}
 use Rattle.std.specs.Prelude.{◌⊎◌, codes}
 use Rattle.vpg_sides.specs.declared.player.Player.TheVariants.{Even, Odd}
 use Rattle.vpg_guards.specs.Formula.{truth}
@@ -60,7 +60,7 @@ module _ (scene : Scene) (chosen : List Literal) (vertex : ℕ) where
 
 module _ (order : OrderView) (limits : Limits) (vertex : ℕ) (asserted : ExactVerdict) (given : List Decision) (given_is : given ≡ order.decisions) where
   abbrev page : Scene
-  page = scene_of order.game order.diagram
+  page = scene_of [] order.game order.diagram
 
   abbrev Has : ExactVerdict → Type 0
   Has = HasExact page (choices order.decisions) vertex

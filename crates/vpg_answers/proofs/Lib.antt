@@ -2,6 +2,7 @@ pub mod Adding
 pub mod Asserted
 pub mod Looked
 pub mod Moving
+pub mod Naming
 pub mod Offering
 pub mod One
 pub mod OneMoves

@@ -34,7 +34,7 @@ use Rattle.vpg_answers.specs.Looked.{HasMetLimit, IsCountAnswer, IsLeft, IsLooke
 
 module _ (order : OrderView) (limits : Limits) (found : Found) where
   abbrev page : Scene
-  page = scene_of order.game order.diagram
+  page = scene_of [] order.game order.diagram
 
   abbrev Finds : Found → Type 0
   Finds f = IsFound order.game order.diagram aims.Any (choices order.decisions) f
@@ -77,11 +77,11 @@ module _ (scene : Scene) (limits : Limits) (lookup : script.Lookup) (entries : L
   looks_other not answer seen = inr (inr ((λ asserts. absurd (cc (asserts, not))), seen))
 
   -- what is seen, by the code's words for the game and the diagram
-  pub seen_here : (game here : NamedGame) (diagram there : NamedDiagram) → here ≡ game → there ≡ diagram → scene_of game diagram ≡ scene → (answer : Answer) →
-      IsSeen (scene_of here there) lookup entries decisions hopeful dual answer → IsSeen scene lookup entries decisions hopeful dual answer
-  seen_here game here diagram there game_is diagram_is scene_is answer seen =
+  pub seen_here : (labels : List (List ℕ)) (game here : NamedGame) (diagram there : NamedDiagram) → here ≡ game → there ≡ diagram → scene_of labels game diagram ≡ scene → (answer : Answer) →
+      IsSeen (scene_of labels here there) lookup entries decisions hopeful dual answer → IsSeen scene lookup entries decisions hopeful dual answer
+  seen_here labels game here diagram there game_is diagram_is scene_is answer seen =
       subst (λ (s : Scene). IsSeen s lookup entries decisions hopeful dual answer) scene_is
-      (coe 0 1 (k. IsSeen (scene_of (game_is k) (diagram_is k)) lookup entries decisions hopeful dual answer) seen)
+      (coe 0 1 (k. IsSeen (scene_of labels (game_is k) (diagram_is k)) lookup entries decisions hopeful dual answer) seen)
 
   -- two answers are one, unless a limit was met
   pub seen_left_one : (one other : Answer) → Looks one → Looks other → ¬ (one ≡ failing (codes "unsettled")) → ¬ (other ≡ failing (codes "unsettled")) → one ≡ other
@@ -101,12 +101,12 @@ module _ (scene : Scene) (limits : Limits) (lookup : script.Lookup) (entries : L
 
 -- what is counted of a page, by the code's words for the game, the diagram, the decisions and the mark
 pub counts_left : (game here : NamedGame) (diagram there : NamedDiagram) (limits : Limits) (decisions given : List Decision) (hopeful dual mark : List ℕ) (left : Left) → here ≡ game → there ≡ diagram → given ≡ decisions → mark ≡ left_mark left →
-    IsLeft (scene_of game diagram) limits (choices given) left → (answer : Answer) → IsDone (IsCounted (scene_of here there) decisions hopeful dual mark) answer → IsCountAnswer (scene_of game diagram) limits decisions hopeful dual answer
+    IsLeft (scene_of [] game diagram) limits (choices given) left → (answer : Answer) → IsDone (IsCounted (scene_of [] here there) decisions hopeful dual mark) answer → IsCountAnswer (scene_of [] game diagram) limits decisions hopeful dual answer
 counts_left game here diagram there limits decisions given hopeful dual mark left game_is diagram_is given_is mark_is so answer counted = (
   left,
   (
-    subst (λ (ds : List Decision). IsLeft (scene_of game diagram) limits (choices ds) left) given_is so,
-    coe 0 1 (k. IsDone (IsCounted (scene_of (game_is k) (diagram_is k)) decisions hopeful dual (mark_is k)) answer) counted,
+    subst (λ (ds : List Decision). IsLeft (scene_of [] game diagram) limits (choices ds) left) given_is so,
+    coe 0 1 (k. IsDone (IsCounted (scene_of [] (game_is k) (diagram_is k)) decisions hopeful dual (mark_is k)) answer) counted,
   ),
 )
 

@@ -1,5 +1,5 @@
 -- What is told of moves.
-use Rattle.std.proofs.Common.{◌≡◌, ℕ, ◌++◌, Option, List, refl, sym, ap₂, ◌∙◌, subst, inl, inr}
+use Rattle.std.proofs.Common.{◌≡◌, ℕ, ◌++◌, Option, List, refl, sym, ap, ap₂, ◌∙◌, subst, inl, inr}
 use Rattle.std.specs.Prelude.{slice_index}
 use Rattle.vpg_game.specs.Game.{graph_of, vertex_ids}
 use Rattle.vpg_measure.specs.Orders.{OrderView, order_table, other_table}
@@ -7,10 +7,11 @@ use Rattle.vpg_measure.specs.TwoGames.{top_for}
 use Rattle.vpg_sides.specs.declared.which.Which.{Which}
 use Rattle.vpg_sides.specs.declared.which.Which.TheVariants.{Hopeful, Dual}
 use Rattle.vpg_why.specs.Moves.{AreWinning, ChoicesSettleInCaution}
+use Rattle.vpg_texts.specs.Labels.{label_of}
 use Rattle.vpg_texts.specs.Scene.{Scene, scene_of, table_in}
 use Rattle.vpg_why.specs.Explained.{choices}
 use Rattle.vpg_why.specs.declared.question.Limits.{Limits}
-use Rattle.vpg_answers.specs.Answers.{Appends, TellsMoves, TellsWinning, identifier_of}
+use Rattle.vpg_answers.specs.Answers.{Appends, TellsMoves, TellsWinning, identifier_of, label_in}
 use Rattle.vpg_answers.specs.Texts.{moves_text, moves_word, other_line, unsettled_line}
 
 -- either table, as it is named in a scene
@@ -18,18 +19,18 @@ table_is : (order : OrderView) (which : Which) → order_table which order ≡ t
 table_is order Hopeful = refl
 table_is order Dual = refl
 
-module _ (order : OrderView) (limits : Limits) (mover : Which) (vertex : ℕ) (before after : List ℕ) where
+module _ (labels : List (List ℕ)) (order : OrderView) (limits : Limits) (mover : Which) (vertex : ℕ) (before after : List ℕ) where
   abbrev page : Scene
-  page = scene_of order.game order.diagram
+  page = scene_of labels order.game order.diagram
 
   pub told_winning : (moves items : List (Option ℕ)) (word : List ℕ) → moves ≡ items → word ≡ moves_word mover →
       AreWinning (graph_of order.game) order.diagram.lines (choices order.decisions) mover vertex items →
-      after ≡ before ++ moves_text word (vertex_ids order.game.vertices) moves → Appends (TellsWinning page limits mover vertex order.decisions) before after
+      after ≡ before ++ moves_text word (vertex_ids order.game.vertices) labels moves → Appends (TellsWinning page limits mover vertex order.decisions) before after
   told_winning moves items word same word_is are appended = (
-    moves_text (moves_word mover) (vertex_ids order.game.vertices) items,
+    moves_text (moves_word mover) (vertex_ids order.game.vertices) labels items,
     (
       inl (items, are, refl),
-      appended ∙ ap₂ (λ (w : List ℕ) (ms : List (Option ℕ)). before ++ moves_text w (vertex_ids order.game.vertices) ms) word_is same,
+      appended ∙ ap₂ (λ (w : List ℕ) (ms : List (Option ℕ)). before ++ moves_text w (vertex_ids order.game.vertices) labels ms) word_is same,
     ),
   )
 
@@ -53,9 +54,13 @@ module _ (order : OrderView) (limits : Limits) (mover : Which) (vertex : ℕ) (b
         Appends (TellsMoves page limits mover vertex order.decisions (table_in order.hopeful order.dual (other_table mover))) before after
     told_moves high (text, (tells, appended)) = (text, (inl (top_is high, tells), appended))
 
-    pub told_no_moves : (identifier : ℕ) → identifier ≡ slice_index (vertex_ids order.game.vertices) vertex → ¬ (IsTop (order_table verdict order) verdict) →
-        after ≡ before ++ other_line verdict identifier → Appends (TellsMoves page limits mover vertex order.decisions (table_in order.hopeful order.dual (other_table mover))) before after
-    told_no_moves identifier same low appended = (
-      other_line (other_table mover) (identifier_of page vertex),
-      (inr (λ high. low (is_top high), refl), appended ∙ ap₂ (λ (w : Which) (n : ℕ). before ++ other_line w n) verdict_is same),
+    pub told_no_moves : (identifier : ℕ) (label : List ℕ) → identifier ≡ slice_index (vertex_ids order.game.vertices) vertex → label ≡ label_of labels vertex → ¬ (IsTop (order_table verdict order) verdict) →
+        after ≡ before ++ other_line verdict identifier label → Appends (TellsMoves page limits mover vertex order.decisions (table_in order.hopeful order.dual (other_table mover))) before after
+    told_no_moves identifier label same label_is low appended = (
+      other_line (other_table mover) (identifier_of page vertex) (label_in page vertex),
+      (
+        inr (λ high. low (is_top high), refl),
+        appended ∙ ap (λ (w : Which). before ++ other_line w identifier label) verdict_is
+            ∙ ap₂ (λ (n : ℕ) (l : List ℕ). before ++ other_line (other_table mover) n l) same label_is,
+      ),
     )

@@ -85,9 +85,9 @@ offered_named n m (o ∷ rest) is named (suc k) d l = offered_named n m rest is 
 -- what one more choice makes of a vertex, as the crates below say it
 module _ (game : NamedGame) (diagram : NamedDiagram) (limits : Limits) (vertex : ℕ) (chosen : List Literal) where
   abbrev Is : Prospect → Type 0
-  Is prospect = IsProspect (scene_of game diagram) limits vertex chosen prospect
+  Is prospect = IsProspect (scene_of [] game diagram) limits vertex chosen prospect
 
-  shown_in : (which : Which) (answer : Shown) → IsShown limits.rounds game diagram vertex chosen which answer → IsVerdictShown (scene_of game diagram) limits vertex chosen which answer
+  shown_in : (which : Which) (answer : Shown) → IsShown limits.rounds game diagram vertex chosen which answer → IsVerdictShown (scene_of [] game diagram) limits vertex chosen which answer
   shown_in which answer so = record { yes = so.yes; no = so.no; settled = so.settled }
 
   -- the winner, by whether each player wins in some product
@@ -102,7 +102,7 @@ module _ (game : NamedGame) (diagram : NamedDiagram) (limits : Limits) (vertex :
     Settled which = IsSettled game diagram limits (asks.Lost (aims.Won which vertex)) chosen
 
     fact_in : (won lost : Shown) → (won ≡ shown.Yes → Some_meets Hopeful) → (won ≡ shown.No → None_meets Hopeful) → (Settled Hopeful → won ≢ shown.Unsettled) →
-        (lost ≡ shown.Yes → Some_meets Dual) → (lost ≡ shown.No → None_meets Dual) → (Settled Dual → lost ≢ shown.Unsettled) → IsFact (scene_of game diagram) limits vertex chosen (fact_of won lost)
+        (lost ≡ shown.Yes → Some_meets Dual) → (lost ≡ shown.No → None_meets Dual) → (Settled Dual → lost ≢ shown.Unsettled) → IsFact (scene_of [] game diagram) limits vertex chosen (fact_of won lost)
     fact_in shown.Yes shown.Yes wy wn ws ly ln ls = (wy refl, ly refl)
     fact_in shown.Yes shown.No wy wn ws ly ln ls = let w = wy refl in ((w.0, w.1), even_wins game diagram chosen vertex is inside (ln refl))
     fact_in shown.No shown.Yes wy wn ws ly ln ls = let l = ly refl in ((l.0, l.1), odd_wins game diagram chosen vertex is inside (wn refl))

@@ -13,6 +13,7 @@ use Rattle.vpg_script.specs.declared.command.PageQuestion.{PageQuestion}
 use Rattle.vpg_script.specs.declared.command.PageQuestion.TheVariants as whole
 use Rattle.vpg_script.specs.declared.command.VertexQuestion.{VertexQuestion}
 use Rattle.vpg_script.specs.declared.command.VertexQuestion.TheVariants as questions
+use Rattle.vpg_texts.specs.Labels.{beside}
 use Rattle.vpg_texts.specs.Scene.{Scene, table_in}
 use Rattle.vpg_texts.specs.Text.{blank_number, choices_text}
 use Rattle.vpg_why.specs.Explained.{choices}
@@ -32,7 +33,7 @@ use Rattle.vpg_answers.specs.declared.query.Query.TheVariants as queries
 use Rattle.vpg_answers.specs.Texts.{verdict_word, verdict_line, other_line, lost_line, known_line, conflict_line, names_in, product_line}
 use Rattle.vpg_script.specs.Answer.{Answer}
 use Rattle.vpg_script.proofs.Given.{done_one}
-use Rattle.vpg_answers.specs.Answers.{MakeSo, IsReason, identifier_of, TellsVerdict, TellsVertex, TellsKnownBy, TellsFeature, TellsChoice, TellsConflict, TellsProduct, TellsExample, TellsLost, TellsOfPage, TellsOfVertex, Tells, HasDoubt, lost_for}
+use Rattle.vpg_answers.specs.Answers.{MakeSo, IsReason, identifier_of, label_in, TellsVerdict, TellsVertex, TellsKnownBy, TellsFeature, TellsChoice, TellsConflict, TellsProduct, TellsExample, TellsLost, TellsOfPage, TellsOfVertex, Tells, HasDoubt, lost_for, lost_label}
 use Rattle.vpg_answers.specs.Laws.{AnswersAreOne}
 use Rattle.vpg_answers.proofs.OneNumbers.{tells_number_one}
 use Rattle.vpg_answers.proofs.OneMoves.{tells_moves_one}
@@ -45,27 +46,25 @@ use Rattle.vpg_answers.proofs.OneWinners.{tells_decided_one, tells_winners_one}
 
 -- ---- doubts
 
-regroup : (p x c d n q : List ℕ) → (p ++ (x ++ ((c ++ d) ++ n))) ++ q ≡ ((p ++ (x ++ c)) ++ (d ++ n)) ++ q
-regroup p x c d n q =
-    ap (λ (t : List ℕ). t ++ q)
-    (ap (λ (t : List ℕ). p ++ t) (ap (λ (t : List ℕ). x ++ t) (append_assoc c d n) ∙ sym (append_assoc x c (d ++ n))) ∙ sym (append_assoc p (x ++ c) (d ++ n)))
+regroup : (p x c d e n q : List ℕ) → (p ++ (x ++ (((c ++ d) ++ e) ++ n))) ++ q ≡ ((((p ++ (x ++ c)) ++ d) ++ e) ++ n) ++ q
+regroup p x c d e n q = simp append_assoc
 
 -- a line in a text without a doubt is exact
-no_doubt : (names : List (List ℕ)) (which : Which) (identifier : ℕ) (listed : List Decision) (exact : Bool) (before behind whole : List ℕ) →
-    whole ≡ before ++ verdict_line names which identifier listed exact ++ behind → ¬ (HasDoubt whole) → exact ≡ true
-no_doubt names which identifier listed true before behind whole is none = refl
-no_doubt names which identifier listed false before behind whole is none =
+no_doubt : (names : List (List ℕ)) (which : Which) (identifier : ℕ) (label : List ℕ) (listed : List Decision) (exact : Bool) (before behind whole : List ℕ) →
+    whole ≡ before ++ verdict_line names which identifier label listed exact ++ behind → ¬ (HasDoubt whole) → exact ≡ true
+no_doubt names which identifier label listed true before behind whole is none = refl
+no_doubt names which identifier label listed false before behind whole is none =
     let head : List ℕ = verdict_word which ++ blank_number identifier in
     let chosen : List ℕ = choices_text names (map literal_of listed) in
-    absurd (none (inl (before ++ (head ++ chosen), behind, is ∙ regroup before head chosen (codes " or fewer") (codes "\n") behind)))
+    absurd (none (inl (before ++ (head ++ chosen), label, behind, is ∙ regroup before head chosen (codes " or fewer") (beside label) (codes "\n") behind)))
 
 -- nor has what is lost or won
-lost_no_doubt : (head : List ℕ) (names : List (List ℕ)) (listed : List Decision) (exact : Bool) (whole : List ℕ) →
-    whole ≡ lost_line head names listed exact → ¬ (HasDoubt whole) → exact ≡ true
-lost_no_doubt head names listed true whole is none = refl
-lost_no_doubt head names listed false whole is none =
+lost_no_doubt : (head label : List ℕ) (names : List (List ℕ)) (listed : List Decision) (exact : Bool) (whole : List ℕ) →
+    whole ≡ lost_line head label names listed exact → ¬ (HasDoubt whole) → exact ≡ true
+lost_no_doubt head label names listed true whole is none = refl
+lost_no_doubt head label names listed false whole is none =
     let chosen : List ℕ = choices_text names (map literal_of listed) in
-    absurd (none (inl (head ++ chosen, [], is ∙ sym (append-nil (lost_line head names listed false)) ∙ regroup [] head chosen (codes " or fewer") (codes "\n") [])))
+    absurd (none (inl (head ++ chosen, label, [], is ∙ sym (append-nil (lost_line head label names listed false)) ∙ regroup [] head chosen (codes " or fewer") (beside label) (codes "\n") [])))
 
 -- ---- one page
 
@@ -83,7 +82,7 @@ module _ (scene : Scene) (limits others : Limits) (decisions : List Decision) (i
     IsHigh = slice_index table vertex ≡ top_for which scene.game
 
     abbrev line : List Decision → Bool → List ℕ
-    line listed exact = verdict_line scene.names which (identifier_of scene vertex) listed exact
+    line listed exact = verdict_line scene.names which (identifier_of scene vertex) (label_in scene vertex) listed exact
 
     -- a verdict that is told without a doubt
     record IsFor (text : List ℕ) : Type 0 where
@@ -92,7 +91,7 @@ module _ (scene : Scene) (limits others : Limits) (decisions : List Decision) (i
       text_is : text ≡ line listed true
 
     abbrev IsTold : List ℕ → Type 0
-    IsTold text = (IsHigh × IsFor text) ⊎ (¬ IsHigh × (text ≡ other_line which (identifier_of scene vertex)))
+    IsTold text = (IsHigh × IsFor text) ⊎ (¬ IsHigh × (text ≡ other_line which (identifier_of scene vertex) (label_in scene vertex)))
 
     exactly : (text : List ℕ) (listed : List Decision) (exact : Bool) → exact ≡ true → IsReason scene (asks.Verdict which vertex) decisions listed exact → text ≡ line listed exact → IsFor text
     exactly text listed exact sure reason text_is = record {
@@ -107,7 +106,7 @@ module _ (scene : Scene) (limits others : Limits) (decisions : List Decision) (i
         inl (
           high,
           exactly text so.0 so.1
-              (no_doubt scene.names which (identifier_of scene vertex) so.0 so.1 before behind whole (parts ∙ ap (λ (t : List ℕ). before ++ t ++ behind) so.3) none) so.2 so.3,
+              (no_doubt scene.names which (identifier_of scene vertex) (label_in scene vertex) so.0 so.1 before behind whole (parts ∙ ap (λ (t : List ℕ). before ++ t ++ behind) so.3) none) so.2 so.3,
         )
 
     verdict_one : (one other : List ℕ) → IsTold one → IsTold other → one ≡ other
@@ -187,10 +186,10 @@ module _ (scene : Scene) (limits others : Limits) (decisions : List Decision) (i
 
     lost_one : (one other : List ℕ) → TellsLost scene limits aim decisions one → TellsLost scene others aim decisions other → ¬ (HasDoubt one) → ¬ (HasDoubt other) → one ≡ other
     lost_one one other (inl a) (inl b) sure also =
-        let first : a.1 ≡ true = lost_no_doubt (lost_for scene aim) scene.names a.0 a.1 one a.3 sure in
-        let second : b.1 ≡ true = lost_no_doubt (lost_for scene aim) scene.names b.0 b.1 other b.3 also in
+        let first : a.1 ≡ true = lost_no_doubt (lost_for scene aim) (lost_label scene aim) scene.names a.0 a.1 one a.3 sure in
+        let second : b.1 ≡ true = lost_no_doubt (lost_for scene aim) (lost_label scene aim) scene.names b.0 b.1 other b.3 also in
         a.3
-        ∙ ap₂ (λ (listed : List Decision) (exact : Bool). lost_line (lost_for scene aim) scene.names listed exact)
+        ∙ ap₂ (λ (listed : List Decision) (exact : Bool). lost_line (lost_for scene aim) (lost_label scene aim) scene.names listed exact)
         (reason_one (asks.Lost aim) a.0 b.0 (lost_exactly a.0 a.1 first a.2) (lost_exactly b.0 b.1 second b.2)) (first ∙ sym second) ∙ sym b.3
     lost_one one other (inl a) (inr (inl b)) sure also = absurd (not_lost others other a.0 a.1 a.2 b)
     lost_one one other (inl a) (inr (inr b)) sure also = absurd (also (inr (inr (inl b.1))))

@@ -32,23 +32,23 @@ use Rattle.vpg_answers.proofs.OneOffers.{first_of, rest_of}
 
 -- ---- doubts
 
-ends_more : (f w b m n : List ℕ) → f ++ (((w ++ b) ++ m) ++ n) ≡ (f ++ (w ++ b)) ++ (m ++ n)
-ends_more f w b m n = simp append_assoc
+ends_more : (f w b m n : List ℕ) → f ++ (((w ++ b) ++ m) ++ n) ≡ ((((f ++ (w ++ b)) ++ m) ++ []) ++ n) ++ []
+ends_more f w b m n = simp (append_assoc, append-nil)
 
 -- behind a text without a doubt stands a total without one
 no_more : (front word : List ℕ) (lines : ℕ) (exact : Bool) (text : List ℕ) → text ≡ front ++ total_line word lines exact → ¬ (HasDoubt text) → exact ≡ true
 no_more front word lines true text is sure = refl
 no_more front word lines false text is sure =
-    absurd (sure (inr (inr (inr (inr (inl (front ++ (word ++ blank_number lines), [], is ∙ ends_more front word (blank_number lines) (codes " or more") (codes "\n") ∙ sym (append-nil ((front ++ (word ++ blank_number lines)) ++ codes " or more\n")))))))))
+    absurd (sure (inr (inr (inr (inr (inl (front ++ (word ++ blank_number lines), [], [], is ∙ ends_more front word (blank_number lines) (codes " or more") (codes "\n"))))))))
 
-fewer_in : (r c d n t : List ℕ) → (r ++ ((c ++ d) ++ n)) ++ t ≡ ((r ++ c) ++ (d ++ n)) ++ t
-fewer_in r c d n t = simp append_assoc
+fewer_in : (r c d e n t : List ℕ) → (r ++ (((c ++ d) ++ e) ++ n)) ++ t ≡ ((((r ++ c) ++ d) ++ e) ++ n) ++ t
+fewer_in r c d e n t = simp append_assoc
 
-no_fewer : (names : List (List ℕ)) (given : List Decision) (sure : Bool) (rest text : List ℕ) → text ≡ (codes "repair" ++ reason_text names given sure) ++ rest → ¬ (HasDoubt text) → sure ≡ true
+no_fewer : (names : List (List ℕ)) (given : List Decision) (sure : Bool) (rest text : List ℕ) → text ≡ (codes "repair" ++ reason_text names given sure []) ++ rest → ¬ (HasDoubt text) → sure ≡ true
 no_fewer names given true rest text is clear = refl
 no_fewer names given false rest text is clear =
     let chosen : List ℕ = choices_text names (map literal_of given) in
-    absurd (clear (inl (codes "repair" ++ chosen, rest, is ∙ fewer_in (codes "repair") chosen (codes " or fewer") (codes "\n") rest)))
+    absurd (clear (inl (codes "repair" ++ chosen, [], rest, is ∙ fewer_in (codes "repair") chosen (codes " or fewer") [] (codes "\n") rest)))
 
 -- behind the lines that are marked stands a total
 behind : (f l m t : List ℕ) → f ++ ((l ++ m) ++ t) ≡ (f ++ (l ++ m)) ++ t
@@ -172,7 +172,7 @@ module _ (scene : Scene) (vertex : ℕ) (was_hopeless : Bool) (decisions : List 
       let shown : all_shown tried ≡ true = all_told scene.names (lines_at scene.names 0 tried) 0 tried (all_shown tried) text text_is clear in
       inl (record { limits = limits; tried = tried; are = are; shown = shown; some = some; text_is = text_is ∙ ap (singles_text scene.names tried) shown })
   told limits text (inl (tried, are, inr (none, inl a))) clear =
-      let shown : all_shown tried ≡ true = all_told scene.names (codes "repair" ++ reason_text scene.names a.1 a.2) 1 tried (all_shown tried) text a.4 clear in
+      let shown : all_shown tried ≡ true = all_told scene.names (codes "repair" ++ reason_text scene.names a.1 a.2 []) 1 tried (all_shown tried) text a.4 clear in
       let sure : a.2 ≡ true = no_fewer scene.names a.1 a.2 (marked_text scene.names 1 tried (all_shown tried)) text a.4 clear in
       inr (inl (record {
         limits = limits;

@@ -1,5 +1,5 @@
 -- What is told of needs and repairs.
-use Rattle.std.proofs.Common.{◌≡◌, ℕ, zero, suc, ◌<◌, Bool, true, false, List, [], ◌∷◌, ◌++◌, length, refl, sym, ap, ◌∙◌, subst, inl, inr, arith}
+use Rattle.std.proofs.Common.{◌≡◌, ℕ, zero, suc, ◌<◌, Bool, true, false, List, [], ◌∷◌, ◌++◌, length, refl, sym, ap, ap₂, ◌∙◌, subst, inl, inr, arith}
 use Rattle.std.specs.Prelude.{All, IsTrue, slice_index}
 use Rattle.std.specs.List.{AllByRecursion}
 use Rattle.vpg_diagram.specs.FeatureDiagram.{feature_count}
@@ -11,6 +11,7 @@ use Rattle.vpg_measure.specs.TwoGames.{top_for}
 use Rattle.vpg_sides.specs.declared.which.Which.TheVariants.{Hopeful}
 use Rattle.vpg_partial.specs.TableLaws.{AreChoicesOf}
 use Rattle.vpg_partial.specs.declared.decision.Decision.{Decision}
+use Rattle.vpg_texts.specs.Labels.{label_of}
 use Rattle.vpg_texts.specs.Scene.{Scene, scene_of}
 use Rattle.vpg_texts.proofs.Shown.{named_below}
 use Rattle.vpg_why.specs.Explained.{choices}
@@ -23,13 +24,14 @@ use Rattle.vpg_why.specs.declared.forcing.Forced.{Forced}
 use Rattle.vpg_why.specs.declared.question.Aim.{Aim}
 use Rattle.vpg_why.specs.declared.question.Aim.TheVariants as aims
 use Rattle.vpg_why.specs.declared.question.Limits.{Limits}
-use Rattle.vpg_answers.specs.Answers.{identifier_of, HasSingle, TellsRepair, TellsRetractions, Appends, all_shown}
+use Rattle.vpg_answers.specs.Answers.{identifier_of, label_in, HasSingle, TellsRepair, TellsRetractions, Appends, all_shown}
 use Rattle.vpg_answers.specs.Repairs.{AreTried, HasWinner, IsEffect, IsLostBy}
 use Rattle.vpg_answers.specs.Room.{EachSearchEnds, SearchEnds}
 use Rattle.vpg_answers.specs.Texts.{marked_text, none_line, other_line, several_text, singles_text, unsettled_line}
 use Rattle.vpg_answers.specs.declared.retracting.Effect.{Effect}
 use Rattle.vpg_answers.specs.declared.retracting.Effect.TheVariants as effects
 use Rattle.vpg_answers.specs.declared.retracting.Tried.{Tried}
+use Rattle.vpg_answers.proofs.Naming.{same_retractions}
 use Rattle.vpg_answers.proofs.Trying.{given_named, tried_named}
 
 -- literals of the diagram's features name some
@@ -40,7 +42,7 @@ literals_below n m (l ∷ rest) is named (suc k) d less = literals_below n m res
 
 module _ (order : OrderView) where
   abbrev page : Scene
-  page = scene_of order.game order.diagram
+  page = scene_of [] order.game order.diagram
 
   -- what is needed, as it was found
   pub found_these : (aim : Aim) (found : Demand) (f : Forced) → found ≡ demands.These f → AreFoundNeeds order.game order.diagram aim (choices order.decisions) found →
@@ -124,15 +126,18 @@ module _ (order : OrderView) where
       pub told_no_repair : IsLostBy page vertex [] → after ≡ before ++ none_line → Told
       told_no_repair none appended = (none_line, (inr (none, refl), appended))
 
-  module _ (limits : Limits) (vertex : ℕ) (before after : List ℕ) where
+  module _ (labels : List (List ℕ)) (limits : Limits) (vertex : ℕ) (before after : List ℕ) where
     abbrev IsHigh : Type 0
     IsHigh = slice_index order.hopeful vertex ≡ top_for Hopeful (graph_of order.game)
 
+    abbrev shown : Scene
+    shown = scene_of labels order.game order.diagram
+
     abbrev Answered : Type 0
-    Answered = Appends (TellsRepair page limits vertex order.decisions order.hopeful) before after
+    Answered = Appends (TellsRepair shown limits vertex order.decisions order.hopeful) before after
 
     pub told_hopeless : IsHigh → Appends (TellsRetractions page limits vertex true order.decisions) before after → Answered
-    told_hopeless high (text, (tells, appended)) = (text, (inl (high, tells), appended))
+    told_hopeless high (text, (tells, appended)) = (text, (inl (high, same_retractions labels order.game order.diagram limits vertex true order.decisions text tells), appended))
 
     -- the winner on the page itself
     pub page_effect : (given : List Decision) (e f : Effect) → given ≡ order.decisions → e ≡ f → IsEffect page limits vertex false (choices given) e → IsEffect page limits vertex false (choices order.decisions) f
@@ -150,12 +155,14 @@ module _ (order : OrderView) where
         by effects.Unsettled a b s = absurd (b refl)
 
     pub told_lost_in_fact : ¬ IsHigh → IsLostBy page vertex (choices order.decisions) → Appends (TellsRetractions page limits vertex false order.decisions) before after → Answered
-    told_lost_in_fact low lost (text, (tells, appended)) = (text, (inr (low, inl (lost, tells)), appended))
+    told_lost_in_fact low lost (text, (tells, appended)) = (text, (inr (low, inl (lost, same_retractions labels order.game order.diagram limits vertex false order.decisions text tells)), appended))
 
-    pub told_possible : (identifier : ℕ) → identifier ≡ slice_index (vertex_ids order.game.vertices) vertex → ¬ IsHigh → HasWinner page vertex (choices order.decisions) →
-        after ≡ before ++ other_line Hopeful identifier → Answered
-    told_possible identifier same low winner appended =
-        (other_line Hopeful (identifier_of page vertex), (inr (low, inr (inl (winner, refl))), appended ∙ ap (λ (n : ℕ). before ++ other_line Hopeful n) same))
+    pub told_possible : (identifier : ℕ) (label : List ℕ) → identifier ≡ slice_index (vertex_ids order.game.vertices) vertex → label ≡ label_of labels vertex → ¬ IsHigh → HasWinner page vertex (choices order.decisions) →
+        after ≡ before ++ other_line Hopeful identifier label → Answered
+    told_possible identifier label same label_is low winner appended = (
+      other_line Hopeful (identifier_of shown vertex) (label_in shown vertex),
+      (inr (low, inr (inl (winner, refl))), appended ∙ ap₂ (λ (n : ℕ) (l : List ℕ). before ++ other_line Hopeful n l) same label_is),
+    )
 
     pub told_unsettled_page : ¬ IsHigh → (SearchEnds page limits (aims.Won Hopeful vertex) (choices order.decisions) → ⊥) → after ≡ before ++ unsettled_line → Answered
     told_unsettled_page low short appended = (unsettled_line, (inr (low, inr (inr (short, refl))), appended))

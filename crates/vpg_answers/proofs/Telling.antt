@@ -10,6 +10,7 @@ use Rattle.vpg_sides.specs.declared.which.Which.{Which}
 use Rattle.vpg_sides.specs.declared.which.Which.TheVariants.{Hopeful, Dual}
 use Rattle.vpg_partial.specs.TableLaws.{AreAmong, IsKnownTable}
 use Rattle.vpg_partial.specs.declared.decision.Decision.{Decision}
+use Rattle.vpg_texts.specs.Labels.{label_of}
 use Rattle.vpg_texts.specs.Scene.{Scene, scene_of}
 use Rattle.vpg_texts.proofs.Shown.{named_below}
 use Rattle.vpg_why.specs.Explained.{choices, Explains}
@@ -34,15 +35,12 @@ use Rattle.vpg_checking.specs.Behaviours.{Behaviour}
 use Rattle.vpg_answers.specs.declared.query.Query.{Query}
 use Rattle.vpg_answers.specs.Texts.{verdict_line, other_line, lost_line, known_line, conflict_line, product_line, none_line, unsettled_line, offers_text, forced_text}
 use Rattle.vpg_script.specs.Answer.{Answer}
-use Rattle.vpg_answers.specs.Answers.{identifier_of, TellsVerdict, TellsVertex, TellsKnownBy, TellsConflict, TellsExample, TellsLost, TellsForced, TellsOffers, Tells, lost_for, forced_word, IsAnswer, Appends}
+use Rattle.vpg_answers.specs.Answers.{identifier_of, label_in, TellsVerdict, TellsVertex, TellsKnownBy, TellsConflict, TellsExample, TellsLost, TellsForced, TellsOffers, Tells, lost_for, lost_label, forced_word, IsAnswer, Appends}
 use Rattle.vpg_answers.specs.Offers.{AreOffers}
 use Rattle.vpg_answers.specs.declared.offers.Offered.{Offered}
 use Rattle.vpg_answers.specs.Room.{RoundsSettleEach, RoundsSettleFor, SearchEnds}
 
 module _ (order : OrderView) (is : IsOrder order) where
-  abbrev scene : Scene
-  scene = scene_of order.game order.diagram
-
   pub names_length : (names : List (List ℕ)) → names ≡ order.diagram.names → (feature : ℕ) → feature < length order.diagram.names → feature < length names
   names_length names names_is feature less = rw names_is less
 
@@ -51,30 +49,35 @@ module _ (order : OrderView) (is : IsOrder order) where
   listed_below names names_is listed among =
       named_below order.diagram.lines (length names) listed (among_named order.diagram.lines (choices listed) (choices order.decisions) among is.named) (ap length names_is ∙ is.diagram.each_named)
 
-  pub answers : (behaviour : Option Behaviour) (limits : Limits) (query : Query) (answer : Answer) → Tells behaviour scene limits query order.decisions order.hopeful order.dual answer →
-      IsAnswer behaviour scene limits query order.decisions order.hopeful order.dual answer
-  answers behaviour limits query answer tells = record { diagram = is.diagram.diagram; named = is.named; tells = tells }
+  pub answers : (labels : List (List ℕ)) (behaviour : Option Behaviour) (limits : Limits) (query : Query) (answer : Answer) →
+      Tells behaviour (scene_of labels order.game order.diagram) limits query order.decisions order.hopeful order.dual answer →
+      IsAnswer behaviour (scene_of labels order.game order.diagram) limits query order.decisions order.hopeful order.dual answer
+  answers labels behaviour limits query answer tells = record { diagram = is.diagram.diagram; named = is.named; tells = tells }
 
-module _ (order : OrderView) (names : List (List ℕ)) (names_is : names ≡ order.diagram.names) where
+module _ (labels : List (List ℕ)) (order : OrderView) (names : List (List ℕ)) (names_is : names ≡ order.diagram.names) where
   abbrev page : Scene
-  page = scene_of order.game order.diagram
+  page = scene_of labels order.game order.diagram
 
-  module _ (which : Which) (vertex identifier : ℕ) (identifier_is : identifier ≡ slice_index (vertex_ids order.game.vertices) vertex) (before after : List ℕ) where
+  module _ (which : Which) (vertex identifier : ℕ) (identifier_is : identifier ≡ slice_index (vertex_ids order.game.vertices) vertex) (label : List ℕ) (label_is : label ≡ label_of labels vertex) (before after : List ℕ) where
     pub told_verdict : (limits : Limits) (listed : List Decision) (exact : Bool) → (RoundsSettleEach page limits.rounds which (choices order.decisions) → IsTrue exact) →
         slice_index (order_table which order) vertex ≡ top_for which (graph_of order.game) →
-        Explains (Suffice order.game order.diagram (asks.Verdict which vertex)) order.decisions listed exact → after ≡ before ++ verdict_line names which identifier listed exact →
+        Explains (Suffice order.game order.diagram (asks.Verdict which vertex)) order.decisions listed exact → after ≡ before ++ verdict_line names which identifier label listed exact →
         Appends (TellsVerdict page limits which vertex order.decisions (order_table which order)) before after
     told_verdict limits listed exact settled high explains appended = (
-      verdict_line order.diagram.names which (identifier_of page vertex) listed exact,
+      verdict_line order.diagram.names which (identifier_of page vertex) (label_in page vertex) listed exact,
       (
         inl (high, (listed, exact, explains, refl, settled)),
-        appended ∙ ap₂ (λ (ns : List (List ℕ)) (n : ℕ). before ++ verdict_line ns which n listed exact) names_is identifier_is,
+        appended ∙ ap (λ (ns : List (List ℕ)). before ++ verdict_line ns which identifier label listed exact) names_is
+            ∙ ap₂ (λ (n : ℕ) (l : List ℕ). before ++ verdict_line order.diagram.names which n l listed exact) identifier_is label_is,
       ),
     )
 
-    pub told_other : (limits : Limits) → ¬ (slice_index (order_table which order) vertex ≡ top_for which (graph_of order.game)) → after ≡ before ++ other_line which identifier →
+    pub told_other : (limits : Limits) → ¬ (slice_index (order_table which order) vertex ≡ top_for which (graph_of order.game)) → after ≡ before ++ other_line which identifier label →
         Appends (TellsVerdict page limits which vertex order.decisions (order_table which order)) before after
-    told_other limits low appended = (other_line which (identifier_of page vertex), (inr (low, refl), appended ∙ ap (λ (n : ℕ). before ++ other_line which n) identifier_is))
+    told_other limits low appended = (
+      other_line which (identifier_of page vertex) (label_in page vertex),
+      (inr (low, refl), appended ∙ ap₂ (λ (n : ℕ) (l : List ℕ). before ++ other_line which n l) identifier_is label_is),
+    )
 
   -- ---- products that meet an aim
 
@@ -88,13 +91,13 @@ module _ (order : OrderView) (names : List (List ℕ)) (names_is : names ≡ ord
     room cs (settles, enough) = (aim_settles limits.rounds aim cs settles, enough)
 
     pub told_lost : (listed : List Decision) (exact : Bool) → (EachIsSettled order.game order.diagram limits (asks.Lost aim) (choices order.decisions) → IsTrue exact) →
-        Explains (Suffice order.game order.diagram (asks.Lost aim)) order.decisions listed exact → after ≡ before ++ lost_line (lost_for page aim) names listed exact →
+        Explains (Suffice order.game order.diagram (asks.Lost aim)) order.decisions listed exact → after ≡ before ++ lost_line (lost_for page aim) (lost_label page aim) names listed exact →
         Appends (TellsLost page limits aim order.decisions) before after
     told_lost listed exact settled explains appended = (
-      lost_line (lost_for page aim) order.diagram.names listed exact,
+      lost_line (lost_for page aim) (lost_label page aim) order.diagram.names listed exact,
       (
         inl (listed, exact, explains, refl, λ ends. settled (λ own among. room own (ends own among))),
-        appended ∙ ap (λ (ns : List (List ℕ)). before ++ lost_line (lost_for page aim) ns listed exact) names_is,
+        appended ∙ ap (λ (ns : List (List ℕ)). before ++ lost_line (lost_for page aim) (lost_label page aim) ns listed exact) names_is,
       ),
     )
 

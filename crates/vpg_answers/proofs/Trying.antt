@@ -94,7 +94,7 @@ module _ (game : NamedGame) (diagram : NamedDiagram) (limits : Limits) (vertex :
   Found_is found = IsSought game diagram (aims.Won Hopeful vertex) chosen found
 
   abbrev Ends : Type 0
-  Ends = SearchEnds (scene_of game diagram) limits (aims.Won Hopeful vertex) chosen
+  Ends = SearchEnds (scene_of [] game diagram) limits (aims.Won Hopeful vertex) chosen
 
   abbrev Settled : Type 0
   Settled = IsSettled game diagram limits (asks.Lost (aims.Won Hopeful vertex)) chosen
@@ -103,13 +103,13 @@ module _ (game : NamedGame) (diagram : NamedDiagram) (limits : Limits) (vertex :
   room_of s = (s.0, s.1)
 
   -- the table of these choices is settled too
-  pub verdict_room : Ends → RoundsSettle (scene_of game diagram) limits.rounds Hopeful chosen
-  verdict_room s = subst (λ (cs : List Literal). RoundsSettle (scene_of game diagram) limits.rounds Hopeful cs) (append-nil chosen) (s.0 [])
+  pub verdict_room : Ends → RoundsSettle (scene_of [] game diagram) limits.rounds Hopeful chosen
+  verdict_room s = subst (λ (cs : List Literal). RoundsSettle (scene_of [] game diagram) limits.rounds Hopeful cs) (append-nil chosen) (s.0 [])
 
-  pub found_winner : (found : Found) (e : Example) → found ≡ founds.Product e → Found_is found → HasWinner (scene_of game diagram) vertex chosen
+  pub found_winner : (found : Found) (e : Example) → found ≡ founds.Product e → Found_is found → HasWinner (scene_of [] game diagram) vertex chosen
   found_winner found e is so = let p = subst Found_is is so in (e.features.items, p.0, p.1)
 
-  pub found_lost : (found : Found) → found ≡ founds.Nothing → Found_is found → IsLostBy (scene_of game diagram) vertex chosen
+  pub found_lost : (found : Found) → found ≡ founds.Nothing → Found_is found → IsLostBy (scene_of [] game diagram) vertex chosen
   found_lost found is so = subst Found_is is so
 
   pub found_short : (found : Found) → found ≡ founds.Unsettled → (Settled → found ≢ founds.Unsettled) → Ends → ⊥

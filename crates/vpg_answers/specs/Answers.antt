@@ -20,6 +20,7 @@ use Rattle.vpg_script.specs.declared.command.PageQuestion.TheVariants as whole
 use Rattle.vpg_script.specs.declared.command.VertexQuestion.{VertexQuestion}
 use Rattle.vpg_script.specs.declared.command.VertexQuestion.TheVariants as questions
 use Rattle.vpg_script.specs.Answer.{Answer, IsDone}
+use Rattle.vpg_texts.specs.Labels.{label_of, beside}
 use Rattle.vpg_texts.specs.Scene.{Scene, table_in}
 use Rattle.vpg_why.specs.Explained.{choices, Explains}
 use Rattle.vpg_why.specs.Products.{MeetsIn, NoneMeetsIn, IsFirstIn, AreNeedsIn}
@@ -60,15 +61,20 @@ IsReason scene question decisions listed exact = Explains (MakeSo scene question
 abbrev pub identifier_of : Scene → ℕ → ℕ
 identifier_of scene vertex = slice_index scene.identifiers vertex
 
+-- the name that stands at the end of lines about a vertex
+abbrev pub label_in : Scene → ℕ → List ℕ
+label_in scene vertex = label_of scene.labels vertex
+
 -- The page's table has the top at the vertex, and these decisions are the reason, exactly if the limits leave room for
 -- each list of decisions; or it hasn't.
 abbrev pub TellsVerdict : Scene → Limits → Which → (vertex : ℕ) → List Decision → (table text : List ℕ) → Type 0
 TellsVerdict scene limits which vertex decisions table text =
     ((slice_index table vertex ≡ top_for which scene.game)
     × ((listed : List Decision) × (exact : Bool) × IsReason scene (asks.Verdict which vertex) decisions listed exact ×
-    (text ≡ verdict_line scene.names which (identifier_of scene vertex) listed exact)
+    (text ≡ verdict_line scene.names which (identifier_of scene vertex) (label_in scene vertex) listed exact)
     × (RoundsSettleEach scene limits.rounds which (choices decisions) → IsTrue exact)))
-    ⊎ (¬ (slice_index table vertex ≡ top_for which scene.game) × (text ≡ other_line which (identifier_of scene vertex)))
+    ⊎ (¬ (slice_index table vertex ≡ top_for which scene.game)
+    × (text ≡ other_line which (identifier_of scene vertex) (label_in scene vertex)))
 
 -- the text of both verdicts of a vertex
 abbrev pub TellsVertex : Scene → Limits → (vertex : ℕ) → List Decision → (hopeful dual text : List ℕ) → Type 0
@@ -132,12 +138,17 @@ abbrev pub lost_for : Scene → Aim → List ℕ
 lost_for scene aims.Any = codes "empty"
 lost_for scene (aims.Won which vertex) = lost_head which (identifier_of scene vertex)
 
+-- the name at the end of this line
+abbrev pub lost_label : Scene → Aim → List ℕ
+lost_label scene aims.Any = []
+lost_label scene (aims.Won which vertex) = label_in scene vertex
+
 -- These decisions of the page alone leave no such product, exactly if the limits leave room for each list of them; or
 -- there is one; or the limits leave no room.
 abbrev pub TellsLost : Scene → Limits → Aim → List Decision → (text : List ℕ) → Type 0
 TellsLost scene limits aim decisions text =
     ((listed : List Decision) × (exact : Bool) × IsReason scene (asks.Lost aim) decisions listed exact ×
-    (text ≡ lost_line (lost_for scene aim) scene.names listed exact)
+    (text ≡ lost_line (lost_for scene aim) (lost_label scene aim) scene.names listed exact)
     × (EachSearchEnds scene limits aim (choices decisions) → IsTrue exact))
     ⊎ TellsProduct scene limits aim decisions text
     ⊎ (¬ (SearchEnds scene limits aim (choices decisions)) × (text ≡ unsettled_line))
@@ -206,7 +217,8 @@ TellsRepair scene limits vertex decisions hopeful text =
     × TellsRetractions scene limits vertex true decisions text)
     ⊎ (¬ (slice_index hopeful vertex ≡ top_for Hopeful scene.game)
     × ((IsLostBy scene vertex (choices decisions) × TellsRetractions scene limits vertex false decisions text)
-    ⊎ (HasWinner scene vertex (choices decisions) × (text ≡ other_line Hopeful (identifier_of scene vertex)))
+    ⊎ (HasWinner scene vertex (choices decisions)
+    × (text ≡ other_line Hopeful (identifier_of scene vertex) (label_in scene vertex)))
     ⊎ (¬ (SearchEnds scene limits (aims.Won Hopeful vertex) (choices decisions)) × (text ≡ unsettled_line))))
 
 -- ---- moves
@@ -215,7 +227,7 @@ TellsRepair scene limits vertex decisions hopeful text =
 abbrev pub TellsWinning : Scene → Limits → (mover : Which) → (vertex : ℕ) → List Decision → (text : List ℕ) → Type 0
 TellsWinning scene limits mover vertex decisions text =
     ((moves : List (Option ℕ)) × AreWinning scene.game scene.lines (choices decisions) mover vertex moves ×
-    (text ≡ moves_text (moves_word mover) scene.identifiers moves))
+    (text ≡ moves_text (moves_word mover) scene.identifiers scene.labels moves))
     ⊎ (¬ (ChoicesSettleInCaution limits.rounds scene.game scene.lines (choices decisions) mover)
     × (text ≡ unsettled_line))
 
@@ -227,7 +239,7 @@ TellsMoves scene limits mover vertex decisions table text =
     ((slice_index table vertex ≡ top_for (other_table mover) scene.game)
     × TellsWinning scene limits mover vertex decisions text)
     ⊎ (¬ (slice_index table vertex ≡ top_for (other_table mover) scene.game)
-    × (text ≡ other_line (other_table mover) (identifier_of scene vertex)))
+    × (text ≡ other_line (other_table mover) (identifier_of scene vertex) (label_in scene vertex)))
 
 -- ---- traces
 
@@ -248,20 +260,20 @@ abbrev pub TellsTraced : Option Behaviour → Scene → Limits → (vertex : ℕ
     (hopeful dual text : List ℕ) → Type 0
 TellsTraced None scene limits vertex decisions hopeful dual text = ⊥
 TellsTraced (Some behaviour) scene limits vertex decisions hopeful dual text =
-    TellsTrace (page_in scene decisions hopeful dual) behaviour limits vertex text
+    TellsTrace (page_in scene decisions hopeful dual) behaviour limits vertex (beside (label_in scene vertex)) text
 
 -- ---- who wins
 
 -- a part, with the number of products that agree with the choices and with its literals
-abbrev pub TellsPartLine : Scene → (looks identifier : ℕ) → List Literal → PartView → (text : List ℕ) → Type 0
-TellsPartLine scene looks identifier choices part text =
+abbrev pub TellsPartLine : Scene → (looks vertex : ℕ) → List Literal → PartView → (text : List ℕ) → Type 0
+TellsPartLine scene looks vertex choices part text =
     (count : Count) × IsAmount scene looks (choices ++ part.literals) count
-    × (text ≡ part_line scene.names identifier part count)
+    × (text ≡ part_line scene.names (identifier_of scene vertex) (label_in scene vertex) part count)
 
-abbrev pub TellsPartLines : Scene → (looks identifier : ℕ) → List Literal → List PartView → (text : List ℕ) → Type 0
-TellsPartLines scene looks identifier choices parts text =
+abbrev pub TellsPartLines : Scene → (looks vertex : ℕ) → List Literal → List PartView → (text : List ℕ) → Type 0
+TellsPartLines scene looks vertex choices parts text =
     (counts : List Count) × AreAmounts scene looks choices parts counts
-    × (text ≡ part_lines scene.names identifier parts counts)
+    × (text ≡ part_lines scene.names (identifier_of scene vertex) (label_in scene vertex) parts counts)
 
 -- The products left, in parts by the winner at the vertex. Each line has the number of products that agree with it, or
 -- a lower bound.
@@ -269,7 +281,7 @@ abbrev pub TellsWinners : Scene → Limits → (vertex : ℕ) → List Decision 
 TellsWinners scene limits vertex decisions text =
     (parts : List PartView) × (counts : List Count) × AreWinners scene limits vertex (choices decisions) parts
     × AreAmounts scene (looks_each limits.trials (length parts)) (choices decisions) parts counts
-    × (text ≡ winners_text scene.names (identifier_of scene vertex) parts counts)
+    × (text ≡ winners_text scene.names (identifier_of scene vertex) (label_in scene vertex) parts counts)
 
 -- a product left that Even wins, and one that Odd wins, the first ones if the limits leave room
 abbrev pub TellsMixed : Scene → Limits → (vertex : ℕ) → List Decision → (text : List ℕ) → Type 0
@@ -277,7 +289,7 @@ TellsMixed scene limits vertex decisions text =
     (won : List Bool) × (lost : List Bool) × (first : Bool) × (second : Bool) ×
     IsExample scene (aims.Won Hopeful vertex) (choices decisions) won first
     × IsExample scene (aims.Won Dual vertex) (choices decisions) lost second
-    × (text ≡ mixed_text scene.names (identifier_of scene vertex) won first lost second)
+    × (text ≡ mixed_text scene.names (identifier_of scene vertex) (label_in scene vertex) won first lost second)
     × (BothSearchesEnd scene limits vertex (choices decisions) → IsTrue first × IsTrue second)
 
 -- Even wins in each product left, or Odd does, and there is one; or each of them wins in some; or no product is left;
@@ -285,9 +297,9 @@ TellsMixed scene limits vertex decisions text =
 abbrev pub TellsDecided : Scene → Limits → (vertex : ℕ) → List Decision → (text : List ℕ) → Type 0
 TellsDecided scene limits vertex decisions text =
     (HasRemaining scene.lines (choices decisions) × WinsEach scene.game scene.lines (choices decisions) Even vertex
-    × (text ≡ fact_line Dual (identifier_of scene vertex)))
+    × (text ≡ fact_line Dual (identifier_of scene vertex) (label_in scene vertex)))
     ⊎ (HasRemaining scene.lines (choices decisions) × WinsEach scene.game scene.lines (choices decisions) Odd vertex
-    × (text ≡ fact_line Hopeful (identifier_of scene vertex)))
+    × (text ≡ fact_line Hopeful (identifier_of scene vertex) (label_in scene vertex)))
     ⊎ TellsMixed scene limits vertex decisions text
     ⊎ (NoneRemains scene.lines (choices decisions) × (text ≡ empty_line))
     ⊎ (¬ (BothSearchesEnd scene limits vertex (choices decisions)) × (text ≡ unsettled_line))
@@ -378,15 +390,20 @@ IsWithin behaviour vertices features (queries.OfChoice feature value) = feature 
 IsWithin behaviour vertices features (queries.OfPage question) = ⊤
 IsWithin behaviour vertices features (queries.OfExact verdict vertex) = vertex < vertices
 
+-- some line ends in this mark, and perhaps in a name behind it
+abbrev pub EndsIn : (mark text : List ℕ) → Type 0
+EndsIn mark text = (before : List ℕ) × (name : List ℕ) × (behind : List ℕ)
+    × (text ≡ before ++ mark ++ beside name ++ codes "\n" ++ behind)
+
 -- A limit was met. Some line says that fewer decisions may do, or that there may be more lines or products. Or the text
 -- gives some product, or only says that it is unsettled; or it is unsettled what some decision would change, or whether
 -- what is asserted holds. Or a product of a mixed vertex need not be the first.
 abbrev pub HasDoubt : List ℕ → Type 0
 HasDoubt text =
-    ((before : List ℕ) × (behind : List ℕ) × (text ≡ before ++ codes " or fewer\n" ++ behind))
+    EndsIn (codes " or fewer") text
     ⊎ ((behind : List ℕ) × (text ≡ codes "some product" ++ behind))
     ⊎ (text ≡ unsettled_line)
     ⊎ ((before : List ℕ) × (behind : List ℕ) × (text ≡ codes "offer" ++ before ++ codes " unsettled" ++ behind))
-    ⊎ ((before : List ℕ) × (behind : List ℕ) × (text ≡ before ++ codes " or more\n" ++ behind))
+    ⊎ EndsIn (codes " or more") text
     ⊎ (text ≡ codes "fails unsettled\n")
     ⊎ ((before : List ℕ) × (behind : List ℕ) × (text ≡ codes "mixed" ++ before ++ codes "\nsome product" ++ behind))

@@ -12,6 +12,7 @@ use crate::{
 };
 use std::alloc::{AllocError, Global};
 use vpg_checking::Behaviour;
+use vpg_game::VertexNames;
 use vpg_measure::Order;
 use vpg_script::{PageQuestion, Tone, VertexQuestion, done};
 use vpg_sides::Which;
@@ -21,6 +22,7 @@ use vpg_why::{Aim, Limits};
 fn of_vertex(
     alloc: Global,
     order: &Order,
+    labels: &VertexNames,
     behaviour: &Option<Behaviour>,
     question: VertexQuestion,
     vertex: u32,
@@ -30,11 +32,11 @@ fn of_vertex(
     requires vertex { vertex < length order.now.game.vertices }
     requires system { HasItsSystem (feature_count order.now.diagram.lines) behaviour.now question }
     ensures { OnOk result (Appends
-        (TellsOfVertex behaviour.now (scene_of order.now.game order.now.diagram) limits question vertex order.now.decisions
-        order.now.hopeful order.now.dual) out.old.items out.new.items) }
+        (TellsOfVertex behaviour.now (scene_of labels.now.names order.now.game order.now.diagram) limits question
+        vertex order.now.decisions order.now.hopeful order.now.dual) out.old.items out.new.items) }
 {
     match question {
-        VertexQuestion::Why => reasons::vertex(alloc, order, vertex, limits, out),
+        VertexQuestion::Why => reasons::vertex(alloc, order, labels, vertex, limits, out),
         VertexQuestion::Example(which) => {
             examples::example(alloc, order, Aim::Won { which, vertex }, limits, out)
         }
@@ -43,15 +45,20 @@ fn of_vertex(
             let which = Which::Hopeful;
             needs::forced(alloc, order, Aim::Won { which, vertex }, limits, out)
         }
-        VertexQuestion::Repair => repairs::repairs_at(alloc, order, vertex, limits, out),
+        VertexQuestion::Repair => repairs::repairs_at(alloc, order, labels, vertex, limits, out),
         VertexQuestion::Lost(which) => {
-            losses::loss(alloc, order, Aim::Won { which, vertex }, limits, out)
+            let aim = Aim::Won { which, vertex };
+            losses::loss(alloc, order, labels, aim, limits, out)
         }
-        VertexQuestion::Moves(mover) => winning::moves(alloc, order, mover, vertex, limits, out),
-        VertexQuestion::Draw => drawing::part(alloc, order, vertex, limits, out),
-        VertexQuestion::Trace => traces::trace(alloc, order, behaviour, vertex, limits, out),
-        VertexQuestion::Winners => winners::partition(alloc, order, vertex, limits, out),
-        VertexQuestion::Decide => deciding::decided(alloc, order, vertex, limits, out),
+        VertexQuestion::Moves(mover) => {
+            winning::moves(alloc, order, labels, mover, vertex, limits, out)
+        }
+        VertexQuestion::Draw => drawing::part(alloc, order, labels, vertex, limits, out),
+        VertexQuestion::Trace => {
+            traces::trace(alloc, order, labels, behaviour, vertex, limits, out)
+        }
+        VertexQuestion::Winners => winners::partition(alloc, order, labels, vertex, limits, out),
+        VertexQuestion::Decide => deciding::decided(alloc, order, labels, vertex, limits, out),
     }
 }
 
@@ -59,17 +66,18 @@ fn of_vertex(
 fn of_page(
     alloc: Global,
     order: &Order,
+    labels: &VertexNames,
     question: PageQuestion,
     limits: Limits,
     out: &mut Vec<u8>,
 ) -> Result<(), AllocError>
     ensures { OnOk result (Appends
-        (TellsOfPage (scene_of order.now.game order.now.diagram) limits question order.now.decisions)
+        (TellsOfPage (scene_of labels.now.names order.now.game order.now.diagram) limits question order.now.decisions)
         out.old.items out.new.items) }
 {
     match question {
         PageQuestion::Forced => needs::forced(alloc, order, Aim::Any, limits, out),
-        PageQuestion::Empty => losses::loss(alloc, order, Aim::Any, limits, out),
+        PageQuestion::Empty => losses::loss(alloc, order, labels, Aim::Any, limits, out),
         PageQuestion::Number => numbers::left(alloc, order, limits, out),
     }
 }
@@ -78,6 +86,7 @@ fn of_page(
 fn told(
     alloc: Global,
     order: &Order,
+    labels: &VertexNames,
     behaviour: &Option<Behaviour>,
     query: Query,
     limits: Limits,
@@ -86,32 +95,35 @@ fn told(
     requires { IsWithin behaviour.now (length order.now.game.vertices) (feature_count order.now.diagram.lines) query }
     ensures { IfOk result
         (λ tone. Gives
-        (IsAnswer behaviour.now (scene_of order.now.game order.now.diagram) limits query order.now.decisions
-        order.now.hopeful order.now.dual) tone out.old.items out.new.items) }
+        (IsAnswer behaviour.now (scene_of labels.now.names order.now.game order.now.diagram) limits query
+        order.now.decisions order.now.hopeful order.now.dual) tone out.old.items out.new.items) }
 {
     // The invariant of every order, for the proof.
     let _order = order.game();
     match query {
         Query::OfVertex { question, vertex } => {
-            done(of_vertex(alloc, order, behaviour, question, vertex, limits, out))
+            done(of_vertex(
+                alloc, order, labels, behaviour, question, vertex, limits, out,
+            ))
         }
         Query::OfFeature { feature } => reasons::feature(alloc, order, feature, out),
         Query::OfChoice { feature, value } => reasons::choice(alloc, order, feature, value, out),
-        Query::OfPage { question } => done(of_page(alloc, order, question, limits, out)),
+        Query::OfPage { question } => done(of_page(alloc, order, labels, question, limits, out)),
         Query::OfExact { verdict, vertex } => {
             asserting::exact(alloc, order, verdict, vertex, limits, out)
         }
     }
 }
 
-/// Appends the answer to a query about an order's page, and returns its tone. The one error is out of memory; a part
-/// may have been appended then.
+/// Appends the answer to a query about an order's page, and returns its tone. Lines about vertices end with the names
+/// of these. The one error is out of memory; a part may have been appended then.
 ///
 /// A trace needs the system that the order's game was made of, over the features of its diagram; no other query does.
 /// The function takes the order, since dropping it costs the prover time: it is dropped only here.
 pub fn answer(
     alloc: Global,
     order: Order,
+    labels: &VertexNames,
     behaviour: &Option<Behaviour>,
     query: Query,
     limits: Limits,
@@ -120,8 +132,8 @@ pub fn answer(
     requires { IsWithin behaviour.now (length order.game.vertices) (feature_count order.diagram.lines) query }
     ensures { IfOk result
         (λ tone. Gives
-        (IsAnswer behaviour.now (scene_of order.game order.diagram) limits query order.decisions order.hopeful
-        order.dual) tone out.old.items out.new.items) }
+        (IsAnswer behaviour.now (scene_of labels.now.names order.game order.diagram) limits query order.decisions
+        order.hopeful order.dual) tone out.old.items out.new.items) }
 {
-    told(alloc, &order, behaviour, query, limits, out)
+    told(alloc, &order, labels, behaviour, query, limits, out)
 }

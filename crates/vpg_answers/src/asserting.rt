@@ -1,5 +1,5 @@
 //! Whether a vertex has an exact verdict.
-ghost use Rattle.std.specs.Prelude.{◌≡◌, ◌<◌, IfOk, length};
+ghost use Rattle.std.specs.Prelude.{[], ◌≡◌, ◌<◌, IfOk, length};
 ghost use Rattle.vpg_answers.specs.Asserted.{TellsExact, exact_answer, exact_word, failing, is_same};
 ghost use Rattle.vpg_script.specs.Answer.{Gives, IsGiven};
 ghost use Rattle.vpg_texts.specs.Scene.{scene_of};
@@ -78,7 +78,7 @@ pub(crate) fn exact(
     requires { vertex < length order.now.game.vertices }
     ensures { IfOk result
         (λ tone. Gives
-        (TellsExact (scene_of order.now.game order.now.diagram) limits asserted vertex order.now.decisions) tone
+        (TellsExact (scene_of [] order.now.game order.now.diagram) limits asserted vertex order.now.decisions) tone
         out.old.items out.new.items) }
 {
     // The invariant of every order, for the proof.

@@ -8,6 +8,7 @@ use crate::lines;
 use crate::reasons::{identifier, names};
 use std::alloc::{AllocError, Global};
 use vpg_features::Names;
+use vpg_game::VertexNames;
 use vpg_measure::Order;
 use vpg_sides::Which;
 use vpg_texts::blank_number;
@@ -15,11 +16,11 @@ use vpg_why::{Example, Limits};
 use vpg_winners::{Decided, decide};
 
 /// Appends that the vertex is lost in each product left, or won.
-fn fact(which: Which, identifier: u32, out: &mut Vec<u8>) -> Result<(), AllocError>
-    ensures { OnOk result (out.new.items ≡ out.old.items ++ fact_line which identifier) }
+fn fact(which: Which, identifier: u32, label: &[u8], out: &mut Vec<u8>) -> Result<(), AllocError>
+    ensures { OnOk result (out.new.items ≡ out.old.items ++ fact_line which identifier label.now) }
 {
     lines::lost_head(which, identifier, out)?;
-    out.extend_from_slice(b"\n")
+    lines::end(label, out)
 }
 
 /// Appends that no product is left.
@@ -29,26 +30,28 @@ fn empty(out: &mut Vec<u8>) -> Result<(), AllocError>
     out.extend_from_slice(b"empty\n")
 }
 
-fn mixed_head(identifier: u32, out: &mut Vec<u8>) -> Result<(), AllocError>
-    ensures { OnOk result (out.new.items ≡ out.old.items ++ mixed_head identifier) }
+fn mixed_head(identifier: u32, label: &[u8], out: &mut Vec<u8>) -> Result<(), AllocError>
+    ensures { OnOk result (out.new.items ≡ out.old.items ++ mixed_head identifier label.now) }
 {
     out.extend_from_slice(b"mixed")?;
     blank_number(identifier as u64, out)?;
-    out.extend_from_slice(b"\n")
+    lines::end(label, out)
 }
 
 /// Appends a product that is won, and one that is lost.
 fn mixed(
     names: &Names,
     identifier: u32,
+    label: &[u8],
     won: &Example,
     lost: &Example,
     out: &mut Vec<u8>,
 ) -> Result<(), AllocError>
     ensures { OnOk result (out.new.items ≡ out.old.items ++
-        mixed_text names.now identifier won.now.features.items won.now.first lost.now.features.items lost.now.first) }
+        mixed_text names.now identifier label.now won.now.features.items won.now.first lost.now.features.items
+        lost.now.first) }
 {
-    mixed_head(identifier, out)?;
+    mixed_head(identifier, label, out)?;
     lines::product(names, &won.features, won.first, out)?;
     lines::product(names, &lost.features, lost.first, out)
 }
@@ -57,22 +60,24 @@ fn mixed(
 pub(crate) fn decided(
     alloc: Global,
     order: &Order,
+    labels: &VertexNames,
     vertex: u32,
     limits: Limits,
     out: &mut Vec<u8>,
 ) -> Result<(), AllocError>
     requires { vertex < length order.now.game.vertices }
     ensures { OnOk result (Appends
-        (TellsDecided (scene_of order.now.game order.now.diagram) limits vertex order.now.decisions)
+        (TellsDecided (scene_of labels.now.names order.now.game order.now.diagram) limits vertex order.now.decisions)
         out.old.items out.new.items) }
 {
     let names = names(order);
     let identifier = identifier(order, vertex);
+    let label = labels.name(vertex);
     let found = decide(alloc, order, vertex, limits)?;
     match found {
-        Decided::Won => fact(Which::Dual, identifier, out),
-        Decided::Lost => fact(Which::Hopeful, identifier, out),
-        Decided::Mixed { won, lost } => mixed(names, identifier, &won, &lost, out),
+        Decided::Won => fact(Which::Dual, identifier, label, out),
+        Decided::Lost => fact(Which::Hopeful, identifier, label, out),
+        Decided::Mixed { won, lost } => mixed(names, identifier, label, &won, &lost, out),
         Decided::Empty => empty(out),
         Decided::Unsettled => lines::unsettled(out),
     }

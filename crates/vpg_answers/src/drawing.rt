@@ -40,6 +40,7 @@ fn part_over(
     alloc: Global,
     game: &GuardedGame,
     diagram: &Diagram,
+    labels: &VertexNames,
     games: &PageGames,
     decisions: &[Decision],
     hopeful: &Table,
@@ -56,19 +57,19 @@ fn part_over(
     requires dual { length dual.now ≡ length game.now.vertices }
     requires vertex { vertex < length game.now.vertices }
     ensures { OnOk result (Appends
-        (IsPartDrawn (scene_of game.now diagram.now) vertex decisions.now hopeful.now dual.now mover moves.now)
+        (IsPartDrawn (scene_of labels.now.names game.now diagram.now) vertex decisions.now hopeful.now dual.now mover
+        moves.now)
         out.old.items out.new.items) }
 {
     let marks = reachable(alloc, game, games.known(), mover, moves, vertex)?;
     let verdicts = verdicts_by(alloc, games, game, hopeful, dual)?;
-    let names = VertexNames::none(alloc);
     draw_part(
         alloc,
         game,
         diagram.names(),
         games.known(),
         decisions,
-        &names,
+        labels,
         &verdicts,
         vertex,
         &marks,
@@ -82,6 +83,7 @@ fn part_over(
 fn drawn(
     alloc: Global,
     order: &Order,
+    labels: &VertexNames,
     vertex: u32,
     mover: Option<Player>,
     moves: &[Option<u32>],
@@ -89,13 +91,14 @@ fn drawn(
 ) -> Result<(), AllocError>
     requires { vertex < length order.now.game.vertices }
     ensures { OnOk result (Appends
-        (IsPartDrawn (scene_of order.now.game order.now.diagram) vertex order.now.decisions order.now.hopeful
-        order.now.dual mover moves.now) out.old.items out.new.items) }
+        (IsPartDrawn (scene_of labels.now.names order.now.game order.now.diagram) vertex order.now.decisions
+        order.now.hopeful order.now.dual mover moves.now) out.old.items out.new.items) }
 {
     part_over(
         alloc,
         order.game(),
         order.diagram(),
+        labels,
         order.games(),
         order.decisions(),
         order.hopeful(),
@@ -112,6 +115,7 @@ fn drawn(
 fn winning(
     alloc: Global,
     order: &Order,
+    labels: &VertexNames,
     mover: Which,
     vertex: u32,
     limits: Limits,
@@ -121,11 +125,14 @@ fn winning(
     requires verdict { slice_index (order_table (other_table mover) order.now) vertex ≡
         top_for (other_table mover) (graph_of order.now.game) }
     ensures { OnOk result (Appends
-        (DrawsWinning (scene_of order.now.game order.now.diagram) limits mover vertex order.now.decisions
-        order.now.hopeful order.now.dual) out.old.items out.new.items) }
+        (DrawsWinning (scene_of labels.now.names order.now.game order.now.diagram) limits mover vertex
+        order.now.decisions order.now.hopeful order.now.dual) out.old.items out.new.items) }
 {
     match winning_moves(alloc, order, mover, vertex, limits)? {
-        Moves::Winning(moves) => drawn(alloc, order, vertex, Some(player(mover)), &moves, out),
+        Moves::Winning(moves) => {
+            let mover = Some(player(mover));
+            drawn(alloc, order, labels, vertex, mover, &moves, out)
+        }
         Moves::Nothing => unreachable!(),
         Moves::Unsettled => lines::unsettled(out),
     }
@@ -137,20 +144,21 @@ fn winning(
 pub(crate) fn part(
     alloc: Global,
     order: &Order,
+    labels: &VertexNames,
     vertex: u32,
     limits: Limits,
     out: &mut Vec<u8>,
 ) -> Result<(), AllocError>
     requires { vertex < length order.now.game.vertices }
     ensures { OnOk result (Appends
-        (TellsPart (scene_of order.now.game order.now.diagram) limits vertex order.now.decisions order.now.hopeful
-        order.now.dual) out.old.items out.new.items) }
+        (TellsPart (scene_of labels.now.names order.now.game order.now.diagram) limits vertex order.now.decisions
+        order.now.hopeful order.now.dual) out.old.items out.new.items) }
 {
     if has_top(order, Which::Hopeful, vertex) {
-        winning(alloc, order, Which::Dual, vertex, limits, out)
+        winning(alloc, order, labels, Which::Dual, vertex, limits, out)
     } else if has_top(order, Which::Dual, vertex) {
-        winning(alloc, order, Which::Hopeful, vertex, limits, out)
+        winning(alloc, order, labels, Which::Hopeful, vertex, limits, out)
     } else {
-        drawn(alloc, order, vertex, None, &[], out)
+        drawn(alloc, order, labels, vertex, None, &[], out)
     }
 }

@@ -1,5 +1,5 @@
 //! Products that are won, or lost, at a vertex.
-ghost use Rattle.std.specs.Prelude.{OnOk};
+ghost use Rattle.std.specs.Prelude.{[], OnOk};
 ghost use Rattle.vpg_answers.specs.Answers.{Appends, TellsExample};
 ghost use Rattle.vpg_texts.specs.Scene.{scene_of};
 ghost use Rattle.vpg_why.specs.Suffices.{IsAim};
@@ -22,7 +22,7 @@ pub(crate) fn example(
 ) -> Result<(), AllocError>
     requires { IsAim order.now.game aim }
     ensures { OnOk result (Appends
-        (TellsExample (scene_of order.now.game order.now.diagram) limits aim order.now.decisions)
+        (TellsExample (scene_of [] order.now.game order.now.diagram) limits aim order.now.decisions)
         out.old.items out.new.items) }
 {
     let names = names(order);

@@ -15,6 +15,9 @@
 //! `look` answers a lookup, by the texts below. If that asserts verdicts of a vertex, or is `count`, it first looks for
 //! a product that is left.
 //!
+//! Both take names of vertices, none if none are asked for. A line about a vertex, or about a move of two, ends with
+//! them, and pictures show them.
+//!
 //! An answer is a function of the page if no limit was met (`laws::answers_are_one`), and none is met if the limits
 //! leave room. Numbers of parts then add up (`laws::numbers_add_up`). If one was met, the text says so. ` or fewer`
 //! marks decisions that suffice, some perhaps needlessly; ` or more` lines to which others may belong, or a number that

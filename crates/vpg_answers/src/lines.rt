@@ -1,7 +1,8 @@
 //! The lines of answers.
-ghost use Rattle.std.specs.Prelude.{◌≡◌, ◌<◌, ◌++◌, All, IfOk, OnOk, false, length, map, slice_index_or};
+ghost use Rattle.std.specs.Prelude.{◌≡◌, ◌<◌, ◌++◌, ◌∷◌, [], All, IfOk, OnOk, false, length, map, slice_index_or};
 ghost use Rattle.vpg_partial.specs.Known.{literal_of};
 ghost use Rattle.vpg_script.specs.Answer.{IsGiven};
+ghost use Rattle.vpg_texts.specs.Labels.{beside};
 ghost use Rattle.vpg_texts.specs.Text.{choice_text, choices_text, name_of};
 ghost use Rattle.vpg_answers.specs.Texts.{choice_line, conflict_line, doubt_text, known_line, known_word, lost_head, lost_word, more_text, names_in, no_conflict, none_line, not_known, other_line, other_word, product_line, product_word, reason_text, total_line, unsettled_line, verdict_line, verdict_word};
 
@@ -11,7 +12,7 @@ use vpg_features::Names;
 use vpg_partial::Decision;
 use vpg_script::Tone;
 use vpg_sides::Which;
-use vpg_texts::{blank_name, blank_number};
+use vpg_texts::{blank_name, blank_number, put_beside};
 
 fn name_at(names: &Names, feature: u16) -> &[u8]
     requires { feature < length names.now }
@@ -60,20 +61,29 @@ fn doubt(exact: bool, out: &mut Vec<u8>) -> Result<(), AllocError>
     Ok(())
 }
 
+/// Appends the name of a line's vertex, if it has one, and the line's end.
+pub(crate) fn end(label: &[u8], out: &mut Vec<u8>) -> Result<(), AllocError>
+    ensures { OnOk result (out.new.items ≡ out.old.items ++ beside label.now ++ 10 ∷ []) }
+{
+    put_beside(label, out)?;
+    out.push(b'\n')?;
+    Ok(())
+}
+
 /// Appends decisions that are a reason, up to the line's end.
 pub(crate) fn reason(
     names: &Names,
     listed: &[Decision],
     exact: bool,
+    label: &[u8],
     out: &mut Vec<u8>,
 ) -> Result<(), AllocError>
     requires { All (λ d. d.feature < length names.now) listed.now }
-    ensures { OnOk result (out.new.items ≡ out.old.items ++ reason_text names.now listed.now exact) }
+    ensures { OnOk result (out.new.items ≡ out.old.items ++ reason_text names.now listed.now exact label.now) }
 {
     choices(names, listed, out)?;
     doubt(exact, out)?;
-    out.push(b'\n')?;
-    Ok(())
+    end(label, out)
 }
 
 /// Appends the word of a verdict.
@@ -103,26 +113,32 @@ pub(crate) fn verdict(
     names: &Names,
     which: Which,
     identifier: u32,
+    label: &[u8],
     listed: &[Decision],
     exact: bool,
     out: &mut Vec<u8>,
 ) -> Result<(), AllocError>
     requires { All (λ d. d.feature < length names.now) listed.now }
-    ensures { OnOk result (out.new.items ≡ out.old.items ++ verdict_line names.now which identifier listed.now exact) }
+    ensures { OnOk result (out.new.items ≡
+        out.old.items ++ verdict_line names.now which identifier label.now listed.now exact) }
 {
     verdict_word(which, out)?;
     blank_number(identifier as u64, out)?;
-    reason(names, listed, exact, out)
+    reason(names, listed, exact, label, out)
 }
 
 /// Appends a vertex without the verdict.
-pub(crate) fn other(which: Which, identifier: u32, out: &mut Vec<u8>) -> Result<(), AllocError>
-    ensures { OnOk result (out.new.items ≡ out.old.items ++ other_line which identifier) }
+pub(crate) fn other(
+    which: Which,
+    identifier: u32,
+    label: &[u8],
+    out: &mut Vec<u8>,
+) -> Result<(), AllocError>
+    ensures { OnOk result (out.new.items ≡ out.old.items ++ other_line which identifier label.now) }
 {
     other_word(which, out)?;
     blank_number(identifier as u64, out)?;
-    out.push(b'\n')?;
-    Ok(())
+    end(label, out)
 }
 
 fn lost_word(which: Which, out: &mut Vec<u8>) -> Result<(), AllocError>
@@ -168,7 +184,7 @@ pub(crate) fn known(
 {
     known_word(value, out)?;
     blank_name(names, feature, out)?;
-    reason(names, listed, true, out)
+    reason(names, listed, true, b"", out)
 }
 
 /// Appends the refusal of a feature that is not known.
@@ -192,7 +208,7 @@ pub(crate) fn conflict(
 {
     out.extend_from_slice(b"conflict")?;
     choice(names, more, out)?;
-    reason(names, listed, true, out)
+    reason(names, listed, true, b"", out)
 }
 
 /// Appends the refusal of one more decision that none contradicts.

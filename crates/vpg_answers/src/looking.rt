@@ -1,6 +1,6 @@
 //! The answers to lookups.
 ghost use Rattle.std.specs.Arc.{arc_value};
-ghost use Rattle.std.specs.Prelude.{◌≡◌, ◌≤◌, All, IfOk, IsTrue, length, map, replicate, true};
+ghost use Rattle.std.specs.Prelude.{[], ◌≡◌, ◌≤◌, All, IfOk, IsTrue, length, map, replicate, true};
 ghost use Rattle.vpg_answers.specs.Looked.{IsCountAnswer, IsLeft, IsLooked, IsSeenIfLeft, asserts_verdicts, is_count, left_mark};
 ghost use Rattle.vpg_diagram.specs.FeatureDiagram.{feature_count};
 ghost use Rattle.vpg_game.specs.Game.{graph_of, vertex_ids};
@@ -18,7 +18,7 @@ use crate::asserting::failing;
 use std::alloc::{AllocError, Global};
 use std::sync::Arc;
 use vpg_diagram::Diagram;
-use vpg_game::GuardedGame;
+use vpg_game::{GuardedGame, VertexNames};
 use vpg_measure::{Order, PageGames, Table};
 use vpg_partial::Decision;
 use vpg_script::{Assertion, Lookup, Tone, done};
@@ -99,7 +99,7 @@ fn order_of(
 
 /// Returns whether a product of an order's page is left. The order is dropped.
 fn sought(alloc: Global, order: Order, limits: Limits) -> Result<Left, AllocError>
-    ensures { IfOk result (IsLeft (scene_of order.game order.diagram) limits (choices order.decisions)) }
+    ensures { IfOk result (IsLeft (scene_of [] order.game order.diagram) limits (choices order.decisions)) }
 {
     let found = find(alloc, &order, Aim::Any, limits)?;
     match found {
@@ -140,7 +140,7 @@ fn left_on(
         (arc_value games.now) }
     requires named { AreChoicesOf (arc_value diagram.now).lines (map literal_of decisions.now) }
     ensures { IfOk result
-        (IsLeft (scene_of (arc_value game.now) (arc_value diagram.now)) limits (choices decisions.now)) }
+        (IsLeft (scene_of [] (arc_value game.now) (arc_value diagram.now)) limits (choices decisions.now)) }
 {
     let order = order_of(alloc, games, game, diagram, decisions)?;
     sought(alloc, order, limits)
@@ -177,7 +177,7 @@ fn counted(
     requires dual_within { All (λ n. n ≤ top_for Which.Dual (graph_of (arc_value game.now))) page.now.dual }
     ensures { IfOk result
         (λ tone. Gives
-        (IsCountAnswer (scene_of (arc_value game.now) (arc_value diagram.now)) limits
+        (IsCountAnswer (scene_of [] (arc_value game.now) (arc_value diagram.now)) limits
         page.now.decisions page.now.hopeful page.now.dual) tone out.old.items out.new.items) }
 {
     let decisions = page.decisions.as_slice();
@@ -209,6 +209,7 @@ fn seen(
     page: &Page,
     game: &Arc<GuardedGame>,
     diagram: &Arc<Diagram>,
+    labels: &VertexNames,
     lookup: &Lookup<'_>,
     limits: Limits,
     out: &mut Vec<u8>,
@@ -226,11 +227,12 @@ fn seen(
     requires dual_within { All (λ n. n ≤ top_for Which.Dual (graph_of (arc_value game.now))) page.now.dual }
     ensures { IfOk result
         (λ tone. Gives
-        (IsSeenIfLeft (scene_of (arc_value game.now) (arc_value diagram.now)) limits (lookup_shown lookup.now)
+        (IsSeenIfLeft (scene_of labels.now.names (arc_value game.now) (arc_value diagram.now)) limits
+        (lookup_shown lookup.now)
         page.now.entries page.now.decisions page.now.hopeful page.now.dual) tone out.old.items out.new.items) }
 {
     if !asserts_verdicts(lookup) {
-        return look_over(alloc, games, page, game, diagram, lookup, out);
+        return look_over(alloc, games, page, game, diagram, labels, lookup, out);
     }
     let left = left_on(
         alloc,
@@ -241,7 +243,7 @@ fn seen(
         limits,
     )?;
     match left {
-        Left::Product => look_over(alloc, games, page, game, diagram, lookup, out),
+        Left::Product => look_over(alloc, games, page, game, diagram, labels, lookup, out),
         Left::Nothing => failing(b"empty", out),
         Left::Unsettled => failing(b"unsettled", out),
     }
@@ -256,6 +258,7 @@ pub fn look(
     page: &Page,
     game: &Arc<GuardedGame>,
     diagram: &Arc<Diagram>,
+    labels: &VertexNames,
     lookup: &Lookup<'_>,
     limits: Limits,
     out: &mut Vec<u8>,
@@ -273,11 +276,14 @@ pub fn look(
     requires dual_within { All (λ n. n ≤ top_for Which.Dual (graph_of (arc_value game.now))) page.now.dual }
     ensures { IfOk result
         (λ tone. Gives
-        (IsLooked (scene_of (arc_value game.now) (arc_value diagram.now)) limits (lookup_shown lookup.now)
+        (IsLooked (scene_of labels.now.names (arc_value game.now) (arc_value diagram.now)) limits
+        (lookup_shown lookup.now)
         page.now.entries page.now.decisions page.now.hopeful page.now.dual) tone out.old.items out.new.items) }
 {
     if is_count(lookup) {
         return counted(alloc, games, page, game, diagram, limits, out);
     }
-    seen(alloc, games, page, game, diagram, lookup, limits, out)
+    seen(
+        alloc, games, page, game, diagram, labels, lookup, limits, out,
+    )
 }

@@ -1,6 +1,6 @@
 //! Why no product left meets an aim: why a vertex is lost, or won, in each of them, or why none is left.
 ghost use Rattle.std.specs.Prelude.{◌≡◌, ◌<◌, ◌++◌, All, OnOk, length};
-ghost use Rattle.vpg_answers.specs.Answers.{Appends, TellsLost, lost_for};
+ghost use Rattle.vpg_answers.specs.Answers.{Appends, TellsLost, lost_for, lost_label};
 ghost use Rattle.vpg_answers.specs.Texts.{lost_line};
 ghost use Rattle.vpg_texts.specs.Scene.{scene_of};
 ghost use Rattle.vpg_why.specs.Suffices.{IsAim};
@@ -9,25 +9,15 @@ use crate::lines;
 use crate::reasons::{identifier, names};
 use std::alloc::{AllocError, Global};
 use vpg_features::Names;
+use vpg_game::VertexNames;
 use vpg_measure::Order;
 use vpg_partial::Decision;
 use vpg_why::{Aim, Limits, WhyLost};
 use vpg_winners::why_lost;
 
-/// Appends the head of the line about such a loss.
-fn head(order: &Order, aim: Aim, out: &mut Vec<u8>) -> Result<(), AllocError>
-    requires { IsAim order.now.game aim }
-    ensures { OnOk result
-        (out.new.items ≡ out.old.items ++ lost_for (scene_of order.now.game order.now.diagram) aim) }
-{
-    match aim {
-        Aim::Any => out.extend_from_slice(b"empty"),
-        Aim::Won { which, vertex } => lines::lost_head(which, identifier(order, vertex), out),
-    }
-}
-
 fn tell(
     order: &Order,
+    labels: &VertexNames,
     names: &Names,
     aim: Aim,
     listed: &[Decision],
@@ -37,10 +27,19 @@ fn tell(
     requires aim { IsAim order.now.game aim }
     requires listed { All (λ d. d.feature < length names.now) listed.now }
     ensures { OnOk result (out.new.items ≡ out.old.items ++
-        lost_line (lost_for (scene_of order.now.game order.now.diagram) aim) names.now listed.now exact) }
+        lost_line (lost_for (scene_of labels.now.names order.now.game order.now.diagram) aim)
+        (lost_label (scene_of labels.now.names order.now.game order.now.diagram) aim) names.now listed.now exact) }
 {
-    head(order, aim, out)?;
-    lines::reason(names, listed, exact, out)
+    match aim {
+        Aim::Any => {
+            out.extend_from_slice(b"empty")?;
+            lines::reason(names, listed, exact, b"", out)
+        }
+        Aim::Won { which, vertex } => {
+            lines::lost_head(which, identifier(order, vertex), out)?;
+            lines::reason(names, listed, exact, labels.name(vertex), out)
+        }
+    }
 }
 
 /// Appends the decisions that leave no product that meets the aim: one in which Even wins from the vertex, for the
@@ -48,18 +47,29 @@ fn tell(
 pub(crate) fn loss(
     alloc: Global,
     order: &Order,
+    labels: &VertexNames,
     aim: Aim,
     limits: Limits,
     out: &mut Vec<u8>,
 ) -> Result<(), AllocError>
     requires { IsAim order.now.game aim }
     ensures { OnOk result (Appends
-        (TellsLost (scene_of order.now.game order.now.diagram) limits aim order.now.decisions)
+        (TellsLost (scene_of labels.now.names order.now.game order.now.diagram) limits aim order.now.decisions)
         out.old.items out.new.items) }
 {
     let names = names(order);
     match why_lost(alloc, order, aim, limits)? {
-        WhyLost::Because(found) => tell(order, names, aim, &found.decisions, found.exact, out),
+        WhyLost::Because(found) => {
+            tell(
+                order,
+                labels,
+                names,
+                aim,
+                &found.decisions,
+                found.exact,
+                out,
+            )
+        }
         WhyLost::Unless(example) => lines::product(names, &example.features, example.first, out),
         WhyLost::Unsettled => lines::unsettled(out),
     }

@@ -1,5 +1,5 @@
 //! The features that all products left have or lack that meet an aim: that are won at a vertex, or just any.
-ghost use Rattle.std.specs.Prelude.{◌≡◌, ◌<◌, ◌++◌, All, OnOk, flat_map, length};
+ghost use Rattle.std.specs.Prelude.{[], ◌≡◌, ◌<◌, ◌++◌, All, OnOk, flat_map, length};
 ghost use Rattle.vpg_answers.specs.Answers.{Appends, TellsForced, forced_word};
 ghost use Rattle.vpg_answers.specs.Texts.{choice_line, forced_text};
 ghost use Rattle.vpg_texts.specs.Scene.{scene_of};
@@ -60,7 +60,7 @@ pub(crate) fn forced(
 ) -> Result<(), AllocError>
     requires { IsAim order.now.game aim }
     ensures { OnOk result (Appends
-        (TellsForced (scene_of order.now.game order.now.diagram) limits aim order.now.decisions)
+        (TellsForced (scene_of [] order.now.game order.now.diagram) limits aim order.now.decisions)
         out.old.items out.new.items) }
 {
     let names = names(order);

@@ -1,5 +1,5 @@
 //! Counts the products that are left.
-ghost use Rattle.std.specs.Prelude.{◌≡◌, ◌++◌, OnOk};
+ghost use Rattle.std.specs.Prelude.{[], ◌≡◌, ◌++◌, OnOk};
 ghost use Rattle.vpg_answers.specs.Answers.{Appends, TellsNumber};
 ghost use Rattle.vpg_answers.specs.Texts.{amount_text, number_line};
 ghost use Rattle.vpg_number.specs.Digits.{numeral_of};
@@ -49,7 +49,7 @@ pub(crate) fn left(
     out: &mut Vec<u8>,
 ) -> Result<(), AllocError>
     ensures { OnOk result (Appends
-        (TellsNumber (scene_of order.now.game order.now.diagram) limits order.now.decisions)
+        (TellsNumber (scene_of [] order.now.game order.now.diagram) limits order.now.decisions)
         out.old.items out.new.items) }
 {
     // The invariant of every order, for the proof.

@@ -1,6 +1,6 @@
 //! The verdicts of a vertex after each further decision, and who wins then.
 ghost use Rattle.std.specs.List.{AllByRecursion};
-ghost use Rattle.std.specs.Prelude.{◌≡◌, ◌<◌, ◌+◌, ◌++◌, ℕ, List, All, IfOk, OnOk, flat_map, length};
+ghost use Rattle.std.specs.Prelude.{[], ◌≡◌, ◌<◌, ◌+◌, ◌++◌, ℕ, List, All, IfOk, OnOk, flat_map, length};
 ghost use Rattle.vpg_answers.specs.Answers.{Appends, TellsOffers};
 ghost use Rattle.vpg_answers.specs.Offers.{AreOffers, IsShared, IsOffered, fact_of, prospect_by};
 ghost use Rattle.vpg_answers.specs.Texts.{fact_word, offer_line, offer_words, offers_text, shown_word};
@@ -125,7 +125,7 @@ fn offer_of(
     requires line { IsShared order.now.game order.now.diagram vertex (choices order.now.decisions) line.old }
     ensures choice { IfOk result (λ o. o.choice ≡ choice) }
     ensures offer { IfOk result
-        (IsOffered (scene_of order.now.game order.now.diagram) limits vertex order.now.decisions) }
+        (IsOffered (scene_of [] order.now.game order.now.diagram) limits vertex order.now.decisions) }
     ensures line { IfOk result
         (λ o. IsShared order.now.game order.now.diagram vertex (choices order.now.decisions) line.new) }
 {
@@ -169,9 +169,9 @@ fn list_open(
     requires vertex { vertex < length order.now.game.vertices }
     requires line { IsShared order.now.game order.now.diagram vertex (choices order.now.decisions) line.old }
     ensures offers { OnOk result
-        (AreOffers (scene_of order.now.game order.now.diagram) limits vertex order.now.decisions known.now feature
+        (AreOffers (scene_of [] order.now.game order.now.diagram) limits vertex order.now.decisions known.now feature
         listed.old.items →
-        AreOffers (scene_of order.now.game order.now.diagram) limits vertex order.now.decisions known.now
+        AreOffers (scene_of [] order.now.game order.now.diagram) limits vertex order.now.decisions known.now
         (feature + 1) listed.new.items) }
     ensures named { OnOk result
         (AllByRecursion (λ o. o.choice.feature < feature_count order.now.diagram.lines) listed.old.items →
@@ -216,7 +216,7 @@ fn list(
     requires known { length known.now ≡ feature_count order.now.diagram.lines }
     requires vertex { vertex < length order.now.game.vertices }
     ensures offers { IfOk result
-        (λ listed. AreOffers (scene_of order.now.game order.now.diagram) limits vertex order.now.decisions known.now
+        (λ listed. AreOffers (scene_of [] order.now.game order.now.diagram) limits vertex order.now.decisions known.now
         (length known.now) listed.items) }
     ensures named { IfOk result
         (λ listed. AllByRecursion (λ o. o.choice.feature < feature_count order.now.diagram.lines) listed.items) }
@@ -321,7 +321,7 @@ pub(crate) fn offers(
 ) -> Result<(), AllocError>
     requires { vertex < length order.now.game.vertices }
     ensures { OnOk result (Appends
-        (TellsOffers (scene_of order.now.game order.now.diagram) limits vertex order.now.decisions)
+        (TellsOffers (scene_of [] order.now.game order.now.diagram) limits vertex order.now.decisions)
         out.old.items out.new.items) }
 {
     let names = names(order);

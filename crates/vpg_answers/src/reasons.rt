@@ -1,5 +1,5 @@
 //! Reasons, by decisions of the page.
-ghost use Rattle.std.specs.Prelude.{◌≡◌, ◌<◌, length, slice_index, IfOk, OnOk};
+ghost use Rattle.std.specs.Prelude.{[], ◌≡◌, ◌<◌, length, slice_index, IfOk, OnOk};
 ghost use Rattle.vpg_answers.specs.Answers.{Appends, TellsChoice, TellsFeature, TellsVerdict, TellsVertex};
 ghost use Rattle.vpg_diagram.specs.FeatureDiagram.{feature_count};
 ghost use Rattle.vpg_game.specs.Game.{vertex_ids};
@@ -11,6 +11,7 @@ use crate::lines;
 use std::alloc::{AllocError, Global};
 use vpg_diagram::Literal;
 use vpg_features::Names;
+use vpg_game::VertexNames;
 use vpg_measure::Order;
 use vpg_script::{Tone, done};
 use vpg_sides::Which;
@@ -34,6 +35,7 @@ pub(crate) fn identifier(order: &Order, vertex: u32) -> u32
 fn verdict(
     alloc: Global,
     order: &Order,
+    labels: &VertexNames,
     which: Which,
     vertex: u32,
     limits: Limits,
@@ -42,14 +44,23 @@ fn verdict(
 ) -> Result<(), AllocError>
     requires { vertex < length order.now.game.vertices }
     ensures { OnOk result (Appends
-        (TellsVerdict (scene_of order.now.game order.now.diagram) limits which vertex order.now.decisions
-        (order_table which order.now)) out.old.items out.new.items) }
+        (TellsVerdict (scene_of labels.now.names order.now.game order.now.diagram) limits which vertex
+        order.now.decisions (order_table which order.now)) out.old.items out.new.items) }
 {
     let names = names(order);
     let identifier = identifier(order, vertex);
+    let label = labels.name(vertex);
     match why_within(alloc, order, which, vertex, limits, looks)? {
-        Some(found) => lines::verdict(names, which, identifier, &found.decisions, found.exact, out),
-        None => lines::other(which, identifier, out),
+        Some(found) => lines::verdict(
+            names,
+            which,
+            identifier,
+            label,
+            &found.decisions,
+            found.exact,
+            out,
+        ),
+        None => lines::other(which, identifier, label, out),
     }
 }
 
@@ -57,26 +68,37 @@ fn verdict(
 pub(crate) fn vertex(
     alloc: Global,
     order: &Order,
+    labels: &VertexNames,
     vertex: u32,
     limits: Limits,
     out: &mut Vec<u8>,
 ) -> Result<(), AllocError>
     requires { vertex < length order.now.game.vertices }
     ensures { OnOk result (Appends
-        (TellsVertex (scene_of order.now.game order.now.diagram) limits vertex order.now.decisions order.now.hopeful order.now.dual)
-        out.old.items out.new.items) }
+        (TellsVertex (scene_of labels.now.names order.now.game order.now.diagram) limits vertex order.now.decisions
+        order.now.hopeful order.now.dual) out.old.items out.new.items) }
 {
     let mut looks = limits.budget;
     verdict(
         alloc,
         order,
+        labels,
         Which::Hopeful,
         vertex,
         limits,
         &mut looks,
         out,
     )?;
-    verdict(alloc, order, Which::Dual, vertex, limits, &mut looks, out)
+    verdict(
+        alloc,
+        order,
+        labels,
+        Which::Dual,
+        vertex,
+        limits,
+        &mut looks,
+        out,
+    )
 }
 
 /// Appends why the feature is known, or refuses if it isn't. Returns the answer's tone.
@@ -88,7 +110,7 @@ pub(crate) fn feature(
 ) -> Result<Tone, AllocError>
     requires { feature < feature_count order.now.diagram.lines }
     ensures { IfOk result
-        (λ tone. Gives (TellsFeature (scene_of order.now.game order.now.diagram) feature order.now.decisions) tone
+        (λ tone. Gives (TellsFeature (scene_of [] order.now.game order.now.diagram) feature order.now.decisions) tone
         out.old.items out.new.items) }
 {
     let names = names(order);
@@ -111,7 +133,8 @@ pub(crate) fn choice(
 ) -> Result<Tone, AllocError>
     requires { feature < feature_count order.now.diagram.lines }
     ensures { IfOk result
-        (λ tone. Gives (TellsChoice (scene_of order.now.game order.now.diagram) feature value order.now.decisions) tone
+        (λ tone. Gives
+        (TellsChoice (scene_of [] order.now.game order.now.diagram) feature value order.now.decisions) tone
         out.old.items out.new.items) }
 {
     let names = names(order);

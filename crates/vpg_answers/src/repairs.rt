@@ -13,6 +13,7 @@ use crate::reasons::{identifier, names};
 use crate::retracting::{Effect, Tried, effect_of, give_up, lost, tries};
 use std::alloc::{AllocError, Global};
 use vpg_features::Names;
+use vpg_game::VertexNames;
 use vpg_measure::Order;
 use vpg_partial::Decision;
 use vpg_sides::Which;
@@ -173,7 +174,7 @@ fn tell_several(
     ensures { OnOk result (out.new.items ≡ out.old.items ++ several_text names.now given.now sure tried.now exact) }
 {
     out.extend_from_slice(b"repair")?;
-    lines::reason(names, given, sure, out)?;
+    lines::reason(names, given, sure, b"", out)?;
     tell_marked(names, 1, tried, exact, out)
 }
 
@@ -190,12 +191,12 @@ fn several(
     out: &mut Vec<u8>,
 ) -> Result<(), AllocError>
     requires vertex { vertex < length order.now.game.vertices }
-    requires tried { AreTried (scene_of order.now.game order.now.diagram) limits vertex was_hopeless
+    requires tried { AreTried (scene_of [] order.now.game order.now.diagram) limits vertex was_hopeless
         order.now.decisions (length order.now.decisions) tried.now }
     requires none { HasSingle tried.now → ⊥ }
-    requires winner { IsLostBy (scene_of order.now.game order.now.diagram) vertex [] → ⊥ }
+    requires winner { IsLostBy (scene_of [] order.now.game order.now.diagram) vertex [] → ⊥ }
     ensures { OnOk result (Appends
-        (TellsRetractions (scene_of order.now.game order.now.diagram) limits vertex was_hopeless order.now.decisions)
+        (TellsRetractions (scene_of [] order.now.game order.now.diagram) limits vertex was_hopeless order.now.decisions)
         out.old.items out.new.items) }
 {
     let names = names(order);
@@ -225,11 +226,11 @@ fn no_single(
     out: &mut Vec<u8>,
 ) -> Result<(), AllocError>
     requires vertex { vertex < length order.now.game.vertices }
-    requires tried { AreTried (scene_of order.now.game order.now.diagram) limits vertex was_hopeless
+    requires tried { AreTried (scene_of [] order.now.game order.now.diagram) limits vertex was_hopeless
         order.now.decisions (length order.now.decisions) tried.now }
     requires none { HasSingle tried.now → ⊥ }
     ensures { OnOk result (Appends
-        (TellsRetractions (scene_of order.now.game order.now.diagram) limits vertex was_hopeless order.now.decisions)
+        (TellsRetractions (scene_of [] order.now.game order.now.diagram) limits vertex was_hopeless order.now.decisions)
         out.old.items out.new.items) }
 {
     let names = names(order);
@@ -263,7 +264,7 @@ fn retractions(
 ) -> Result<(), AllocError>
     requires { vertex < length order.now.game.vertices }
     ensures { OnOk result (Appends
-        (TellsRetractions (scene_of order.now.game order.now.diagram) limits vertex was_hopeless order.now.decisions)
+        (TellsRetractions (scene_of [] order.now.game order.now.diagram) limits vertex was_hopeless order.now.decisions)
         out.old.items out.new.items) }
 {
     let names = names(order);
@@ -288,14 +289,15 @@ fn retractions(
 pub(crate) fn repairs_at(
     alloc: Global,
     order: &Order,
+    labels: &VertexNames,
     vertex: u32,
     limits: Limits,
     out: &mut Vec<u8>,
 ) -> Result<(), AllocError>
     requires { vertex < length order.now.game.vertices }
     ensures { OnOk result (Appends
-        (TellsRepair (scene_of order.now.game order.now.diagram) limits vertex order.now.decisions order.now.hopeful)
-        out.old.items out.new.items) }
+        (TellsRepair (scene_of labels.now.names order.now.game order.now.diagram) limits vertex order.now.decisions
+        order.now.hopeful) out.old.items out.new.items) }
 {
     let mut looks = limits.budget;
     let mut trials = limits.trials;
@@ -322,7 +324,10 @@ pub(crate) fn repairs_at(
         &mut trials,
     )?;
     match found {
-        Effect::Won => lines::other(Which::Hopeful, identifier(order, vertex), out),
+        Effect::Won => {
+            let label = labels.name(vertex);
+            lines::other(Which::Hopeful, identifier(order, vertex), label, out)
+        }
         Effect::Unsettled => lines::unsettled(out),
         _ => retractions(
             alloc,

@@ -55,8 +55,8 @@ fn cautious_effect(
 ) -> Result<Effect, AllocError>
     requires named { AreChoicesOf order.now.diagram.lines (choices kept.now) }
     requires vertex { vertex < length order.now.game.vertices }
-    requires lost { IsLostBy (scene_of order.now.game order.now.diagram) vertex (choices kept.now) }
-    ensures { IfOk result (IsEffect (scene_of order.now.game order.now.diagram) limits vertex was_hopeless
+    requires lost { IsLostBy (scene_of [] order.now.game order.now.diagram) vertex (choices kept.now) }
+    ensures { IfOk result (IsEffect (scene_of [] order.now.game order.now.diagram) limits vertex was_hopeless
         (choices kept.now)) }
 {
     if !was_hopeless {
@@ -82,7 +82,7 @@ pub(crate) fn effect_of(
 ) -> Result<Effect, AllocError>
     requires named { AreChoicesOf order.now.diagram.lines (choices kept.now) }
     requires vertex { vertex < length order.now.game.vertices }
-    ensures { IfOk result (IsEffect (scene_of order.now.game order.now.diagram) limits vertex was_hopeless
+    ensures { IfOk result (IsEffect (scene_of [] order.now.game order.now.diagram) limits vertex was_hopeless
         (choices kept.now)) }
 {
     let which = Which::Hopeful;
@@ -118,7 +118,7 @@ fn effect_without(
 ) -> Result<Effect, AllocError>
     requires place { place < length order.now.decisions }
     requires vertex { vertex < length order.now.game.vertices }
-    ensures { IfOk result (IsEffect (scene_of order.now.game order.now.diagram) limits vertex was_hopeless
+    ensures { IfOk result (IsEffect (scene_of [] order.now.game order.now.diagram) limits vertex was_hopeless
         (choices (without place order.now.decisions))) }
 {
     let kept = without(alloc, order.decisions(), place)?;
@@ -146,7 +146,7 @@ pub(crate) fn tries(
     trials: &mut u64,
 ) -> Result<Vec<Tried>, AllocError>
     requires { vertex < length order.now.game.vertices }
-    ensures { IfOk result (λ tried. AreTried (scene_of order.now.game order.now.diagram) limits vertex was_hopeless
+    ensures { IfOk result (λ tried. AreTried (scene_of [] order.now.game order.now.diagram) limits vertex was_hopeless
         order.now.decisions (length order.now.decisions) tried.items) }
 {
     let decisions = order.decisions();
@@ -183,11 +183,11 @@ pub(crate) fn lost(
     requires named { AreChoicesOf order.now.diagram.lines (choices decisions.now) }
     requires vertex { vertex < length order.now.game.vertices }
     ensures yes { IfOk result (λ shown. shown ≡ Shown.Yes →
-        IsLostBy (scene_of order.now.game order.now.diagram) vertex (choices decisions.now)) }
+        IsLostBy (scene_of [] order.now.game order.now.diagram) vertex (choices decisions.now)) }
     ensures no { IfOk result (λ shown. shown ≡ Shown.No →
-        IsLostBy (scene_of order.now.game order.now.diagram) vertex (choices decisions.now) → ⊥) }
+        IsLostBy (scene_of [] order.now.game order.now.diagram) vertex (choices decisions.now) → ⊥) }
     ensures settled { IfOk result (λ shown.
-        SearchEnds (scene_of order.now.game order.now.diagram) limits (Aim.Won Which.Hopeful vertex)
+        SearchEnds (scene_of [] order.now.game order.now.diagram) limits (Aim.Won Which.Hopeful vertex)
         (choices decisions.now) → shown ≢ Shown.Unsettled) }
 {
     let which = Which::Hopeful;
@@ -236,11 +236,11 @@ pub(crate) fn give_up(
 ) -> Result<Given, AllocError>
     requires named { AreChoicesOf order.now.diagram.lines (choices decisions.now) }
     requires vertex { vertex < length order.now.game.vertices }
-    requires winner { IsLostBy (scene_of order.now.game order.now.diagram) vertex [] → ⊥ }
-    ensures repair { IfOk result (λ found. IsRepair (IsLostBy (scene_of order.now.game order.now.diagram) vertex)
+    requires winner { IsLostBy (scene_of [] order.now.game order.now.diagram) vertex [] → ⊥ }
+    ensures repair { IfOk result (λ found. IsRepair (IsLostBy (scene_of [] order.now.game order.now.diagram) vertex)
         decisions.now found.kept.items found.given.items found.sure) }
     ensures settled { IfOk result (λ found.
-        EachSearchEnds (scene_of order.now.game order.now.diagram) limits (Aim.Won Which.Hopeful vertex)
+        EachSearchEnds (scene_of [] order.now.game order.now.diagram) limits (Aim.Won Which.Hopeful vertex)
         (choices decisions.now) → IsTrue found.sure) }
 {
     let mut kept = Vec::new(alloc);

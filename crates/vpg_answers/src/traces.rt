@@ -6,7 +6,9 @@ ghost use Rattle.vpg_texts.specs.Scene.{scene_of};
 
 use std::alloc::{AllocError, Global};
 use vpg_checking::Behaviour;
+use vpg_game::VertexNames;
 use vpg_measure::Order;
+use vpg_texts::put_beside;
 use vpg_trace::put_answer;
 use vpg_why::Limits;
 
@@ -14,6 +16,7 @@ use vpg_why::Limits;
 pub(crate) fn trace(
     alloc: Global,
     order: &Order,
+    labels: &VertexNames,
     behaviour: &Option<Behaviour>,
     vertex: u32,
     limits: Limits,
@@ -22,13 +25,17 @@ pub(crate) fn trace(
     requires vertex { vertex < length order.now.game.vertices }
     requires system { IsOver (feature_count order.now.diagram.lines) behaviour.now }
     ensures { OnOk result (Appends
-        (TellsTraced behaviour.now (scene_of order.now.game order.now.diagram) limits vertex order.now.decisions
-        order.now.hopeful order.now.dual) out.old.items out.new.items) }
+        (TellsTraced behaviour.now (scene_of labels.now.names order.now.game order.now.diagram) limits vertex
+        order.now.decisions order.now.hopeful order.now.dual) out.old.items out.new.items) }
 {
     // The invariant of every order, for the proof.
     let _order = order.game();
     match behaviour {
-        Some(behaviour) => put_answer(alloc, order, behaviour, vertex, limits, out),
+        Some(behaviour) => {
+            let mut beside = Vec::new(alloc);
+            put_beside(labels.name(vertex), &mut beside)?;
+            put_answer(alloc, order, behaviour, vertex, &beside, limits, out)
+        }
         None => unreachable!(),
     }
 }

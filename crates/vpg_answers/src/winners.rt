@@ -1,9 +1,9 @@
 //! Which of the products left are won at a vertex.
 ghost use Rattle.std.specs.List.{list_all};
-ghost use Rattle.std.specs.Prelude.{◌≡◌, ◌<◌, ◌++◌, All, IfOk, OnOk, count_by, length};
+ghost use Rattle.std.specs.Prelude.{[], ◌≡◌, ◌<◌, ◌++◌, All, IfOk, OnOk, count_by, length};
 ghost use Rattle.vpg_answers.specs.Answers.{Appends, TellsPartLine, TellsPartLines, TellsWinners};
 ghost use Rattle.vpg_answers.specs.Numbers.{IsAmount, looks_each};
-ghost use Rattle.vpg_answers.specs.Texts.{is_lost, is_told, is_won, part_line, winner_word, winners_line};
+ghost use Rattle.vpg_answers.specs.Texts.{is_lost, is_told, is_won, part_label, part_line, winner_word, winners_line};
 ghost use Rattle.vpg_partial.specs.TableLaws.{AreChoicesOf};
 ghost use Rattle.vpg_texts.specs.Scene.{scene_of};
 ghost use Rattle.vpg_texts.specs.Text.{choices_text};
@@ -16,6 +16,7 @@ use crate::{lines, numbers};
 use std::alloc::{AllocError, Global};
 use vpg_diagram::Literal;
 use vpg_features::Names;
+use vpg_game::VertexNames;
 use vpg_measure::Order;
 use vpg_number::{Count, Natural, number};
 use vpg_partial::Decision;
@@ -46,24 +47,35 @@ fn literals(names: &Names, listed: &[Literal], out: &mut Vec<u8>) -> Result<(), 
     Ok(())
 }
 
+/// Returns the name at the end of a part's line: none if a limit was met.
+fn part_label(winner: Winner, label: &[u8]) -> &[u8]
+    ensures { result.now ≡ part_label winner label.now }
+{
+    match winner {
+        Winner::Won | Winner::Lost => label,
+        Winner::Unsettled => b"",
+    }
+}
+
 /// Appends a part, and how many products it has.
 fn part_line(
     alloc: Global,
     names: &Names,
     identifier: u32,
+    label: &[u8],
     part: &Part,
     count: &Count,
     out: &mut Vec<u8>,
 ) -> Result<(), AllocError>
     requires { All (λ l. l.feature < length names.now) part.now.literals.items }
     ensures { OnOk result (out.new.items ≡
-        out.old.items ++ part_line names.now identifier (view_of part.now) count.now) }
+        out.old.items ++ part_line names.now identifier label.now (view_of part.now) count.now) }
 {
     winner_word(part.winner, out)?;
     blank_number(identifier as u64, out)?;
     literals(names, &part.literals, out)?;
     numbers::amount(alloc, count, out)?;
-    out.extend_from_slice(b"\n")
+    lines::end(part_label(part.winner, label), out)
 }
 
 /// Returns the decisions, and one for each of the literals.
@@ -104,7 +116,7 @@ fn own_number(alloc: Global, part: &Part) -> Result<Option<Natural>, AllocError>
 fn amount(alloc: Global, order: &Order, part: &Part, looks: u64) -> Result<Count, AllocError>
     requires named { AreChoicesOf order.now.diagram.lines part.now.literals.items }
     requires number { HasItsNumber order.now.diagram.lines (choices order.now.decisions) part.now }
-    ensures { IfOk result (IsAmount (scene_of order.now.game order.now.diagram) looks
+    ensures { IfOk result (IsAmount (scene_of [] order.now.game order.now.diagram) looks
         (choices order.now.decisions ++ part.now.literals.items)) }
 {
     let found = own_number(alloc, part)?;
@@ -120,39 +132,45 @@ fn amount(alloc: Global, order: &Order, part: &Part, looks: u64) -> Result<Count
 fn counted(
     alloc: Global,
     order: &Order,
-    identifier: u32,
+    labels: &VertexNames,
+    vertex: u32,
     part: &Part,
     looks: u64,
     out: &mut Vec<u8>,
 ) -> Result<(), AllocError>
+    requires vertex { vertex < length order.now.game.vertices }
     requires named { AreChoicesOf order.now.diagram.lines part.now.literals.items }
     requires number { HasItsNumber order.now.diagram.lines (choices order.now.decisions) part.now }
     ensures { OnOk result (Appends
-        (TellsPartLine (scene_of order.now.game order.now.diagram) looks identifier (choices order.now.decisions)
-        (view_of part.now)) out.old.items out.new.items) }
+        (TellsPartLine (scene_of labels.now.names order.now.game order.now.diagram) looks vertex
+        (choices order.now.decisions) (view_of part.now)) out.old.items out.new.items) }
 {
     let names = names(order);
+    let identifier = identifier(order, vertex);
+    let label = labels.name(vertex);
     let count = amount(alloc, order, part, looks)?;
-    part_line(alloc, names, identifier, part, &count, out)
+    part_line(alloc, names, identifier, label, part, &count, out)
 }
 
 /// Appends each of the parts.
 fn each(
     alloc: Global,
     order: &Order,
-    identifier: u32,
+    labels: &VertexNames,
+    vertex: u32,
     parts: &[Part],
     looks: u64,
     out: &mut Vec<u8>,
 ) -> Result<(), AllocError>
+    requires vertex { vertex < length order.now.game.vertices }
     requires named { All (λ p. AreChoicesOf order.now.diagram.lines p.literals.items) parts.now }
     requires numbers { All (HasItsNumber order.now.diagram.lines (choices order.now.decisions)) parts.now }
     ensures { OnOk result (Appends
-        (TellsPartLines (scene_of order.now.game order.now.diagram) looks identifier (choices order.now.decisions)
-        (views parts.now)) out.old.items out.new.items) }
+        (TellsPartLines (scene_of labels.now.names order.now.game order.now.diagram) looks vertex
+        (choices order.now.decisions) (views parts.now)) out.old.items out.new.items) }
 {
     for part in parts {
-        counted(alloc, order, identifier, part, looks, out)?;
+        counted(alloc, order, labels, vertex, part, looks, out)?;
     }
     Ok(())
 }
@@ -212,47 +230,61 @@ fn are_told(parts: &[Part]) -> bool
 /// Appends the numbers of the parts won and lost, and whether there may be others.
 fn total(
     identifier: u32,
+    label: &[u8],
     won: usize,
     lost: usize,
     told: bool,
     out: &mut Vec<u8>,
 ) -> Result<(), AllocError>
-    ensures { OnOk result (out.new.items ≡ out.old.items ++ winners_line identifier won lost told) }
+    ensures { OnOk result (out.new.items ≡ out.old.items ++ winners_line identifier label.now won lost told) }
 {
     out.extend_from_slice(b"winners")?;
     blank_number(identifier as u64, out)?;
     blank_number(won as u64, out)?;
     blank_number(lost as u64, out)?;
     lines::more(told, out)?;
-    out.extend_from_slice(b"\n")
+    lines::end(label, out)
 }
 
 /// Appends the numbers of the parts won and lost, and whether there may be others.
-fn totals(identifier: u32, parts: &[Part], out: &mut Vec<u8>) -> Result<(), AllocError>
-    ensures { OnOk result (out.new.items ≡ out.old.items ++ winners_line identifier
+fn totals(
+    identifier: u32,
+    label: &[u8],
+    parts: &[Part],
+    out: &mut Vec<u8>,
+) -> Result<(), AllocError>
+    ensures { OnOk result (out.new.items ≡ out.old.items ++ winners_line identifier label.now
         (count_by (λ p. is_won p.winner) parts.now) (count_by (λ p. is_lost p.winner) parts.now)
         (list_all (λ p. is_told p.winner) parts.now)) }
 {
     let told = are_told(parts);
-    total(identifier, count_won(parts), count_lost(parts), told, out)
+    total(
+        identifier,
+        label,
+        count_won(parts),
+        count_lost(parts),
+        told,
+        out,
+    )
 }
 
 /// Appends the products left, in parts by the winner at the vertex, with the number of products in each part.
 pub(crate) fn partition(
     alloc: Global,
     order: &Order,
+    labels: &VertexNames,
     vertex: u32,
     limits: Limits,
     out: &mut Vec<u8>,
 ) -> Result<(), AllocError>
     requires { vertex < length order.now.game.vertices }
     ensures { OnOk result (Appends
-        (TellsWinners (scene_of order.now.game order.now.diagram) limits vertex order.now.decisions)
+        (TellsWinners (scene_of labels.now.names order.now.game order.now.diagram) limits vertex order.now.decisions)
         out.old.items out.new.items) }
 {
     let identifier = identifier(order, vertex);
     let parts = winners(alloc, order, vertex, limits)?;
     let looks = looks_each(limits.trials, parts.len());
-    each(alloc, order, identifier, &parts, looks, out)?;
-    totals(identifier, &parts, out)
+    each(alloc, order, labels, vertex, &parts, looks, out)?;
+    totals(identifier, labels.name(vertex), &parts, out)
 }

@@ -10,9 +10,10 @@ ghost use Rattle.vpg_texts.specs.Scene.{scene_of, table_in};
 use crate::lines;
 use crate::reasons::identifier;
 use std::alloc::{AllocError, Global};
+use vpg_game::VertexNames;
 use vpg_measure::Order;
 use vpg_sides::Which;
-use vpg_texts::blank_number;
+use vpg_texts::{blank_number, put_beside_both};
 use vpg_why::{Limits, Moves, winning_moves};
 
 /// Returns the first word of the lines of a player's moves.
@@ -48,6 +49,7 @@ pub(crate) fn has_top(order: &Order, which: Which, vertex: u32) -> bool
 fn move_line(
     word: &[u8],
     order: &Order,
+    labels: &VertexNames,
     v: u32,
     to: Option<u32>,
     out: &mut Vec<u8>,
@@ -55,7 +57,8 @@ fn move_line(
     requires v { v < length order.now.game.vertices }
     requires to { IfSome to (λ w. w < length order.now.game.vertices) }
     ensures { OnOk result
-        (out.new.items ≡ out.old.items ++ move_line word.now (vertex_ids order.now.game.vertices) v to) }
+        (out.new.items ≡
+        out.old.items ++ move_line word.now (vertex_ids order.now.game.vertices) labels.now.names v to) }
 {
     match to {
         None => Ok(()),
@@ -63,6 +66,7 @@ fn move_line(
             out.extend_from_slice(word)?;
             blank_number(identifier(order, v) as u64, out)?;
             blank_number(identifier(order, w) as u64, out)?;
+            put_beside_both(labels.name(v), labels.name(w), out)?;
             out.extend_from_slice(b"\n")
         }
     }
@@ -72,17 +76,19 @@ fn move_line(
 fn each(
     word: &[u8],
     order: &Order,
+    labels: &VertexNames,
     moves: &[Option<u32>],
     out: &mut Vec<u8>,
 ) -> Result<(), AllocError>
     requires count { length moves.now ≡ length order.now.game.vertices }
     requires inside { All (λ m. IfSome m (λ w. w < length order.now.game.vertices)) moves.now }
     ensures { OnOk result (out.new.items ≡
-        out.old.items ++ move_lines word.now (vertex_ids order.now.game.vertices) moves.now (length moves.now)) }
+        out.old.items ++ move_lines word.now (vertex_ids order.now.game.vertices) labels.now.names moves.now
+        (length moves.now)) }
 {
     let count = order.game().vertices() as u32;
     for v in 0..count {
-        move_line(word, order, v, moves[v as usize], out)?;
+        move_line(word, order, labels, v, moves[v as usize], out)?;
     }
     Ok(())
 }
@@ -97,15 +103,16 @@ fn count(moves: &[Option<u32>]) -> usize
 fn tell(
     word: &[u8],
     order: &Order,
+    labels: &VertexNames,
     moves: &[Option<u32>],
     out: &mut Vec<u8>,
 ) -> Result<(), AllocError>
     requires count { length moves.now ≡ length order.now.game.vertices }
     requires inside { All (λ m. IfSome m (λ w. w < length order.now.game.vertices)) moves.now }
-    ensures { OnOk result
-        (out.new.items ≡ out.old.items ++ moves_text word.now (vertex_ids order.now.game.vertices) moves.now) }
+    ensures { OnOk result (out.new.items ≡
+        out.old.items ++ moves_text word.now (vertex_ids order.now.game.vertices) labels.now.names moves.now) }
 {
-    each(word, order, moves, out)?;
+    each(word, order, labels, moves, out)?;
     out.extend_from_slice(word)?;
     out.extend_from_slice(b"s")?;
     blank_number(count(moves) as u64, out)?;
@@ -116,6 +123,7 @@ fn tell(
 fn winning(
     alloc: Global,
     order: &Order,
+    labels: &VertexNames,
     mover: Which,
     vertex: u32,
     limits: Limits,
@@ -125,12 +133,12 @@ fn winning(
     requires verdict { slice_index (order_table (other_table mover) order.now) vertex ≡
         top_for (other_table mover) (graph_of order.now.game) }
     ensures { OnOk result (Appends
-        (TellsWinning (scene_of order.now.game order.now.diagram) limits mover vertex order.now.decisions)
-        out.old.items out.new.items) }
+        (TellsWinning (scene_of labels.now.names order.now.game order.now.diagram) limits mover vertex
+        order.now.decisions) out.old.items out.new.items) }
 {
     let word = word_of(mover);
     match winning_moves(alloc, order, mover, vertex, limits)? {
-        Moves::Winning(moves) => tell(word, order, &moves, out),
+        Moves::Winning(moves) => tell(word, order, labels, &moves, out),
         Moves::Nothing => unreachable!(),
         Moves::Unsettled => lines::unsettled(out),
     }
@@ -141,6 +149,7 @@ fn winning(
 pub(crate) fn moves(
     alloc: Global,
     order: &Order,
+    labels: &VertexNames,
     mover: Which,
     vertex: u32,
     limits: Limits,
@@ -148,13 +157,14 @@ pub(crate) fn moves(
 ) -> Result<(), AllocError>
     requires { vertex < length order.now.game.vertices }
     ensures { OnOk result (Appends
-        (TellsMoves (scene_of order.now.game order.now.diagram) limits mover vertex order.now.decisions
+        (TellsMoves (scene_of labels.now.names order.now.game order.now.diagram) limits mover vertex order.now.decisions
         (table_in order.now.hopeful order.now.dual (other_table mover))) out.old.items out.new.items) }
 {
     let verdict = verdict_for(mover);
     if has_top(order, verdict, vertex) {
-        winning(alloc, order, mover, vertex, limits, out)
+        winning(alloc, order, labels, mover, vertex, limits, out)
     } else {
-        lines::other(verdict, identifier(order, vertex), out)
+        let label = labels.name(vertex);
+        lines::other(verdict, identifier(order, vertex), label, out)
     }
 }

@@ -37,20 +37,20 @@ module _ (meaning : Request → Request) (behaviour : Option Behaviour) (scene :
   lines_speak old [] answers new so = so
   lines_speak old (l ∷ ls) answers new so = (so.0, so.1, so.2, line old (said l) so.1 so.0 so.3, so.4, lines_speak so.0 ls so.2 new so.5)
 
-true_of_entries : (game : NamedGame) (diagram : NamedDiagram) (system_text requirements_text roots : List ℕ)
+true_of_entries : (labels : List (List ℕ)) (game : NamedGame) (diagram : NamedDiagram) (system_text requirements_text roots : List ℕ)
     (made : IsModelOfTexts diagram.names diagram.lines system_text requirements_text (graph_of game) roots)
-    (page : List Entry) (verdicts : List Verdict) → AreTrue (scene_of game diagram) page verdicts →
-    AreTrueOfEntries (scene_of game diagram) made.system made.entries roots page verdicts
-true_of_entries game diagram system_text requirements_text roots made page verdicts are n below = record {
+    (page : List Entry) (verdicts : List Verdict) → AreTrue (scene_of labels game diagram) page verdicts →
+    AreTrueOfEntries (scene_of labels game diagram) made.system made.entries roots page verdicts
+true_of_entries labels game diagram system_text requirements_text roots made page verdicts are n below = record {
   fails = λ hopeless set remaining. (made.model.decided n below set).lost.1 ((means.lost hopeless).strategy, (means.lost hopeless).wins set remaining);
   holds = λ sure set remaining. (made.model.decided n below set).won.1 ((means.won sure).strategy, (means.won sure).wins set remaining);
 }
   where
-    means : VerdictMeans (setting_in (scene_of game diagram)) page (slice_index roots n)
+    means : VerdictMeans (setting_in (scene_of labels game diagram)) page (slice_index roots n)
         (seen_at verdicts (slice_index roots n)).hopeless (seen_at verdicts (slice_index roots n)).sure
     means = are.each (slice_index roots n) (made.model.models n below).vertex
 
 pub answers_speak_of_requirements : AnswersSpeakOfRequirements
-answers_speak_of_requirements meaning behaviour game diagram system_text requirements_text roots made lifters lines answers new opens answered =
-    lines_speak meaning behaviour (scene_of game diagram) lifters made.system made.entries roots (true_of_entries game diagram system_text requirements_text roots made) begun lines answers new
-    (answers_name_winners meaning behaviour game diagram lifters lines answers new opens answered)
+answers_speak_of_requirements meaning behaviour labels game diagram system_text requirements_text roots made lifters lines answers new opens answered =
+    lines_speak meaning behaviour (scene_of labels game diagram) lifters made.system made.entries roots (true_of_entries labels game diagram system_text requirements_text roots made) begun lines answers new
+    (answers_name_winners meaning behaviour labels game diagram lifters lines answers new opens answered)

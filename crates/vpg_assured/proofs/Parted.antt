@@ -25,10 +25,10 @@ use Rattle.vpg_report.specs.Winners.{IsRefusal}
 use Rattle.vpg_assured.specs.Parted.{IsPartTrueOf, PartsProducts, PartsSpeakOfRequirements, parting, winners_of}
 use Rattle.vpg_assured.proofs.Replied.{IsReplied, served}
 
-module _ (game : NamedGame) (diagram : NamedDiagram) (system_text requirements_text roots : List ℕ)
+module _ (labels : List (List ℕ)) (game : NamedGame) (diagram : NamedDiagram) (system_text requirements_text roots : List ℕ)
     (made : IsModelOfTexts diagram.names diagram.lines system_text requirements_text (graph_of game) roots) where
   abbrev scene : Scene
-  scene = scene_of game diagram
+  scene = scene_of labels game diagram
 
   module _ (page : List Entry) (n : ℕ) (below : n < length made.entries) where
     abbrev root : ℕ
@@ -60,7 +60,7 @@ module _ (game : NamedGame) (diagram : NamedDiagram) (system_text requirements_t
     }
 
   speaks : (behaviour : Option Behaviour) (book : Book) (named : script.Vertex) (answer : Answer) (n : ℕ) (below : n < length made.entries) →
-      vertex_of scene named ≡ Some (slice_index roots n) → IsReplied behaviour game diagram questions.Winners book named answer →
+      vertex_of scene named ≡ Some (slice_index roots n) → IsReplied behaviour labels game diagram questions.Winners book named answer →
       IsRefusal answer ⊎ IsDone (PartsProducts scene book.present (slice_index roots n) (EntryHoldsIn made.system made.entries n)) answer
   speaks behaviour book named answer n below at (inl refused) = inl refused
   speaks behaviour book named answer n below at (inr a) =
@@ -78,7 +78,7 @@ module _ (game : NamedGame) (diagram : NamedDiagram) (system_text requirements_t
       so,
       λ named n is below at.
           speaks behaviour old.book named answer n below at
-          (served behaviour game diagram questions.Winners old.book named answer old.held old.calls (meaning request).label so.0.0 new.held so.0.1.1
+          (served behaviour labels game diagram questions.Winners old.book named answer old.held old.calls (meaning request).label so.0.0 new.held so.0.1.1
           (subst (λ (command : script.Command). Serves behaviour scene old.held old.calls
           (record { label = (meaning request).label; command = command }) so.0.0 answer new.held) is so.0.1.0)),
     )
@@ -92,5 +92,5 @@ module _ (game : NamedGame) (diagram : NamedDiagram) (system_text requirements_t
         (so.0, so.1, so.2, line old (said l) so.1 so.0 so.3, so.4, lines_part so.0 ls so.2 new so.5)
 
 pub parts_speak_of_requirements : PartsSpeakOfRequirements
-parts_speak_of_requirements meaning behaviour game diagram system_text requirements_text roots made lifters lines answers new answered =
-    lines_part game diagram system_text requirements_text roots made behaviour lifters meaning begun lines answers new answered
+parts_speak_of_requirements meaning behaviour labels game diagram system_text requirements_text roots made lifters lines answers new answered =
+    lines_part labels game diagram system_text requirements_text roots made behaviour lifters meaning begun lines answers new answered

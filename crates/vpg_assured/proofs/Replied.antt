@@ -21,10 +21,10 @@ use Rattle.vpg_report.specs.Requests.{Continues, Serves, answer_limits, is_answe
 use Rattle.vpg_report.specs.Setting.{setting_in}
 use Rattle.vpg_report.specs.Winners.{IsRefusal}
 
-module _ (behaviour : Option Behaviour) (game : NamedGame) (diagram : NamedDiagram) (question : VertexQuestion) (book : Book)
+module _ (behaviour : Option Behaviour) (labels : List (List ℕ)) (game : NamedGame) (diagram : NamedDiagram) (question : VertexQuestion) (book : Book)
     (named : script.Vertex) (answer : Answer) where
   abbrev scene : Scene
-  scene = scene_of game diagram
+  scene = scene_of labels game diagram
 
   abbrev F : Family
   F = family_of (setting_in scene)

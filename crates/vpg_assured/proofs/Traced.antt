@@ -19,19 +19,19 @@ use Rattle.vpg_assured.specs.Traced.{HasNoWalk, ReportsWalk, TracedStepsAreThere
 use Rattle.vpg_assured.proofs.Replied.{IsReplied, served}
 use Rattle.vpg_assured.proofs.Walked.{reports_trace}
 
-module _ (game : NamedGame) (diagram : NamedDiagram) (system_text : List ℕ) (behaviour : Behaviour)
+module _ (labels : List (List ℕ)) (game : NamedGame) (diagram : NamedDiagram) (system_text : List ℕ) (behaviour : Behaviour)
     (made : IsMadeOf diagram system_text game behaviour) where
   abbrev scene : Scene
-  scene = scene_of game diagram
+  scene = scene_of labels game diagram
 
-  reports : (book : Book) (named : script.Vertex) (answer : Answer) → IsReplied (Some behaviour) game diagram questions.Trace book named answer →
+  reports : (book : Book) (named : script.Vertex) (answer : Answer) → IsReplied (Some behaviour) labels game diagram questions.Trace book named answer →
       IsRefusal answer ⊎ ((vertex : ℕ) × (vertex_of scene named ≡ Some vertex) ×
       IsDone (λ text. HasNoWalk scene vertex text ⊎ ReportsWalk scene made.system behaviour book.present vertex text) answer)
   reports book named answer (inl refused) = inl refused
   reports book named answer (inr a) = inr (
     a.0,
     a.1,
-    (a.4.tells.0, reports_trace game diagram system_text behaviour made a.4.diagram book.present a.2 a.3 answer_limits a.0 answer.text a.4.tells.1),
+    (a.4.tells.0, reports_trace labels game diagram system_text behaviour made a.4.diagram book.present a.2 a.3 answer_limits a.0 answer.text a.4.tells.1),
   )
 
   -- ---- lines
@@ -45,7 +45,7 @@ module _ (game : NamedGame) (diagram : NamedDiagram) (system_text : List ℕ) (b
       so,
       λ named is.
           reports old.book named answer
-          (served (Some behaviour) game diagram questions.Trace old.book named answer old.held old.calls (meaning request).label so.0.0 new.held so.0.1.1
+          (served (Some behaviour) labels game diagram questions.Trace old.book named answer old.held old.calls (meaning request).label so.0.0 new.held so.0.1.1
           (subst (λ (command : script.Command). Serves (Some behaviour) scene old.held old.calls
           (record { label = (meaning request).label; command = command }) so.0.0 answer new.held) is so.0.1.0)),
     )
@@ -59,5 +59,5 @@ module _ (game : NamedGame) (diagram : NamedDiagram) (system_text : List ℕ) (b
         (so.0, so.1, so.2, line old (said l) so.1 so.0 so.3, so.4, lines_report so.0 ls so.2 new so.5)
 
 pub traced_steps_are_there : TracedStepsAreThere
-traced_steps_are_there meaning behaviour game diagram system_text made lifters lines answers new answered =
-    lines_report game diagram system_text behaviour made lifters meaning begun lines answers new answered
+traced_steps_are_there meaning behaviour labels game diagram system_text made lifters lines answers new answered =
+    lines_report labels game diagram system_text behaviour made lifters meaning begun lines answers new answered

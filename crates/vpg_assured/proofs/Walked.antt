@@ -18,6 +18,7 @@ use Rattle.vpg_trace.specs.Texts.{family_of, trace_text}
 use Rattle.vpg_trace.specs.Traces.{IsTrace}
 use Rattle.vpg_trace.specs.Walks.{is_left, walk_from}
 use Rattle.vpg_trace.proofs.Whole.{is_trace}
+use Rattle.vpg_texts.specs.Labels.{beside, label_of}
 use Rattle.vpg_texts.specs.Scene.{Scene, scene_of}
 use Rattle.vpg_family.specs.Made.{IsMadeOf, roots_of}
 use Rattle.vpg_answers.specs.Answers.{page_in}
@@ -30,19 +31,22 @@ walk_is_trace : (game : Game) (moves : List (Option ℕ)) (first : ℕ) →
 unfolding walk_from
 walk_is_trace game moves first = is_trace game moves first 1000 (omega arith)
 
-module _ (game : NamedGame) (diagram : NamedDiagram) (system_text : List ℕ) (behaviour : Behaviour)
+module _ (labels : List (List ℕ)) (game : NamedGame) (diagram : NamedDiagram) (system_text : List ℕ) (behaviour : Behaviour)
     (made : IsMadeOf diagram system_text game behaviour) (is_diagram : IsDiagram diagram.lines) (entries : List Entry)
     (hopeful dual : List ℕ) (limits : Limits) (vertex : ℕ) (text : List ℕ) where
   abbrev scene : Scene
-  scene = scene_of game diagram
+  scene = scene_of labels game diagram
 
   abbrev page : Page
   page = page_in scene (decisions_of entries) hopeful dual
 
+  abbrev name : List ℕ
+  name = beside (label_of scene.labels vertex)
+
   abbrev Reports : Type 0
   Reports = HasNoWalk scene vertex text ⊎ ReportsWalk scene made.system behaviour entries vertex text
 
-  reports_walk : (mover : Which) → TellsWalk page behaviour mover vertex text →
+  reports_walk : (mover : Which) → TellsWalk page behaviour mover vertex name text →
       ReportsWalk scene made.system behaviour entries vertex text
   reports_walk mover walk = record {
     verdict = other_table mover;
@@ -50,7 +54,7 @@ module _ (game : NamedGame) (diagram : NamedDiagram) (system_text : List ℕ) (b
     is_known = walk.is_known;
     visits = visits;
     is_cut = is_cut;
-    text_is = walk.text_is ∙ ap (λ (actions : List (List ℕ)). head_line (other_table mover) (slice_index scene.identifiers vertex)
+    text_is = walk.text_is ∙ ap (λ (actions : List (List ℕ)). head_line (other_table mover) (slice_index scene.identifiers vertex) name
         ++ trace_text (family_of scene.names actions walk.known behaviour.states behaviour.sets behaviour.parts behaviour.pairs) visits is_cut) made.actions;
     begins = is.begins;
     each = visit_reported scene entries made.system walk.known behaviour.states behaviour.sets behaviour.parts
@@ -74,11 +78,11 @@ module _ (game : NamedGame) (diagram : NamedDiagram) (system_text : List ℕ) (b
       is : IsTrace (caution_for walk.known mover (graph_of game)) walk.moves vertex visits
       is = walk_is_trace (caution_for walk.known mover (graph_of game)) walk.moves vertex
 
-  reports_won : (mover : Which) → TellsWon page behaviour limits mover vertex text → Reports
+  reports_won : (mover : Which) → TellsWon page behaviour limits mover vertex name text → Reports
   reports_won mover (inl walk) = inr (reports_walk mover walk)
   reports_won mover (inr short) = inl (inr short.1)
 
-  pub reports_trace : TellsTrace page behaviour limits vertex text → Reports
+  pub reports_trace : TellsTrace page behaviour limits vertex name text → Reports
   reports_trace (inl h) = reports_won Dual h.1
   reports_trace (inr (inl h)) = reports_won Hopeful h.2
   reports_trace (inr (inr h)) = inl (inl h.2)

@@ -46,15 +46,16 @@ speaking behaviour scene lifters system entries roots old request answer new =
     SpeaksOfEntries scene system entries roots old.book.present request.command answer
 
 -- A run of an office on the game of two texts, of a system and of requirements, answers `show`, `assert` and `changed`.
--- The verdicts in its answers are true of these requirements in this system, under any meaning of the lines.
+-- The verdicts in its answers are true of these requirements in this system, under any meaning of the lines, and
+-- with any names of vertices.
 abbrev pub AnswersSpeakOfRequirements : Type 0
 AnswersSpeakOfRequirements =
-    (meaning : Request → Request) (behaviour : Option Behaviour) (game : NamedGame) (diagram : NamedDiagram)
-    (system_text requirements_text : List ℕ) (roots : List ℕ)
+    (meaning : Request → Request) (behaviour : Option Behaviour) (labels : List (List ℕ)) (game : NamedGame)
+    (diagram : NamedDiagram) (system_text requirements_text : List ℕ) (roots : List ℕ)
     (made : IsModelOfTexts diagram.names diagram.lines system_text requirements_text (graph_of game) roots)
     (lifters : ℕ) (lines : List (List ℕ)) (answers : List Answer) (new : Between) →
     IsOpened game diagram →
-    Answered (as_meant meaning (answering behaviour (scene_of game diagram) lifters)) begun lines answers new →
+    Answered (as_meant meaning (answering behaviour (scene_of labels game diagram) lifters)) begun lines answers new →
     Answered
-    (as_meant meaning (speaking behaviour (scene_of game diagram) lifters made.system made.entries roots)) begun lines
-    answers new
+    (as_meant meaning (speaking behaviour (scene_of labels game diagram) lifters made.system made.entries roots)) begun
+    lines answers new

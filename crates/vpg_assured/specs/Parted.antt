@@ -18,6 +18,7 @@ use Rattle.vpg_script.specs.Script as script
 use Rattle.vpg_script.specs.Script.{Request}
 use Rattle.vpg_script.specs.Answer.{Answer, IsDone}
 use Rattle.vpg_script.specs.Output.{Machine, Answered}
+use Rattle.vpg_texts.specs.Labels.{label_of}
 use Rattle.vpg_texts.specs.Scene.{Scene, scene_of}
 use Rattle.vpg_answers.specs.Texts.{winners_text}
 use Rattle.vpg_number.specs.declared.counted.Count.{Count}
@@ -40,7 +41,8 @@ pub record PartsProducts (scene : Scene) (page : List Entry) (vertex : ℕ) (Hol
   pub counts : List Count
   pub partition : ArePartition scene.lines (choices_of page) parts
   pub true_of : AllByRecursion (IsPartTrueOf scene page Holds) parts
-  pub text_is : text ≡ winners_text scene.names (slice_index scene.identifiers vertex) parts counts
+  pub text_is : text ≡ winners_text scene.names (slice_index scene.identifiers vertex)
+      (label_of scene.labels vertex) parts counts
 
 -- the command `winners V`
 abbrev pub winners_of : script.Vertex → script.Command
@@ -62,13 +64,14 @@ parting behaviour scene lifters system entries roots old request answer new =
     PartsByEntries scene system entries roots old.book.present request.command answer
 
 -- A run on the game of two texts, of a system and of requirements, answers `winners V`. The parts in its answers are
--- true of these requirements in this system, under any meaning of the lines.
+-- true of these requirements in this system, under any meaning of the lines, and with any names of vertices.
 abbrev pub PartsSpeakOfRequirements : Type 0
 PartsSpeakOfRequirements =
-    (meaning : Request → Request) (behaviour : Option Behaviour) (game : NamedGame) (diagram : NamedDiagram)
-    (system_text requirements_text : List ℕ) (roots : List ℕ)
+    (meaning : Request → Request) (behaviour : Option Behaviour) (labels : List (List ℕ)) (game : NamedGame)
+    (diagram : NamedDiagram) (system_text requirements_text : List ℕ) (roots : List ℕ)
     (made : IsModelOfTexts diagram.names diagram.lines system_text requirements_text (graph_of game) roots)
     (lifters : ℕ) (lines : List (List ℕ)) (answers : List Answer) (new : Between) →
-    Answered (as_meant meaning (answering behaviour (scene_of game diagram) lifters)) begun lines answers new →
-    Answered (as_meant meaning (parting behaviour (scene_of game diagram) lifters made.system made.entries roots)) begun
+    Answered (as_meant meaning (answering behaviour (scene_of labels game diagram) lifters)) begun lines answers new →
+    Answered
+    (as_meant meaning (parting behaviour (scene_of labels game diagram) lifters made.system made.entries roots)) begun
     lines answers new

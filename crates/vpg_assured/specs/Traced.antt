@@ -32,6 +32,7 @@ use Rattle.vpg_script.specs.Script as script
 use Rattle.vpg_script.specs.Script.{Request}
 use Rattle.vpg_script.specs.Answer.{Answer, IsDone}
 use Rattle.vpg_script.specs.Output.{Machine, Answered}
+use Rattle.vpg_texts.specs.Labels.{beside, label_of}
 use Rattle.vpg_texts.specs.Scene.{Scene, scene_of}
 use Rattle.vpg_family.specs.Made.{IsMadeOf}
 use Rattle.vpg_report.specs.Answers.{vertex_of}
@@ -114,7 +115,7 @@ pub record ReportsWalk (scene : Scene) (system : NamedSystem) (behaviour : Behav
   pub is_known : IsKnownTable scene.lines (choices_of page) known
   pub visits : List Visit
   pub is_cut : Bool
-  pub text_is : text ≡ head_line verdict (slice_index scene.identifiers vertex)
+  pub text_is : text ≡ head_line verdict (slice_index scene.identifiers vertex) (beside (label_of scene.labels vertex))
       ++ trace_text (family_in scene system behaviour known) visits is_cut
   pub begins : (visit_at visits 0).vertex ≡ vertex
   pub each : (i : ℕ) → 0 < i → i < length visits →
@@ -123,7 +124,8 @@ pub record ReportsWalk (scene : Scene) (system : NamedSystem) (behaviour : Behav
 -- the vertex is neither hopeless nor sure, or a limit was met
 abbrev pub HasNoWalk : Scene → ℕ → List ℕ → Type 0
 HasNoWalk scene vertex text =
-    (text ≡ neither_line (slice_index scene.identifiers vertex)) ⊎ (text ≡ unsettled_line)
+    (text ≡ neither_line (slice_index scene.identifiers vertex) (beside (label_of scene.labels vertex)))
+    ⊎ (text ≡ unsettled_line)
 
 -- the command `trace V`
 abbrev pub trace_of : script.Vertex → script.Command
@@ -143,11 +145,14 @@ tracing behaviour scene lifters system old request answer new =
     ReportsSteps scene system behaviour old.book.present request.command answer
 
 -- A run on the game of a system and requirements answers `trace V` by steps of this system, under any meaning of the
--- lines. A step that is not marked is one of each product that is left on the page at that point.
+-- lines, and with any names of vertices. A step that is not marked is one of each product that is left on the page at
+-- that point.
 abbrev pub TracedStepsAreThere : Type 0
 TracedStepsAreThere =
-    (meaning : Request → Request) (behaviour : Behaviour) (game : NamedGame) (diagram : NamedDiagram)
-    (system_text : List ℕ) (made : IsMadeOf diagram system_text game behaviour) (lifters : ℕ)
+    (meaning : Request → Request) (behaviour : Behaviour) (labels : List (List ℕ)) (game : NamedGame)
+    (diagram : NamedDiagram) (system_text : List ℕ) (made : IsMadeOf diagram system_text game behaviour) (lifters : ℕ)
     (lines : List (List ℕ)) (answers : List Answer) (new : Between) →
-    Answered (as_meant meaning (answering (Some behaviour) (scene_of game diagram) lifters)) begun lines answers new →
-    Answered (as_meant meaning (tracing behaviour (scene_of game diagram) lifters made.system)) begun lines answers new
+    Answered (as_meant meaning (answering (Some behaviour) (scene_of labels game diagram) lifters)) begun lines answers
+    new →
+    Answered (as_meant meaning (tracing behaviour (scene_of labels game diagram) lifters made.system)) begun lines
+    answers new

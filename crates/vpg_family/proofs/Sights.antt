@@ -1,5 +1,5 @@
 -- Pages that are drawn.
-use Rattle.std.proofs.Common.{◌≡◌, ℕ, List, ◌++◌, map, take}
+use Rattle.std.proofs.Common.{◌≡◌, ℕ, List, map}
 use Rattle.vpg_guards.specs.declared.tri.Tri.{Tri}
 use Rattle.vpg_diagram.specs.declared.clause.Literal.{Literal}
 use Rattle.vpg_diagram.specs.DiagramText.{NamedDiagram}
@@ -11,19 +11,8 @@ use Rattle.vpg_sides.specs.declared.verdict.Verdict.{Verdict}
 use Rattle.vpg_draw.specs.GameDrawing.{game_drawing}
 use Rattle.vpg_game.specs.SpelledNames.{Told}
 use Rattle.vpg_family.specs.Pictures.{TellsNames}
-use Rattle.vpg_family.specs.Pages.{sight_of, IsSight, IsNamed, IsGameSeen, IsPageDrawn, IsSightDrawn}
+use Rattle.vpg_family.specs.Pages.{sight_of, IsGameSeen, IsPageDrawn, IsSightDrawn}
 use Rattle.vpg_family.specs.declared.drawing.Subject.{Subject}
-
-pub named : (diagram : NamedDiagram) (game : NamedGame) (names : List (List ℕ)) (written : List ℕ) (begins : ℕ) (known : List Tri) (decisions : List Decision) (verdicts : List Verdict) (before text : List ℕ)
-    → IsSight diagram game written begins known decisions verdicts → before ≡ take begins written
-    → text ≡ before ++ game_drawing diagram.names known (map literal_of decisions) names verdicts game → IsNamed diagram game names written text
-named diagram game names written begins known decisions verdicts before text seen front is = record {
-  sight = sight_of known (map literal_of decisions) verdicts;
-  known_is = seen.known_is;
-  earlier = before;
-  written_is = rw front seen.written_is;
-  text_is = is;
-}
 
 pub paged : (subject : Subject) (diagram drawn : NamedDiagram) (game played : NamedGame) (choices : List Literal) (known seen : List Tri) (decisions : List Decision) (verdicts : List Verdict) (diagram_text game_text picture : List ℕ)
     → IsKnownTable diagram.lines choices known → IsSightDrawn subject drawn played (sight_of seen (map literal_of decisions) verdicts) diagram_text game_text picture

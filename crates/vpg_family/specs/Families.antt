@@ -42,7 +42,8 @@ pub record SpellsFamily (diagram_text game_text : List ℕ) (diagram : NamedDiag
 
 -- The fault of two texts that are no family: one of the game only if the diagram has none.
 abbrev pub IsFamilyFault : List ℕ → List ℕ → Fault → Type 0
-IsFamilyFault diagram_text game_text (told.Game fault) = (diagram : NamedDiagram) × (IsTextOf diagram_text diagram × IsGameFault diagram.names game_text (told.Game fault))
+IsFamilyFault diagram_text game_text (told.Game fault) =
+    (diagram : NamedDiagram) × (IsTextOf diagram_text diagram × IsGameFault diagram.names game_text (told.Game fault))
 IsFamilyFault diagram_text game_text fault = IsDiagramFault diagram_text fault
 
 -- some diagram is spelled by the text
@@ -98,7 +99,8 @@ pub record IsModelledBy (diagram_text game_text : List ℕ) (names : List (List 
 -- If the paths name a system and requirements, the texts are those of their game.
 abbrev pub AreTextsOf : GamePaths → (diagram_text game_text : List ℕ) → List (List ℕ) → List ℕ → Type 0
 AreTextsOf (paths.Game path) diagram_text game_text names vertices = ⊤
-AreTextsOf (paths.Model files) diagram_text game_text names vertices = IsModelledBy diagram_text game_text names vertices
+AreTextsOf (paths.Model files) diagram_text game_text names vertices =
+    IsModelledBy diagram_text game_text names vertices
 AreTextsOf (paths.System path) diagram_text game_text names vertices = ⊤
 
 -- If the paths name a system and requirements, the family is that of their game.
@@ -113,8 +115,8 @@ abbrev pub IsNoModel : (diagram_text system_text requirements_text : List ℕ) �
 IsNoModel diagram_text system_text requirements_text fault = (diagram : NamedDiagram) ×
     IsTextOf diagram_text diagram × IsModelFault diagram system_text requirements_text fault
 
--- The fault of files that are no family, by the texts that were read by then: one that was not read is empty. A fault of
--- the game, or of the files in its place, comes only if the text of the diagram spells one.
+-- The fault of files that are no family, by the texts that were read by then: one that was not read is empty. A fault
+-- of the game, or of the files in its place, comes only if the text of the diagram spells one.
 abbrev pub IsUnread : (diagram_text game_text system_text requirements_text : List ℕ) → Fault → Type 0
 IsUnread diagram_text game_text system_text requirements_text told.DiagramUnreadable =
     (diagram_text ≡ []) × (game_text ≡ []) × (system_text ≡ []) × (requirements_text ≡ [])
@@ -222,7 +224,8 @@ pub record IsNamedSet (names words : List (List ℕ)) (set : List Bool) : Type 0
 
 -- the name is the first of the words that names no feature
 abbrev pub IsFirstUnknown : List (List ℕ) → List (List ℕ) → List ℕ → Type 0
-IsFirstUnknown names words name = (n : ℕ) × (slice_get words n ≡ Some name) × AreKnown names (take n words) × Lacks names name
+IsFirstUnknown names words name =
+    (n : ℕ) × (slice_get words n ≡ Some name) × AreKnown names (take n words) × Lacks names name
 
 -- the fault of a word that names no feature: the word; or out of memory
 abbrev pub IsUnknown : List (List ℕ) → List ℕ → Fault → Type 0
@@ -237,12 +240,14 @@ TellsUnknown names words told.Memory = ⊤
 TellsUnknown names words fault = ⊥
 
 -- the words name the features of a product, and the text is that of its game
-pub record IsProjected (diagram : NamedDiagram) (game : NamedGame) (words : List (List ℕ)) (text : List ℕ) : Type 0 where
+pub record IsProjected (diagram : NamedDiagram) (game : NamedGame) (words : List (List ℕ))
+    (text : List ℕ) : Type 0 where
   pub known : AreKnown diagram.names words
   pub product : IsProduct diagram.lines (set_of diagram.names words)
   pub text_is : text ≡ plain_text (projection (set_of diagram.names words) game)
 
 -- The fault of words that name no product. Their features are no product only if each word names a feature.
 abbrev pub IsNotProjected : NamedDiagram → List (List ℕ) → Fault → Type 0
-IsNotProjected diagram words told.NotAProduct = AreKnown diagram.names words × (¬ IsProduct diagram.lines (set_of diagram.names words))
+IsNotProjected diagram words told.NotAProduct =
+    AreKnown diagram.names words × (¬ IsProduct diagram.lines (set_of diagram.names words))
 IsNotProjected diagram words fault = TellsUnknown diagram.names words fault

@@ -23,7 +23,8 @@ no_verdicts vertices = replicate vertices no_verdict
 
 -- these are the names in the text, however it is taken for a game
 abbrev pub TellsNames : List ℕ → Told → Type 0
-TellsNames text names = (features : List (List ℕ)) (file : File) → IsFile features file → text ≡ file_text file → names ≡ told_by file
+TellsNames text names =
+    (features : List (List ℕ)) (file : File) → IsFile features file → text ≡ file_text file → names ≡ told_by file
 
 -- the game is drawn with the names in its text, under what the diagram alone makes known
 pub record IsGameDrawn (diagram : NamedDiagram) (game : NamedGame) (text picture : List ℕ) : Type 0 where
@@ -52,12 +53,14 @@ pub record IsPicture (subject : Subject) (diagram_text game_text picture : List 
 
 -- the fault of a diagram that contradicts itself: its root
 abbrev pub TellsContradiction : NamedDiagram → Fault → Type 0
-TellsContradiction diagram (told.Conflict name) = HasConflictOf diagram.lines [] × (slice_get diagram.names 0 ≡ Some (string_bytes name))
+TellsContradiction diagram (told.Conflict name) =
+    HasConflictOf diagram.lines [] × (slice_get diagram.names 0 ≡ Some (string_bytes name))
 TellsContradiction diagram told.Memory = ⊤
 TellsContradiction diagram fault = ⊥
 
 -- The fault of two texts that have no picture: they are no family, or the diagram of one contradicts itself.
 abbrev pub IsUndrawn : List ℕ → List ℕ → Fault → Type 0
 IsUndrawn diagram_text game_text (told.Conflict name) =
-    (diagram : NamedDiagram) × (game : NamedGame) × SpellsFamily diagram_text game_text diagram game × TellsContradiction diagram (told.Conflict name)
+    (diagram : NamedDiagram) × (game : NamedGame) × SpellsFamily diagram_text game_text diagram game ×
+    TellsContradiction diagram (told.Conflict name)
 IsUndrawn diagram_text game_text fault = IsFamilyFault diagram_text game_text fault

@@ -58,7 +58,9 @@ fn game_picture(
 ) -> Result<Vec<u8>, AllocError>
     requires features { game.now.features ≡ feature_count diagram.now.lines }
     requires known { length known.now ≡ feature_count diagram.now.lines }
-    ensures { IfOk result (λ picture. picture.items ≡ game_drawing diagram.now.names known.now [] names.now.names (no_verdicts (length game.now.vertices)) game.now) }
+    ensures { IfOk result (λ picture. picture.items
+        ≡ game_drawing diagram.now.names known.now [] names.now.names
+        (no_verdicts (length game.now.vertices)) game.now) }
 {
     let verdicts = no_verdicts(alloc, game.vertices())?;
     let mut picture = Vec::new(alloc);
@@ -122,7 +124,8 @@ fn family_drawn(
     game_text: &[u8],
 ) -> Result<Vec<u8>, Fault>
     requires { game.now.features ≡ feature_count diagram.now.lines }
-    ensures drawn { IfOk result (λ picture. IsDrawn subject diagram.now game.now diagram_text.now game_text.now picture.items) }
+    ensures drawn { IfOk result
+        (λ picture. IsDrawn subject diagram.now game.now diagram_text.now game_text.now picture.items) }
     ensures refused { IfErr result (TellsContradiction diagram.now) }
 {
     let known = match known_alone(alloc, diagram) {

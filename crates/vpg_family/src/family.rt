@@ -95,12 +95,14 @@ impl Family {
     /// Returns the family that the texts of a diagram and a game spell. A fault of the diagram comes before any of the
     /// game.
     pub fn read(alloc: Global, diagram: &[u8], game: &[u8]) -> Result<Family, Fault>
-        ensures found { IfOk result (λ family. SpellsFamily diagram.now game.now (arc_value family.diagram) (arc_value family.game)) }
+        ensures found { IfOk result
+            (λ family. SpellsFamily diagram.now game.now (arc_value family.diagram) (arc_value family.game)) }
         // All that the texts spell is read, unless memory runs out.
         ensures only { (d : NamedDiagram) (g : NamedGame) → SpellsFamily diagram.now game.now d g →
             MatchResult result (λ family. (arc_value family.diagram ≡ d) × (arc_value family.game ≡ g))
             (λ fault. fault ≡ Fault.Memory) }
-        ensures features { IfOk result (λ family. (arc_value family.game).features ≡ feature_count (arc_value family.diagram).lines) }
+        ensures features { IfOk result
+            (λ family. (arc_value family.game).features ≡ feature_count (arc_value family.diagram).lines) }
         ensures refused { IfErr result (IsFamilyFault diagram.now game.now) }
     {
         let diagram = read_diagram(alloc, diagram)?;
@@ -124,7 +126,9 @@ impl Family {
     /// more. The fault of the first word that names none comes before that of words that are no product.
     pub fn projected(self, alloc: Global, words: &[&str]) -> Result<Vec<u8>, Fault>
         requires { (arc_value self.game).features ≡ feature_count (arc_value self.diagram).lines }
-        ensures text { IfOk result (λ text. IsProjected (arc_value self.diagram) (arc_value self.game) (map (λ word. word.now) words.now) text.items) }
+        ensures text { IfOk result
+            (λ text. IsProjected (arc_value self.diagram) (arc_value self.game)
+            (map (λ word. word.now) words.now) text.items) }
         ensures refused { IfErr result (IsNotProjected (arc_value self.diagram) (map (λ word. word.now) words.now)) }
     {
         let set = features_named(alloc, self.diagram.names(), words)?;

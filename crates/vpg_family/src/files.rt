@@ -431,7 +431,8 @@ pub fn read_family<R: Files + AllocGlobal>(
     // A game that is made is the model-checking game of some texts.
     ensures model { IfOk result (λ family.
         IsFamilyOf paths.entry.game (arc_value family.diagram) (arc_value family.game)) }
-    ensures features { IfOk result (λ family. (arc_value family.game).features ≡ feature_count (arc_value family.diagram).lines) }
+    ensures features { IfOk result
+        (λ family. (arc_value family.game).features ≡ feature_count (arc_value family.diagram).lines) }
     ensures refused { IfErr result (λ unread. IsUnread unread.texts.diagram.items unread.texts.game.items
         unread.texts.system.items unread.texts.requirements.items unread.fault) }
     // A fault of a model is that of its text.

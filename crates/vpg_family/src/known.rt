@@ -17,6 +17,7 @@ use crate::family::Family;
 use crate::fault::Fault;
 use crate::files::{Paths, Texts, Unread, read_texts};
 use std::alloc::{AllocError, Global};
+use std::mem;
 use std::rt::Files;
 use vpg_checking::Behaviour;
 use vpg_formula::Entry;
@@ -138,23 +139,26 @@ fn callings_of(
     Ok(callings)
 }
 
-/// The context of a script's lines beside the family: the names that they may give its vertices, and the system that
-/// its game was made of, if there is one.
+/// The context of a script's lines beside the family: the names that they may give its vertices, the system that its
+/// game was made of, if there is one, and the names that end the answers' lines about vertices, none unless asked for.
 #[derive(Drop)]
 pub struct Context {
     pub callings: Callings,
     pub behaviour: Option<Behaviour>,
+    pub labels: VertexNames,
 }
 
 impl Context {
-    /// Returns a context without names, and without a system.
+    /// Returns a context without names of either kind, and without a system.
     pub fn none(alloc: Global) -> Context
         ensures callings { result.callings ≡ [] }
         ensures behaviour { result.behaviour ≡ None }
+        ensures labels { result.labels.names ≡ [] }
     {
         Context {
             callings: Callings::none(alloc),
             behaviour: None,
+            labels: VertexNames::none(alloc),
         }
     }
 }
@@ -187,6 +191,8 @@ impl Known {
             (earlier_of texts.now.entries.items) texts.now.vertices.items known.context.callings) }
         // The names and the start are those in the game's text.
         ensures names { IfOk result (λ known. TellsNames texts.now.game.items known.names) }
+        // No line of an answer ends with a name yet.
+        ensures labels { IfOk result (λ known. known.context.labels.names ≡ []) }
         ensures features { IfOk result (λ known.
             (arc_value known.family.game).features ≡ feature_count (arc_value known.family.diagram).lines) }
         // All that the texts spell is read.
@@ -209,10 +215,22 @@ impl Known {
                 context: Context {
                     callings,
                     behaviour: None,
+                    labels: VertexNames::none(alloc),
                 },
             }),
             Err(_) => Err(Fault::Memory),
         }
+    }
+
+    /// Has lines of answers end with the names of their vertices. The names, and with them the start, go to the
+    /// context.
+    pub fn label(&mut self)
+        ensures labels { self.new.context.labels ≡ self.old.names }
+        ensures callings { self.new.context.callings ≡ self.old.context.callings }
+        ensures behaviour { self.new.context.behaviour ≡ self.old.context.behaviour }
+        ensures family { self.new.family ≡ self.old.family }
+    {
+        mem::swap(&mut self.names, &mut self.context.labels);
     }
 }
 
@@ -232,6 +250,8 @@ pub fn read_known<R: Files + AllocGlobal>(
     // The names and the start are those in the same text of its game.
     ensures names { IfOk result (λ known. IsNamedFamily paths.entry.game (arc_value known.family.diagram)
         (arc_value known.family.game) known.context.callings known.names) }
+    // No line of an answer ends with a name yet.
+    ensures labels { IfOk result (λ known. known.context.labels.names ≡ []) }
     // The system that its game was made of is kept, and nothing else.
     ensures made { IfOk result (λ known. IsFamilyMadeOf paths.entry.game (arc_value known.family.diagram)
         (arc_value known.family.game) known.context.behaviour) }

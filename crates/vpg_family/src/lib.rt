@@ -7,12 +7,11 @@
 //! family of texts, with its requirements, and `drawn` returns a picture of two texts. `linted` warns of a diagram
 //! without a product, and of features that are in no product or that no guard names. It warns of vertices without moves
 //! or that the game never reaches, and of a start that is no vertex. `page_drawn` returns the picture of a page.
-//! `system_drawn` draws a system alone, and `system_on` on a page, with the marks of a trace if there is one.
-//! `Pictured` is a sink that passes answers on with the names of vertices in pictures. Each fault of the program is a
-//! `Fault`, `line_of` returns the line that reports it, and `explained` lines that say where and why;
-//! `explained_diagram` those on the file of a diagram alone. `Known` is a family with the names that lines of scripts
-//! may give its vertices, and `read_known` returns that of some files. The crate knows no desk: scripts are carried out
-//! above it.
+//! `system_drawn` draws a system alone, and `system_on` on a page, with the marks of a trace if there is one. Each
+//! fault of the program is a `Fault`, `line_of` returns the line that reports it, and `explained` lines that say where
+//! and why; `explained_diagram` those on the file of a diagram alone. `Known` is a family with the names of its
+//! vertices and the `Context` of a script's lines, and `read_known` returns that of some files. The crate knows no
+//! desk: scripts are carried out above it.
 //!
 //! `specs/Families` defines the texts that spell a family, when its game is made, and the words that name a product;
 //! `specs/Sources` the diagram that a file means, and `specs/Called` the names of vertices. `specs/Counts`,
@@ -36,9 +35,6 @@ mod linting;
 mod modelling;
 mod moves;
 mod paged;
-mod pages;
-mod parts;
-mod pictured;
 mod products;
 mod sources;
 mod system_warnings;
@@ -58,7 +54,6 @@ pub use files::{
 pub use known::{Context, Known, read_known};
 pub use linting::linted;
 pub use paged::page_drawn;
-pub use pictured::Pictured;
 pub use sources::{DiagramFile, read_diagram_file};
 pub use systems::{system_drawn, system_on};
 pub use telling::line_of;

@@ -2,15 +2,15 @@
 ghost use Rattle.std.specs.Prelude.{◌≡◌, ◌<◌, All, length, map, IfOk};
 ghost use Rattle.vpg_diagram.specs.FeatureDiagram.{feature_count};
 ghost use Rattle.vpg_draw.specs.FeatureDrawing.{feature_drawing};
+ghost use Rattle.vpg_draw.specs.GameDrawing.{game_drawing};
 ghost use Rattle.vpg_family.specs.Pages.{sight_of, IsGameSeen, IsPageDrawn, IsSightDrawn};
 ghost use Rattle.vpg_partial.specs.Known.{literal_of};
 
 use crate::drawing::Subject;
 use crate::files::Texts;
-use crate::pages::game_shown;
 use std::alloc::{AllocError, Global};
 use vpg_diagram::Diagram;
-use vpg_draw::draw_features;
+use vpg_draw::{draw_features, draw_game};
 use vpg_game::{GuardedGame, VertexNames};
 use vpg_measure::Order;
 use vpg_partial::{Decision, Partial};
@@ -33,6 +33,38 @@ fn features_shown(
     // The diagram has a name for each feature.
     let _features = diagram.features();
     draw_features(alloc, text, diagram, known, decisions, &mut picture)?;
+    Ok(picture)
+}
+
+/// Returns the picture of the game on a page, with these names of its vertices.
+fn game_shown(
+    alloc: Global,
+    diagram: &Diagram,
+    game: &GuardedGame,
+    known: &Partial,
+    decisions: &[Decision],
+    verdicts: &[Verdict],
+    names: &VertexNames,
+) -> Result<Vec<u8>, AllocError>
+    requires features { game.now.features ≡ feature_count diagram.now.lines }
+    requires known { length known.now ≡ feature_count diagram.now.lines }
+    requires decisions { All (λ d. d.feature < feature_count diagram.now.lines) decisions.now }
+    requires verdicts { length verdicts.now ≡ length game.now.vertices }
+    ensures { IfOk result (λ picture. picture.items ≡ game_drawing diagram.now.names known.now
+        (map literal_of decisions.now) names.now.names verdicts.now game.now) }
+{
+    let features = diagram.names();
+    let mut picture = Vec::new(alloc);
+    draw_game(
+        alloc,
+        game,
+        features,
+        known,
+        decisions,
+        names,
+        verdicts,
+        &mut picture,
+    )?;
     Ok(picture)
 }
 

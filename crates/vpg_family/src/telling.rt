@@ -252,7 +252,8 @@ fn put_line_fault(fault: LineFault, out: &mut Vec<u8>) -> Result<(), AllocError>
 
 /// Appends which line of a script has which fault.
 fn put_line(line: u64, fault: LineFault, out: &mut Vec<u8>) -> Result<(), AllocError>
-    ensures { OnOk result (out.new.items ≡ out.old.items ++ labelled (codes "script Line") line ++ 32 ∷ line_text fault) }
+    ensures { OnOk result (out.new.items ≡ out.old.items ++ labelled (codes "script Line") line
+        ++ 32 ∷ line_text fault) }
 {
     put_labelled(b"script Line", line, out)?;
     out.push(b' ')?;

@@ -9,10 +9,9 @@ use std::alloc::Global;
 use std::io::{IsTerminal, Read};
 use std::sync::Wait;
 use std::thread::Threads;
-use vpg_family::{Context, Family, Fault, Known, Paths, Pictured, Texts, open_script, read_script};
+use vpg_family::{Context, Family, Fault, Known, Paths, Texts, open_script, read_script};
 use vpg_report::{DIAGRAM, End, GAME, end_of, run_script};
 use vpg_script::{Device, Form, Manner, Sink, Source};
-use vpg_terminal::Named;
 
 /// A run of a script's file.
 #[derive(Clone, Copy)]
@@ -23,7 +22,7 @@ pub(crate) struct ScriptRun<'a> {
     pub(crate) config: Option<&'a str>,
     pub(crate) lifters: u32,
     pub(crate) manner: Manner,
-    /// Whether the names of vertices stand beside the answers.
+    /// Whether lines about vertices end with the names of these.
     pub(crate) is_named: bool,
 }
 
@@ -32,7 +31,7 @@ pub(crate) fn answers_in(json: bool) -> Form {
     if json { Form::Json } else { Form::Plain }
 }
 
-/// Carries a script out on a family, with these names for its vertices.
+/// Carries a script out on a family, in this context.
 pub(crate) fn run<T: Threads + Wait + Sync, R: Source + Drop, W: Sink + Drop>(
     threads: &T,
     alloc: Global,
@@ -90,19 +89,6 @@ pub(crate) fn run_built_in<T: Threads + Wait + Sync>(
     run(threads, alloc, family, &context, reader, writer, 1, manner)
 }
 
-/// Returns a sink that passes answers on to a writer with the names of vertices beside their lines, and in pictures.
-pub(crate) fn named<'n, W: Sink>(
-    alloc: Global,
-    known: &'n Known,
-    writer: W,
-) -> Named<'n, Pictured<'n, W>>
-    requires { (arc_value known.now.family.game).features ≡ feature_count (arc_value known.now.family.diagram).lines }
-{
-    let game = &known.family.game;
-    let writer = Pictured::new(alloc, &known.family.diagram, game, &known.names, writer);
-    Named::new(alloc, game, &known.names, writer)
-}
-
 /// Returns the lines of a script's file, none if there is no script.
 pub(crate) fn script_of(
     rt: &HostRuntime,
@@ -153,12 +139,10 @@ pub(crate) fn run_files<T: Threads + Wait + Sync>(
 ) -> Result<End, Fault>
     requires { (1 ≤ asked.lifters) × (asked.lifters ≤ 64) }
 {
-    let known = known_of(rt, alloc, asked.paths, texts)?;
-    let writer = Device::writer(rt.stdout().lock());
+    let mut known = known_of(rt, alloc, asked.paths, texts)?;
     if asked.is_named {
-        let writer = named(alloc, &known, writer);
-        run_to(rt, threads, alloc, &known, asked, writer)
-    } else {
-        run_to(rt, threads, alloc, &known, asked, writer)
+        known.label();
     }
+    let writer = Device::writer(rt.stdout().lock());
+    run_to(rt, threads, alloc, &known, asked, writer)
 }

@@ -4,7 +4,7 @@ ghost use Rattle.std.specs.Prelude.{◌≡◌, ◌≤◌, IfOk};
 ghost use Rattle.vpg_diagram.specs.FeatureDiagram.{feature_count};
 
 use crate::family::known_of;
-use crate::running::{named, run};
+use crate::running::run;
 use std::alloc::{AllocError, Global};
 use std::cell::Cell;
 use std::io::IsTerminal;
@@ -21,7 +21,7 @@ pub(crate) struct Talk<'a> {
     pub(crate) paths: Paths<'a>,
     pub(crate) lifters: u32,
     pub(crate) form: Form,
-    /// Whether the names of vertices stand beside the answers.
+    /// Whether lines about vertices end with the names of these.
     pub(crate) is_named: bool,
 }
 
@@ -46,12 +46,13 @@ fn greet<S: Sink>(alloc: Global, family: &Family, talk: &mut S) -> Result<Family
     family.again()
 }
 
-/// Answers commands as they are typed, on a family. The text beside the answers goes to `beside`. Of answers in JSON
-/// the session hears nothing.
+/// Answers commands as they are typed, on a family that starts at the vertex of this identifier. The text beside the
+/// answers goes to `beside`. Of answers in JSON the session hears nothing.
 fn converse<T: Threads + Wait + Sync, R: Source + Drop, S: Sink + Drop, W: Sink + Drop>(
     threads: &T,
     alloc: Global,
     known: &Known,
+    start: Option<u32>,
     talk: Talk<'_>,
     is_prompted: bool,
     reader: R,
@@ -69,7 +70,7 @@ fn converse<T: Threads + Wait + Sync, R: Source + Drop, S: Sink + Drop, W: Sink 
         commands: command_list(),
         features: known.family.diagram.names(),
         is_prompted,
-        start: start_of(known),
+        start,
         heard: &heard,
     };
     // Each line is answered, also one with a fault.
@@ -96,6 +97,7 @@ fn converse_here<T: Threads + Wait + Sync, W: Sink + Drop>(
     threads: &T,
     alloc: Global,
     known: &Known,
+    start: Option<u32>,
     talk: Talk<'_>,
     writer: W,
 ) -> Result<End, Fault>
@@ -110,6 +112,7 @@ fn converse_here<T: Threads + Wait + Sync, W: Sink + Drop>(
         threads,
         alloc,
         known,
+        start,
         talk,
         is_prompted,
         reader,
@@ -128,12 +131,11 @@ pub(crate) fn sit<T: Threads + Wait + Sync>(
 ) -> Result<End, Fault>
     requires { (1 ≤ talk.lifters) × (talk.lifters ≤ 64) }
 {
-    let known = known_of(rt, alloc, talk.paths, texts)?;
-    let writer = Device::writer(rt.stdout().lock());
+    let mut known = known_of(rt, alloc, talk.paths, texts)?;
+    let start = start_of(&known);
     if talk.is_named {
-        let writer = named(alloc, &known, writer);
-        converse_here(rt, threads, alloc, &known, talk, writer)
-    } else {
-        converse_here(rt, threads, alloc, &known, talk, writer)
+        known.label();
     }
+    let writer = Device::writer(rt.stdout().lock());
+    converse_here(rt, threads, alloc, &known, start, talk, writer)
 }

@@ -22,24 +22,24 @@ use Rattle.vpg_texts.specs.Scene.{Scene}
 use Rattle.vpg_report.specs.Answers.{Own, NoFeature, NoVertex, IsOwn, own_text, full_log, refusal_text, numbered, settled_text, room, call_or, vertex_of, first_call, IsSwept, IsLifted, most_sweeps, sweeps_of, Rest, Follows, Continues, Begins}
 use Rattle.vpg_report.specs.Made.{IsMadeBy, AreMadeBy}
 use Rattle.vpg_report.specs.Setting.{setting_in}
-use Rattle.vpg_report.specs.Engine.{EngineState, scene_at, deciding, TellsRefusal, TellsFault, AnswersBy, AnswersTo, SweepsTo}
+use Rattle.vpg_report.specs.Engine.{EngineState, scene_at, scene_with, deciding, TellsRefusal, TellsFault, AnswersBy, AnswersTo, AnswersWith, SweepsTo, SweepsWith}
 
 -- ---- what the code shows
 
 -- an answer of an engine by its fields is one of what contracts see of it
-pub on_view : {E : Type 0} (r : Result Tone E) (P : Tone → Type 0) (seen old new : EngineState) (request : Request) (before after : List ℕ) → seen ≡ old →
-    ((tone : Tone) → P tone → AnswersTo seen request tone before after new) → IfOk r P → IfOk r (λ tone. AnswersTo old request tone before after new)
-on_view (Ok tone) P seen old new request before after same f p = subst (λ (e : EngineState). AnswersTo e request tone before after new) same (f tone p)
+pub on_view : {E : Type 0} {labels : List (List ℕ)} (r : Result Tone E) (P : Tone → Type 0) (seen old new : EngineState) (request : Request) (before after : List ℕ) → seen ≡ old →
+    ((tone : Tone) → P tone → AnswersWith labels seen request tone before after new) → IfOk r P → IfOk r (λ tone. AnswersWith labels old request tone before after new)
+on_view {labels = labels} (Ok tone) P seen old new request before after same f p = subst (λ (e : EngineState). AnswersWith labels e request tone before after new) same (f tone p)
 on_view (Err e) P seen old new request before after same f p = tt
 
 -- the same of one tone
-pub on_view_told : {tone : Tone} (seen old new : EngineState) (request : Request) (before after : List ℕ) → seen ≡ old → AnswersTo seen request tone before after new → AnswersTo old request tone before after new
-on_view_told {tone = tone} seen old new request before after same so = subst (λ (e : EngineState). AnswersTo e request tone before after new) same so
+pub on_view_told : {tone : Tone} {labels : List (List ℕ)} (seen old new : EngineState) (request : Request) (before after : List ℕ) → seen ≡ old → AnswersWith labels seen request tone before after new → AnswersWith labels old request tone before after new
+on_view_told {tone = tone} {labels = labels} seen old new request before after same so = subst (λ (e : EngineState). AnswersWith labels e request tone before after new) same so
 
 -- the same, where nothing changes
-pub on_same_view : {E : Type 0} (r : Result Tone E) (P : Tone → Type 0) (seen old : EngineState) (request : Request) (before after : List ℕ) → seen ≡ old →
-    ((tone : Tone) → P tone → AnswersTo seen request tone before after seen) → IfOk r P → IfOk r (λ tone. AnswersTo old request tone before after old)
-on_same_view (Ok tone) P seen old request before after same f p = subst (λ (e : EngineState). AnswersTo e request tone before after e) same (f tone p)
+pub on_same_view : {E : Type 0} {labels : List (List ℕ)} (r : Result Tone E) (P : Tone → Type 0) (seen old : EngineState) (request : Request) (before after : List ℕ) → seen ≡ old →
+    ((tone : Tone) → P tone → AnswersWith labels seen request tone before after seen) → IfOk r P → IfOk r (λ tone. AnswersWith labels old request tone before after old)
+on_same_view {labels = labels} (Ok tone) P seen old request before after same f p = subst (λ (e : EngineState). AnswersWith labels e request tone before after e) same (f tone p)
 on_same_view (Err e) P seen old request before after same f p = tt
 
 -- the same, of what sweeps made
@@ -53,20 +53,55 @@ pub both_on : {E : Type 0} (r : Result Tone E) (P : Type 0) (Q : Tone → Type 0
 both_on (Ok tone) P Q p q = (p, q)
 both_on (Err e) P Q p q = tt
 
+-- no line of the command's answer ends with a name
+abbrev IsUnnamed : script.Command → Type 0
+IsUnnamed (script.Ask inquiry) = ⊥
+IsUnnamed (script.Look lookup) = ⊥
+IsUnnamed script.Changed = ⊥
+IsUnnamed _ = Unit {0}
+
+unnamed_own : (command : script.Command) → IsUnnamed command → IsOwn command
+unnamed_own (script.Ask inquiry) unnamed = absurd unnamed
+unnamed_own _ unnamed = tt
+
+-- so it is the same with names
+named_as : (labels : List (List ℕ)) {tone : Tone} (old new : EngineState) (label : ℕ) (command : script.Command) (before after : List ℕ) → IsUnnamed command →
+    AnswersTo old (record { label = label; command = command }) tone before after new → AnswersWith labels old (record { label = label; command = command }) tone before after new
+named_as labels old new label (script.Ask inquiry) before after unnamed so = absurd unnamed
+named_as labels old new label (script.Look lookup) before after unnamed so = absurd unnamed
+named_as labels old new label script.Changed before after unnamed so = absurd unnamed
+named_as labels old new label _ before after unnamed so = record { by = so.by }
+
+swept_as : (labels : List (List ℕ)) {tone : Tone} (old new : EngineState) (lifters label : ℕ) (command : script.Command) (before after : List ℕ) → IsUnnamed command →
+    SweepsTo old lifters (record { label = label; command = command }) tone before after new → SweepsWith labels old lifters (record { label = label; command = command }) tone before after new
+swept_as labels old new lifters label (script.Ask inquiry) before after unnamed so = absurd unnamed
+swept_as labels old new lifters label (script.Look lookup) before after unnamed so = absurd unnamed
+swept_as labels old new lifters label script.Changed before after unnamed so = absurd unnamed
+swept_as labels old new lifters label _ before after unnamed so = record { answers = record { by = so.answers.by }; made = so.made }
+
 -- the answer to a request is one to the same request as it is shown
-pub served : {E : Type 0} (r : Result Tone E) (old new : EngineState) (lifters : ℕ) (request shown : Request) (before after : List ℕ) → request ≡ shown → IsOwn request.command →
+pub served_with : {E : Type 0} (labels : List (List ℕ)) (r : Result Tone E) (old new : EngineState) (lifters : ℕ) (request shown : Request) (before after : List ℕ) → request ≡ shown → IsOwn request.command →
+    ((calls : List Event) (held : Held) → AreMadeBy (setting_in (scene_at old)) lifters request.command calls held) → IfOk r (λ tone. AnswersWith labels old request tone before after new) →
+    IfOk r (λ tone. IsOwn shown.command × SweepsWith labels old lifters shown tone before after new)
+served_with labels (Ok tone) old new lifters request shown before after same own plain so =
+    subst (λ (q : Request). IsOwn q.command × SweepsWith labels old lifters q tone before after new) same (own, record { answers = so; made = plain so.by.answers.0 new.held })
+served_with labels (Err e) old new lifters request shown before after same own plain so = tt
+
+-- the same of one without names
+pub served : {E : Type 0} (labels : List (List ℕ)) (r : Result Tone E) (old new : EngineState) (lifters : ℕ) (request shown : Request) (before after : List ℕ) → request ≡ shown → IsUnnamed request.command →
     ((calls : List Event) (held : Held) → AreMadeBy (setting_in (scene_at old)) lifters request.command calls held) → IfOk r (λ tone. AnswersTo old request tone before after new) →
-    IfOk r (λ tone. IsOwn shown.command × SweepsTo old lifters shown tone before after new)
-served (Ok tone) old new lifters request shown before after same own plain so =
-    subst (λ (q : Request). IsOwn q.command × SweepsTo old lifters q tone before after new) same (own, record { answers = so; made = plain so.by.answers.0 new.held })
-served (Err e) old new lifters request shown before after same own plain so = tt
+    IfOk r (λ tone. IsOwn shown.command × SweepsWith labels old lifters shown tone before after new)
+served labels (Ok tone) old new lifters request shown before after same unnamed plain so =
+    served_with labels (Ok tone) old new lifters request shown before after same (unnamed_own request.command unnamed) plain (named_as labels old new request.label request.command before after unnamed so)
+served labels (Err e) old new lifters request shown before after same unnamed plain so = tt
 
 -- the same, of what sweeps made
-pub served_by : {E : Type 0} (r : Result Tone E) (old new : EngineState) (lifters : ℕ) (request shown : Request) (before after : List ℕ) → request ≡ shown → IsOwn request.command →
-    IfOk r (λ tone. SweepsTo old lifters request tone before after new) → IfOk r (λ tone. IsOwn shown.command × SweepsTo old lifters shown tone before after new)
-served_by (Ok tone) old new lifters request shown before after same own so =
-    subst (λ (q : Request). IsOwn q.command × SweepsTo old lifters q tone before after new) same (own, so)
-served_by (Err e) old new lifters request shown before after same own so = tt
+pub served_by : {E : Type 0} (labels : List (List ℕ)) (r : Result Tone E) (old new : EngineState) (lifters : ℕ) (request shown : Request) (before after : List ℕ) → request ≡ shown → IsUnnamed request.command →
+    IfOk r (λ tone. SweepsTo old lifters request tone before after new) → IfOk r (λ tone. IsOwn shown.command × SweepsWith labels old lifters shown tone before after new)
+served_by labels (Ok tone) old new lifters request shown before after same unnamed so =
+    subst (λ (q : Request). IsOwn q.command × SweepsWith labels old lifters q tone before after new) same
+    (unnamed_own request.command unnamed, swept_as labels old new lifters request.label request.command before after unnamed so)
+served_by labels (Err e) old new lifters request shown before after same unnamed so = tt
 
 -- ---- calls of a client
 
@@ -198,6 +233,15 @@ module _ (limit : ℕ) (limit_is : limit ≡ room) (label : ℕ) where
       fault ≡ faults.LogFull → IsGiven full_log tone before after → AnswersTo old (record { label = label; command = command }) tone before after new
   log_full refusal old new command call fault before after first tells held is told =
       record { by = log_full_by refusal old new (first_call (scene_at old) old.held command) (Continues (scene_at old) old.held (old.client.calls + 1) label command) call fault before after first tells held is told }
+
+  -- and with names
+  pub log_full_with : {F : Type 0} {tone : Tone} (labels : List (List ℕ)) (refusal : F → Option Refusal) (old new : EngineState) (command : script.Command) (call : Call) (fault : ClientFault F) (before after : List ℕ) →
+      first_call (scene_with labels old) old.held command ≡ Ok call → Tells limit refusal old.client label call new.client fault → UnlessStray fault (new.held ≡ old.held) →
+      fault ≡ faults.LogFull → IsGiven full_log tone before after → AnswersWith labels old (record { label = label; command = command }) tone before after new
+  log_full_with labels refusal old new command call fault before after first tells held is told =
+      record {
+        by = log_full_by refusal old new (first_call (scene_with labels old) old.held command) (Continues (scene_with labels old) old.held (old.client.calls + 1) label command) call fault before after first tells held is told;
+      }
 
   -- ---- an order, and what is made of it
 

@@ -1,5 +1,5 @@
 -- Pages that scripts leave, drawn.
-use Rattle.std.proofs.Common.{◌≡◌, inr, ℕ, ◌<◌, List, length, map, Option, Some, None, Result, Ok, sym, ap, subst, ◌∙◌}
+use Rattle.std.proofs.Common.{◌≡◌, inr, ℕ, ◌<◌, List, length, map, Option, Some, None, Result, Ok, sym, ap, subst, ◌∙◌, []}
 use Rattle.std.specs.Prelude.{IfOk}
 use Rattle.std.proofs.lemmas.Result.{IfOk-weaker}
 use Rattle.vpg_diagram.specs.DiagramText.{NamedDiagram}
@@ -69,10 +69,10 @@ pictured subject diagram game decisions hopeful dual verdicts diagram_text game_
 
 -- a request asks as it is meant, also where the game and the diagram are copies
 pub request_asks : (context : Context) (game other : NamedGame) (diagram seen : NamedDiagram) (names : List (List ℕ)) (request said : Request) (vertex : ℕ) → other ≡ game → seen ≡ diagram → names ≡ diagram.names →
-    said ≡ meant context.callings names request → AsksTrace context.behaviour (scene_of other seen) said.command vertex → RequestAsksTrace (called_in game diagram context) request vertex
+    said ≡ meant context.callings names request → AsksTrace context.behaviour (scene_of [] other seen) said.command vertex → RequestAsksTrace (called_in game diagram context) request vertex
 request_asks context game other diagram seen names request said vertex g d n s is =
     let same : said ≡ meant context.callings diagram.names request = s ∙ ap (λ (fs : List (List ℕ)). meant context.callings fs request) n in
-    coe 0 1 (k. AsksTrace context.behaviour (scene_of (g k) (d k)) (same k).command vertex) is
+    coe 0 1 (k. AsksTrace context.behaviour (scene_of [] (g k) (d k)) (same k).command vertex) is
 
 -- and a line by its request
 pub line_asks : {E : Type 0} (called : Called) (line : List ℕ) (request : Request) (found : Result ℕ E) → said line ≡ Ok (Some request) → IfOk found (RequestAsksTrace called request) → IfOk found (LineAsksTrace called line)

@@ -1,5 +1,5 @@
 -- What lines ask of the page, and how it is answered.
-use Rattle.std.proofs.Common.{◌≡◌, ℕ, ◌+◌, ◌<◌, Bool, true, false, List, length, Option, Some, None, Result, Ok, Err, refl, sym, ap, subst}
+use Rattle.std.proofs.Common.{◌≡◌, ℕ, ◌+◌, ◌<◌, Bool, true, false, List, length, Option, Some, None, Result, Ok, Err, refl, sym, ap, subst, []}
 use Rattle.std.proofs.lemmas.Bool.{eqb-true, false≢true}
 use Rattle.std.specs.Prelude.{IfSome, slice_get}
 use Rattle.std.proofs.lemmas.List.{length-map}
@@ -26,7 +26,7 @@ use Rattle.vpg_script.specs.declared.command.VertexQuestion.TheVariants as quest
 use Rattle.vpg_script.specs.Script as script
 use Rattle.vpg_texts.specs.Scene.{scene_of}
 use Rattle.vpg_report.specs.Answers.{Own, NoSystem, NoVertex, Rest, full_log, own_text, room}
-use Rattle.vpg_report.specs.Engine.{EngineState, scene_at}
+use Rattle.vpg_report.specs.Engine.{EngineState, scene_with}
 use Rattle.vpg_report.proofs.Asked.{unasked_by, asked_by, log_full_by}
 use Rattle.vpg_report.proofs.Enduring.{unless_stray_any}
 use Rattle.vpg_report.specs.Requests.{Continues, answer_limits, first_call, is_answerable, order_or, query_if, query_of, query_or}
@@ -68,32 +68,32 @@ pub asked_not : (answerable : Bool) (question : VertexQuestion) (place : Option 
 asked_not false question place is = refl
 asked_not true question place is = absurd (false≢true (sym is))
 
-module _ (behaviour : Option Behaviour) (old : EngineState) (session : ℕ) (game : NamedGame) (diagram : NamedDiagram) (game_is : game ≡ old.client.desk.game) (diagram_is : diagram ≡ old.client.desk.diagram) (inquiry : script.Inquiry) where
-  here : (found : Result Query Own) → query_of behaviour (scene_of game diagram) inquiry ≡ found → query_of behaviour (scene_at old) inquiry ≡ found
-  here found is = coe 0 1 (k. query_of behaviour (scene_of (game_is k) (diagram_is k)) inquiry ≡ found) is
+module _ (labels : List (List ℕ)) (behaviour : Option Behaviour) (old : EngineState) (session : ℕ) (game : NamedGame) (diagram : NamedDiagram) (game_is : game ≡ old.client.desk.game) (diagram_is : diagram ≡ old.client.desk.diagram) (inquiry : script.Inquiry) where
+  here : (found : Result Query Own) → query_of behaviour (scene_of [] game diagram) inquiry ≡ found → query_of behaviour (scene_with labels old) inquiry ≡ found
+  here found is = coe 0 1 (k. query_of behaviour (scene_of labels (game_is k) (diagram_is k)) inquiry ≡ found) is
 
   abbrev first : Result Call Own
-  first = first_call behaviour (scene_at old) old.held (script.Ask inquiry)
+  first = first_call behaviour (scene_with labels old) old.held (script.Ask inquiry)
 
   abbrev then : Reply → Rest
-  then = Continues behaviour (scene_at old) old.held (old.client.calls + 1) session (script.Ask inquiry)
+  then = Continues behaviour (scene_with labels old) old.held (old.client.calls + 1) session (script.Ask inquiry)
 
   -- what it names is missing
-  pub missing_answers : {tone : Tone} (own : Own) (before after : List ℕ) → query_of behaviour (scene_of game diagram) inquiry ≡ Err own → IsGiven (refused (own_text own)) tone before after →
-      AnswersTo behaviour old (record { label = session; command = script.Ask inquiry }) tone before after old
+  pub missing_answers : {tone : Tone} (own : Own) (before after : List ℕ) → query_of behaviour (scene_of [] game diagram) inquiry ≡ Err own → IsGiven (refused (own_text own)) tone before after →
+      AnswersTo labels behaviour old (record { label = session; command = script.Ask inquiry }) tone before after old
   missing_answers own before after is told = unasked_by old session first then own before after (ap order_or (here (Err own) is)) told
 
-  module _ (limit : ℕ) (limit_is : limit ≡ room) (new : EngineState) (query : Query) (before after : List ℕ) (asks : query_of behaviour (scene_of game diagram) inquiry ≡ Ok query) where
+  module _ (limit : ℕ) (limit_is : limit ≡ room) (new : EngineState) (query : Query) (before after : List ℕ) (asks : query_of behaviour (scene_of [] game diagram) inquiry ≡ Ok query) where
     -- its order finds the log full
     pub full_answers : {F : Type 0} {tone : Tone} (refusal : F → Option Refusal) (fault : ClientFault F) → Tells limit refusal old.client session Order new.client fault → new.held ≡ old.held →
-        (fault ≡ LogFull) × IsGiven full_log tone before after → AnswersTo behaviour old (record { label = session; command = script.Ask inquiry }) tone before after new
+        (fault ≡ LogFull) × IsGiven full_log tone before after → AnswersTo labels behaviour old (record { label = session; command = script.Ask inquiry }) tone before after new
     full_answers refusal fault tells held told =
         log_full_by limit limit_is session refusal old new first then Order fault before after (ap order_or (here (Ok query) asks)) tells (unless_stray_any fault _ held) told.0 told.1
 
     -- it is answered of an order of the desk
     pub ask_answers : {tone : Tone} (order : OrderView) → IsLogged limit old.client session Order (Ordered order.decisions order.hopeful order.dual) new.client → IsOrderOf old.client.desk order → new.held ≡ old.held →
-        Gives (IsAnswer behaviour (scene_of order.game order.diagram) answer_limits query order.decisions order.hopeful order.dual) tone before after →
-        AnswersTo behaviour old (record { label = session; command = script.Ask inquiry }) tone before after new
+        Gives (IsAnswer behaviour (scene_of labels order.game order.diagram) answer_limits query order.decisions order.hopeful order.dual) tone before after →
+        AnswersTo labels behaviour old (record { label = session; command = script.Ask inquiry }) tone before after new
     ask_answers order logged ours held (answer, (answered, given)) =
         asked_by limit limit_is session old new first then Order (Ordered order.decisions order.hopeful order.dual) answer before after (ap order_or (here (Ok query) asks)) logged
-        ((query, (here (Ok query) asks, coe 0 1 (k. IsAnswer behaviour (scene_of (ours.0 k) (ours.1 k)) answer_limits query order.decisions order.hopeful order.dual answer) answered)), refl, held) given
+        ((query, (here (Ok query) asks, coe 0 1 (k. IsAnswer behaviour (scene_of labels (ours.0 k) (ours.1 k)) answer_limits query order.decisions order.hopeful order.dual answer) answered)), refl, held) given

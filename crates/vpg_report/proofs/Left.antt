@@ -26,9 +26,9 @@ use Rattle.vpg_report.specs.Client.{ClientState, IsLogged}
 use Rattle.vpg_report.specs.Faults.{Tells}
 use Rattle.vpg_report.specs.declared.fault.ClientFault.{ClientFault}
 use Rattle.vpg_report.specs.declared.fault.ClientFault.TheVariants.{LogFull}
-use Rattle.vpg_report.specs.Engine.{EngineState, IsOpenFault, between_of, engine_of, scene_at}
+use Rattle.vpg_report.specs.Engine.{EngineState, IsOpenFault, between_of, engine_of}
 use Rattle.vpg_report.specs.Line.{Between}
-use Rattle.vpg_report.specs.Run.{answering_called, begun, called_at, called_in}
+use Rattle.vpg_report.specs.Run.{answering_called, begun, called_by, called_in}
 use Rattle.vpg_report.specs.Runs.{Ends, IsRun, TellsOpening}
 use Rattle.vpg_report.specs.Server.{IsOpenRefusal}
 use Rattle.vpg_report.specs.Left.{plain, LeavesBook, HandsOver, IsHanded, IsLeft, IsOrderOn, IsRunStopped, IsStopped, IsUnleft}
@@ -99,11 +99,11 @@ module _ (diagram : NamedDiagram) (game : NamedGame) (context : Context) (script
 
   -- the run at an engine that was just opened
   module _ (old : EngineState) (new : Between) (run : Result Ending RunFault) (just_opened : old ≡ engine_of game diagram) where
-    pub leaves_of : IfOk run (Leaves plain (answering_called (called_at (scene_at old) context) 1) (between_of old) new (Some script) None None) → IfOk run (Leaves plain serves begun new (Some script) None None)
-    leaves_of is = subst (λ (e : EngineState). IfOk run (Leaves plain (answering_called (called_at (scene_at e) context) 1) (between_of e) new (Some script) None None)) just_opened is
+    pub leaves_of : IfOk run (Leaves plain (answering_called (called_by old context) 1) (between_of old) new (Some script) None None) → IfOk run (Leaves plain serves begun new (Some script) None None)
+    leaves_of is = subst (λ (e : EngineState). IfOk run (Leaves plain (answering_called (called_by e context) 1) (between_of e) new (Some script) None None)) just_opened is
 
-    pub stops_there : IfErr run (IsStopped (answering_called (called_at (scene_at old) context) 1) (between_of old) (Some script) None None) → IfErr run (IsStopped serves begun (Some script) None None)
-    stops_there is = subst (λ (e : EngineState). IfErr run (IsStopped (answering_called (called_at (scene_at e) context) 1) (between_of e) (Some script) None None)) just_opened is
+    pub stops_there : IfErr run (IsStopped (answering_called (called_by old context) 1) (between_of old) (Some script) None None) → IfErr run (IsStopped serves begun (Some script) None None)
+    stops_there is = subst (λ (e : EngineState). IfErr run (IsStopped (answering_called (called_by e context) 1) (between_of e) (Some script) None None)) just_opened is
 
   -- the order is of the game and the diagram that the office was opened on
   pub handed_of : (own : NamedGame) (own_diagram : NamedDiagram) (left : Between) (run : Result Ending RunFault) (handed : Result (Ending × Option OrderView) RunFault) → game ≡ own → diagram ≡ own_diagram →

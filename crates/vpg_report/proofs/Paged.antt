@@ -1,5 +1,5 @@
 -- A desk's present page as it is shown.
-use Rattle.std.proofs.Common.{◌≡◌, ℕ, ◌≤◌, ◌++◌, Bool, true, false, List, length, All, Option, Some, None, Ok, Err, refl, sym, ap, ◌∙◌, subst, inr}
+use Rattle.std.proofs.Common.{◌≡◌, ℕ, ◌+◌, ◌≤◌, ◌++◌, Bool, true, false, List, [], length, All, Option, Some, None, Ok, Err, refl, sym, ap, ◌∙◌, subst, inr}
 use Rattle.std.specs.Prelude.{map, codes}
 use Rattle.std.proofs.lemmas.List.{length-map}
 use Rattle.vpg_guards.specs.Formula.{Formula}
@@ -33,10 +33,10 @@ use Rattle.vpg_texts.specs.Text.{known_text}
 use Rattle.vpg_texts.specs.Changed.{changed_text, verdicts_by}
 use Rattle.vpg_texts.specs.Sights.{has_vertices}
 use Rattle.vpg_answers.specs.Looked.{IsLooked}
-use Rattle.vpg_report.specs.Answers.{NoFeature, NoVertex, answer_limits, call_or, first_call, page_if, room, verdicts_on}
+use Rattle.vpg_report.specs.Answers.{NoFeature, NoVertex, answer_limits, call_or, first_call, page_if, room, verdicts_on, Continues}
 use Rattle.vpg_report.specs.Held.{with_seen}
-use Rattle.vpg_report.specs.Engine.{EngineState, scene_at, AnswersTo}
-use Rattle.vpg_report.proofs.Asked.{asked, page_told, unasked}
+use Rattle.vpg_report.specs.Engine.{EngineState, scene_at, scene_with, AnswersTo, AnswersWith}
+use Rattle.vpg_report.proofs.Asked.{asked_by, page_told, unasked_by}
 use Rattle.vpg_report.proofs.Within.{entries_within}
 
 -- the entries are those of the page
@@ -107,9 +107,13 @@ pub has_there : (lookup : script.Lookup) (game other same : NamedGame) → game 
 has_there lookup game other same is are has = ap (λ (g : NamedGame). has_vertices (vertex_ids g.vertices) lookup) (are ∙ sym is) ∙ has
 
 -- the game lacks one
-pub missing_vertex : {tone : Tone} (old : EngineState) (session : ℕ) (lookup : script.Lookup) (game : NamedGame) (before after : List ℕ) → game ≡ old.client.desk.game → has_vertices (vertex_ids game.vertices) lookup ≡ false →
-    IsGiven (refused (codes "NoVertex")) tone before after → AnswersTo old (record { label = session; command = script.Look lookup }) tone before after old
-missing_vertex old session lookup game before after game_is none told = unasked old session (script.Look lookup) NoVertex before after (lacks old lookup game game_is none) told
+pub missing_vertex : {tone : Tone} (labels : List (List ℕ)) (old : EngineState) (session : ℕ) (lookup : script.Lookup) (game : NamedGame) (before after : List ℕ) → game ≡ old.client.desk.game → has_vertices (vertex_ids game.vertices) lookup ≡ false →
+    IsGiven (refused (codes "NoVertex")) tone before after → AnswersWith labels old (record { label = session; command = script.Look lookup }) tone before after old
+missing_vertex labels old session lookup game before after game_is none told =
+    record {
+      by = unasked_by old session (first_call (scene_with labels old) old.held (script.Look lookup)) (Continues (scene_with labels old) old.held (old.client.calls + 1) session (script.Look lookup)) NoVertex before after
+          (lacks old lookup game game_is none) told;
+    }
 
 -- what is told of a page, with the game, the diagram, the decisions and the tables as the code has them
 module _ (limit : ℕ) (limit_is : limit ≡ room) (old new : EngineState) (session : ℕ) (game : NamedGame) (diagram : NamedDiagram) (before after : List ℕ) (game_is : game ≡ old.client.desk.game) (diagram_is : diagram ≡ old.client.desk.diagram)
@@ -126,29 +130,32 @@ module _ (limit : ℕ) (limit_is : limit ≡ room) (old new : EngineState) (sess
     known_answers games are name f found appended =
         let text = known_text diagram.names games.known f in
         page_told limit limit_is session old new (script.Known name) entries (done text) before after (ap (λ (x : Option ℕ). call_or NoFeature (λ f. AsksPage) x) found) logged
-        ((refl, (f, (found, coe 0 1 (k. TellsFeature (scene_of (game_is k) (diagram_is k)) (decisions_here k) f text) (games.known, (are.known, refl))))), refl, held) (refl, appended)
+        ((refl, (f, (found, coe 0 1 (k. TellsFeature (scene_of [] (game_is k) (diagram_is k)) (decisions_here k) f text) (games.known, (are.known, refl))))), refl, held) (refl, appended)
 
     module _ (hopeful dual : List ℕ) (hopeful_is : hopeful ≡ table_of Hopeful old.client.desk.book.present (length (graph_of old.client.desk.game)))
         (dual_is : dual ≡ table_of Dual old.client.desk.book.present (length (graph_of old.client.desk.game))) where
       table_here : (which : Which) (table : List ℕ) → table ≡ table_of which old.client.desk.book.present (length (graph_of old.client.desk.game)) → table ≡ table_of which entries (length (graph_of old.client.desk.game))
       table_here which table is = is ∙ ap (λ (page : List Entry). table_of which page (length (graph_of old.client.desk.game))) (sym present)
 
-      pub look_answers : {tone : Tone} (lookup : script.Lookup) → has_vertices (vertex_ids game.vertices) lookup ≡ true →
-          Gives (IsLooked (scene_of game diagram) answer_limits lookup entries decisions hopeful dual) tone before after →
-          AnswersTo old (record { label = session; command = script.Look lookup }) tone before after new
-      look_answers lookup has (answer, (seen, given)) =
-          page_told limit limit_is session old new (script.Look lookup) entries answer before after (looks old lookup game game_is has) logged
-          (coe 0 1 (k. IsLooked (scene_of (game_is k) (diagram_is k)) answer_limits lookup entries (decisions_here k) (table_here Hopeful hopeful hopeful_is k) (table_here Dual dual dual_is k) answer) seen, refl, held) given
+      pub look_answers : {tone : Tone} (labels : List (List ℕ)) (lookup : script.Lookup) → has_vertices (vertex_ids game.vertices) lookup ≡ true →
+          Gives (IsLooked (scene_of labels game diagram) answer_limits lookup entries decisions hopeful dual) tone before after →
+          AnswersWith labels old (record { label = session; command = script.Look lookup }) tone before after new
+      look_answers labels lookup has (answer, (seen, given)) =
+          record {
+            by = asked_by limit limit_is session old new (first_call (scene_with labels old) old.held (script.Look lookup)) (Continues (scene_with labels old) old.held (old.client.calls + 1) session (script.Look lookup))
+                AsksPage (PageIs entries) answer before after (looks old lookup game game_is has) logged
+                (coe 0 1 (k. IsLooked (scene_of labels (game_is k) (diagram_is k)) answer_limits lookup entries (decisions_here k) (table_here Hopeful hopeful hopeful_is k) (table_here Dual dual dual_is k) answer) seen, refl, held) given;
+          }
 
 -- what changed, with the game and the tables as the code has them
-pub changed_answers : (limit : ℕ) → limit ≡ room → (old new : EngineState) (session : ℕ) (game shown : NamedGame) (before after : List ℕ) → game ≡ old.client.desk.game → shown ≡ old.client.desk.game →
+pub changed_answers : (labels : List (List ℕ)) (limit : ℕ) → limit ≡ room → (old new : EngineState) (session : ℕ) (game shown : NamedGame) (before after : List ℕ) → game ≡ old.client.desk.game → shown ≡ old.client.desk.game →
     (entries : List Entry) → IsLogged limit old.client session AsksPage (PageIs entries) new.client →
     (hopeful dual : List ℕ) → hopeful ≡ table_of Hopeful old.client.desk.book.present (length (graph_of old.client.desk.game)) →
     dual ≡ table_of Dual old.client.desk.book.present (length (graph_of old.client.desk.game)) → (now : List Verdict) → now ≡ verdicts_by (graph_of game) hopeful dual →
     new.held ≡ with_seen old.held now → (seen present : List Verdict) → seen ≡ old.held.seen → present ≡ now →
-    after ≡ before ++ changed_text (vertex_ids shown.vertices) seen present →
-    AnswersTo old (record { label = session; command = script.Changed }) tones.Done before after new
-changed_answers limit limit_is old new session game shown before after game_is shown_is entries logged hopeful dual hopeful_is dual_is now now_is held seen present seen_is present_is appended =
+    after ≡ before ++ changed_text (vertex_ids shown.vertices) labels seen present →
+    AnswersWith labels old (record { label = session; command = script.Changed }) tones.Done before after new
+changed_answers labels limit limit_is old new session game shown before after game_is shown_is entries logged hopeful dual hopeful_is dual_is now now_is held seen present seen_is present_is appended =
     let desk = old.client.desk in
     let page : entries ≡ desk.book.present = entries_are desk entries logged.step.step.0 in
     let here : (which : Which) (table : List ℕ) → table ≡ table_of which desk.book.present (length (graph_of desk.game)) → table ≡ table_of which entries (length (graph_of desk.game)) =
@@ -156,5 +163,8 @@ changed_answers limit limit_is old new session game shown before after game_is s
     let told : verdicts_by (graph_of game) hopeful dual ≡ verdicts_on (scene_at old) entries =
     λ i. verdicts_by (graph_of (game_is i)) (here Hopeful hopeful hopeful_is i) (here Dual dual dual_is i) in
     let same : now ≡ verdicts_on (scene_at old) entries = now_is ∙ told in
-    asked limit limit_is session old new script.Changed AsksPage (PageIs entries) (done (changed_text (vertex_ids shown.vertices) seen present)) before after refl logged
-    (refl, (λ i. done (changed_text (vertex_ids (shown_is i).vertices) (seen_is i) ((present_is ∙ same) i))), held ∙ ap (with_seen old.held) same) (refl, appended)
+    record {
+      by = asked_by limit limit_is session old new (first_call (scene_with labels old) old.held script.Changed) (Continues (scene_with labels old) old.held (old.client.calls + 1) session script.Changed)
+          AsksPage (PageIs entries) (done (changed_text (vertex_ids shown.vertices) labels seen present)) before after refl logged
+          (refl, (λ i. done (changed_text (vertex_ids (shown_is i).vertices) labels (seen_is i) ((present_is ∙ same) i))), held ∙ ap (with_seen old.held) same) (refl, appended);
+    }

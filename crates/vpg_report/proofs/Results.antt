@@ -67,10 +67,10 @@ not_stopped A value stop is = absurd (cc is)
 
 -- ---- without names of vertices
 
-pub uncalled : (manner : Manner) (game : NamedGame) (diagram : NamedDiagram) (context : Context) (lifters : ℕ) (input left before after : Option (List ℕ)) (result : Result Ending RunFault) → context.callings ≡ [] → context.behaviour ≡ None →
+pub uncalled : (manner : Manner) (game : NamedGame) (diagram : NamedDiagram) (context : Context) (lifters : ℕ) (input left before after : Option (List ℕ)) (result : Result Ending RunFault) → context.callings ≡ [] → context.behaviour ≡ None → context.labels.names ≡ [] →
     OutcomeAs manner (answering_called (called_in game diagram context) lifters) (IsOpenRefusal game diagram) begun input left before after result →
-    OutcomeAs manner (answering None (scene_of game diagram) lifters) (IsOpenRefusal game diagram) begun input left before after result
-uncalled manner game diagram context lifters input left before after result none alone outcome =
-    subst (λ (meaning : Request → Request). OutcomeAs manner (as_meant meaning (answering None (scene_of game diagram) lifters)) (IsOpenRefusal game diagram) begun input left before after result)
+    OutcomeAs manner (answering None (scene_of [] game diagram) lifters) (IsOpenRefusal game diagram) begun input left before after result
+uncalled manner game diagram context lifters input left before after result none alone bare outcome =
+    subst (λ (meaning : Request → Request). OutcomeAs manner (as_meant meaning (answering None (scene_of [] game diagram) lifters)) (IsOpenRefusal game diagram) begun input left before after result)
     (fun_ext (λ request. none_meant diagram.names request))
-    (coe 0 1 (k. OutcomeAs manner (answering_called (record { scene = scene_of game diagram; callings = none k; behaviour = alone k }) lifters) (IsOpenRefusal game diagram) begun input left before after result) outcome)
+    (coe 0 1 (k. OutcomeAs manner (answering_called (record { scene = scene_of (bare k) game diagram; callings = none k; behaviour = alone k }) lifters) (IsOpenRefusal game diagram) begun input left before after result) outcome)

@@ -1,70 +1,68 @@
 -- The answer of a server: an engine's, or that of a question.
-use Rattle.std.proofs.Common.{◌≡◌, ℕ, List, Option, Result, Ok, Err, ap, ap₂, ◌∙◌, subst}
+use Rattle.std.proofs.Common.{◌≡◌, ℕ, List, Option, Result, Ok, Err, ap, ap₂, ◌∙◌, subst, []}
 use Rattle.std.specs.Prelude.{IfOk, OnOk}
 use Rattle.vpg_diagram.specs.DiagramText.{NamedDiagram}
 use Rattle.vpg_game.specs.Game.{NamedGame}
 use Rattle.vpg_script.specs.Answer.{Gives}
 use Rattle.vpg_script.specs.declared.tone.Tone.{Tone}
 use Rattle.vpg_report.specs.Answers.{IsOwn}
-use Rattle.vpg_report.specs.Engine.{EngineState, SweepsTo, scene_at, between_of}
+use Rattle.vpg_report.specs.Engine.{EngineState, SweepsWith, scene_at, scene_with, between_of}
 use Rattle.vpg_report.specs.Server.{AnswersTo}
 use Rattle.vpg_checking.specs.Behaviours.{Behaviour}
 use Rattle.vpg_family.specs.declared.known.Context.{Context}
-use Rattle.vpg_report.specs.Run.{Called, answering, answering_called, called_at}
+use Rattle.vpg_report.specs.Run.{answering, answering_called, called_by}
 use Rattle.vpg_script.specs.Calling.{meant}
 use Rattle.vpg_script.specs.Script as script
 use Rattle.vpg_script.specs.Script.{Request}
 use Rattle.vpg_texts.specs.Scene.{Scene, scene_of}
 
-abbrev called_by : EngineState → Context → Called
-called_by state context = called_at (scene_at state) context
-
-abbrev Told : Option Behaviour → (old new : EngineState) (lifters : ℕ) (request : Request) (tone : Tone) (before after : List ℕ) → Type 0
-Told behaviour old new lifters request tone before after =
-    Gives (λ answer. answering behaviour (scene_at old) lifters (between_of old) request answer (between_of new)) tone before after
+abbrev Told : (labels : List (List ℕ)) → Option Behaviour → (old new : EngineState) (lifters : ℕ) (request : Request) (tone : Tone) (before after : List ℕ) → Type 0
+Told labels behaviour old new lifters request tone before after =
+    Gives (λ answer. answering behaviour (scene_with labels old) lifters (between_of old) request answer (between_of new)) tone before after
 
 -- what the engine does with a command of its own is what is done with it
-own_told : (behaviour : Option Behaviour) (old new : EngineState) (lifters label : ℕ) (command : script.Command) (tone : Tone) (before after : List ℕ) → IsOwn command →
-    SweepsTo old lifters (record { label = label; command = command }) tone before after new → Told behaviour old new lifters (record { label = label; command = command }) tone before after
-own_told behaviour old new lifters label (script.Ask inquiry) tone before after own so = absurd own
-own_told behaviour old new lifters label _ tone before after own so = (so.answers.by.answer, ((so.answers.by.answers, so.made), so.answers.by.given))
+own_told : (labels : List (List ℕ)) (behaviour : Option Behaviour) (old new : EngineState) (lifters label : ℕ) (command : script.Command) (tone : Tone) (before after : List ℕ) → IsOwn command →
+    SweepsWith labels old lifters (record { label = label; command = command }) tone before after new → Told labels behaviour old new lifters (record { label = label; command = command }) tone before after
+own_told labels behaviour old new lifters label (script.Ask inquiry) tone before after own so = absurd own
+own_told labels behaviour old new lifters label _ tone before after own so = (so.answers.by.answer, ((so.answers.by.answers, so.made), so.answers.by.given))
 
-pub carried_out : {E : Type 0} (r : Result Tone E) (behaviour : Option Behaviour) (old new : EngineState) (lifters : ℕ) (request : Request) (before after : List ℕ) →
-    IfOk r (λ tone. IsOwn request.command × SweepsTo old lifters request tone before after new) → IfOk r (λ tone. Told behaviour old new lifters request tone before after)
-carried_out (Ok tone) behaviour old new lifters request before after (own, so) = own_told behaviour old new lifters request.label request.command tone before after own so
-carried_out (Err e) behaviour old new lifters request before after so = tt
+pub carried_out : {E : Type 0} (labels : List (List ℕ)) (r : Result Tone E) (behaviour : Option Behaviour) (old new : EngineState) (lifters : ℕ) (request : Request) (before after : List ℕ) →
+    IfOk r (λ tone. IsOwn request.command × SweepsWith labels old lifters request tone before after new) → IfOk r (λ tone. Told labels behaviour old new lifters request tone before after)
+carried_out labels (Ok tone) behaviour old new lifters request before after (own, so) = own_told labels behaviour old new lifters request.label request.command tone before after own so
+carried_out labels (Err e) behaviour old new lifters request before after so = tt
 
 -- a question makes no harvest
-pub asked : {E : Type 0} (r : Result Tone E) (behaviour : Option Behaviour) (old new : EngineState) (lifters label : ℕ) (inquiry : script.Inquiry) (shown : Request) (before after : List ℕ) →
-    record { label = label; command = script.Ask inquiry } ≡ shown → IfOk r (λ tone. AnswersTo behaviour old (record { label = label; command = script.Ask inquiry }) tone before after new) →
-    IfOk r (λ tone. Told behaviour old new lifters shown tone before after)
-asked (Ok tone) behaviour old new lifters label inquiry shown before after same so =
-    subst (λ (q : Request). Told behaviour old new lifters q tone before after) same (so.answer, ((so.answers, tt), so.given))
-asked (Err e) behaviour old new lifters label inquiry shown before after same so = tt
+pub asked : {E : Type 0} (labels : List (List ℕ)) (r : Result Tone E) (behaviour : Option Behaviour) (old new : EngineState) (lifters label : ℕ) (inquiry : script.Inquiry) (shown : Request) (before after : List ℕ) →
+    record { label = label; command = script.Ask inquiry } ≡ shown → IfOk r (λ tone. AnswersTo labels behaviour old (record { label = label; command = script.Ask inquiry }) tone before after new) →
+    IfOk r (λ tone. Told labels behaviour old new lifters shown tone before after)
+asked labels (Ok tone) behaviour old new lifters label inquiry shown before after same so =
+    subst (λ (q : Request). Told labels behaviour old new lifters q tone before after) same (so.answer, ((so.answers, tt), so.given))
+asked labels (Err e) behaviour old new lifters label inquiry shown before after same so = tt
 
 -- ---- game and diagram stay
 
-pub own_stays : {E : Type 0} (r : Result Tone E) (old new : EngineState) (lifters : ℕ) (request : Request) (before after : List ℕ) →
-    IfOk r (λ tone. IsOwn request.command × SweepsTo old lifters request tone before after new) → OnOk r (scene_at new ≡ scene_at old)
-own_stays (Ok tone) old new lifters request before after (own, so) = ap₂ (λ (game : NamedGame) (diagram : NamedDiagram). scene_of game diagram) so.answers.by.game so.answers.by.diagram
-own_stays (Err e) old new lifters request before after so = tt
+pub own_stays : {E : Type 0} (labels : List (List ℕ)) (r : Result Tone E) (old new : EngineState) (lifters : ℕ) (request : Request) (before after : List ℕ) →
+    IfOk r (λ tone. IsOwn request.command × SweepsWith labels old lifters request tone before after new) → OnOk r (scene_at new ≡ scene_at old)
+own_stays labels (Ok tone) old new lifters request before after (own, so) = ap₂ (λ (game : NamedGame) (diagram : NamedDiagram). scene_of [] game diagram) so.answers.by.game so.answers.by.diagram
+own_stays labels (Err e) old new lifters request before after so = tt
 
-pub asked_stays : {E : Type 0} (r : Result Tone E) (behaviour : Option Behaviour) (old new : EngineState) (request : Request) (before after : List ℕ) →
-    IfOk r (λ tone. AnswersTo behaviour old request tone before after new) → OnOk r (scene_at new ≡ scene_at old)
-asked_stays (Ok tone) behaviour old new request before after so = ap₂ (λ (game : NamedGame) (diagram : NamedDiagram). scene_of game diagram) so.game so.diagram
-asked_stays (Err e) behaviour old new request before after so = tt
+pub asked_stays : {E : Type 0} (labels : List (List ℕ)) (r : Result Tone E) (behaviour : Option Behaviour) (old new : EngineState) (request : Request) (before after : List ℕ) →
+    IfOk r (λ tone. AnswersTo labels behaviour old request tone before after new) → OnOk r (scene_at new ≡ scene_at old)
+asked_stays labels (Ok tone) behaviour old new request before after so = ap₂ (λ (game : NamedGame) (diagram : NamedDiagram). scene_of [] game diagram) so.game so.diagram
+asked_stays labels (Err e) behaviour old new request before after so = tt
 
 -- ---- by the names of vertices
 
 pub called_told : {E : Type 0} (r : Result Tone E) (old new : EngineState) (context : Context) (diagram : NamedDiagram) (features : List (List ℕ)) (lifters : ℕ) (request said : Request) (before after : List ℕ) →
-    diagram ≡ old.client.desk.diagram → features ≡ diagram.names → said ≡ meant context.callings features request → IfOk r (λ tone. Told context.behaviour old new lifters said tone before after) →
+    diagram ≡ old.client.desk.diagram → features ≡ diagram.names → said ≡ meant context.callings features request → IfOk r (λ tone. Told context.labels.names context.behaviour old new lifters said tone before after) →
     IfOk r (λ tone. Gives (λ answer. answering_called (called_by old context) lifters (between_of old) request answer (between_of new)) tone before after)
 called_told r old new context diagram features lifters request said before after diagram_is features_are said_is told =
     let names : features ≡ old.client.desk.diagram.names = features_are ∙ ap (λ (d : NamedDiagram). d.names) diagram_is in
     let same : said ≡ meant context.callings old.client.desk.diagram.names request = said_is ∙ ap (λ (fs : List (List ℕ)). meant context.callings fs request) names in
-    subst (λ (q : Request). IfOk r (λ tone. Told context.behaviour old new lifters q tone before after)) same told
+    subst (λ (q : Request). IfOk r (λ tone. Told context.labels.names context.behaviour old new lifters q tone before after)) same told
 
 pub called_stays : {E : Type 0} (r : Result Tone E) (old new : EngineState) (context : Context) → OnOk r (scene_at new ≡ scene_at old) →
     OnOk r (called_by new context ≡ called_by old context)
-called_stays (Ok tone) old new context same = ap (λ (scene : Scene). called_at scene context) same
+called_stays (Ok tone) old new context same =
+    ap (λ (scene : Scene). record { scene = record scene { labels = context.labels.names }; callings = context.callings; behaviour = context.behaviour }) same
 called_stays (Err e) old new context same = tt

@@ -28,6 +28,7 @@ use Rattle.vpg_script.specs.Answer.{Answer, done}
 use Rattle.vpg_script.specs.Output.{Speaks, Answered}
 use Rattle.vpg_script.proofs.Given.{is_done}
 use Rattle.vpg_texts.specs.Changed.{verdict_of, verdicts_below, unseen, seen_at, changed_text}
+use Rattle.vpg_texts.specs.Labels.{label_of, beside}
 use Rattle.vpg_texts.specs.Scene.{Scene, scene_of}
 use Rattle.vpg_texts.specs.Sights.{IsSeen, has_vertices, line_at, named_lines, verdicts_at, verdicts_answer}
 use Rattle.vpg_texts.specs.Text.{answer_line, blank_number, decisions_line, hopeless_text, sure_text, vertex_line, vertex_lines}
@@ -89,7 +90,7 @@ module _ (scene : Scene) (page : List Entry) where
 
   -- a line of `show`, as the text has it
   abbrev shown_line : ℕ → List ℕ
-  shown_line v = vertex_line (top_for Hopeful scene.game) (top_for Dual scene.game) (slice_index scene.identifiers v) (slice_index hopeful v) (slice_index dual v)
+  shown_line v = vertex_line (top_for Hopeful scene.game) (top_for Dual scene.game) (slice_index scene.identifiers v) (label_of scene.labels v) (slice_index hopeful v) (slice_index dual v)
 
   abbrev said_line : ℕ → List ℕ
   said_line v = verdict_line scene hopeful dual (verdicts_on scene page) v
@@ -98,7 +99,7 @@ module _ (scene : Scene) (page : List Entry) where
   said_lines vertices = verdict_lines scene hopeful dual (verdicts_on scene page) vertices
 
   line_is : (v : ℕ) → v < length scene.game → said_line v ≡ shown_line v
-  line_is v inside = λ k. decimal (slice_index scene.identifiers v) ++ blank_number (slice_index hopeful v) ++ blank_number (slice_index dual v) ++ hopeless_text (at_page v inside k).hopeless ++ sure_text (at_page v inside k).sure
+  line_is v inside = λ k. decimal (slice_index scene.identifiers v) ++ blank_number (slice_index hopeful v) ++ blank_number (slice_index dual v) ++ hopeless_text (at_page v inside k).hopeless ++ sure_text (at_page v inside k).sure ++ beside (label_of scene.labels v) ++ 10 ∷ []
 
   range_more : (n : ℕ) → range_with_len 0 (suc n) ≡ range_with_len 0 n ++ n ∷ []
   range_more n =
@@ -109,7 +110,7 @@ module _ (scene : Scene) (page : List Entry) where
       map-id [] = refl
       map-id (x ∷ xs) = ap (λ (l : List ℕ). x ∷ l) (map-id xs)
 
-  range_lines : (n : ℕ) → n ≤ length scene.game → said_lines (range_with_len 0 n) ≡ vertex_lines (top_for Hopeful scene.game) (top_for Dual scene.game) scene.identifiers hopeful dual n
+  range_lines : (n : ℕ) → n ≤ length scene.game → said_lines (range_with_len 0 n) ≡ vertex_lines (top_for Hopeful scene.game) (top_for Dual scene.game) scene.identifiers scene.labels hopeful dual n
   range_lines zero le = refl
   range_lines (suc n) le =
       ap said_lines (range_more n)
@@ -132,14 +133,14 @@ module _ (scene : Scene) (page : List Entry) where
         hopeful,
         dual,
         is_done answer _ seen.0 (told.text_is ∙ ap (λ (l : List ℕ). head ++ l)
-            (ap (vertex_lines (top_for Hopeful scene.game) (top_for Dual scene.game) scene.identifiers hopeful dual) sized ∙ sym (range_lines (length scene.game) (omega arith)))),
+            (ap (vertex_lines (top_for Hopeful scene.game) (top_for Dual scene.game) scene.identifiers scene.labels hopeful dual) sized ∙ sym (range_lines (length scene.game) (omega arith)))),
       )
 
   abbrev lines_named : List script.Vertex → List ℕ
-  lines_named vertices = named_lines (top_for Hopeful scene.game) (top_for Dual scene.game) scene.identifiers hopeful dual vertices
+  lines_named vertices = named_lines (top_for Hopeful scene.game) (top_for Dual scene.game) scene.identifiers scene.labels hopeful dual vertices
 
   abbrev line_found : Option ℕ → List ℕ
-  line_found found = line_at (top_for Hopeful scene.game) (top_for Dual scene.game) scene.identifiers hopeful dual found
+  line_found found = line_at (top_for Hopeful scene.game) (top_for Dual scene.game) scene.identifiers scene.labels hopeful dual found
 
   -- the places of the vertices that are named
   record Named (named : List script.Vertex) : Type 0 where
@@ -274,7 +275,7 @@ module _ (behaviour : Option Behaviour) (scene : Scene) where
   compared book held made label (IsSettled b) calls answer new told so = absurd so
   compared book held made label (VerdictIs a b) calls answer new told so = absurd so
   compared book held made label (PageIs page) calls answer new told so =
-      inr (held.seen, so.1 ∙ ap (λ (p : List Entry). done (changed_text scene.identifiers held.seen (verdicts_on scene p))) (page_told book page told))
+      inr (held.seen, so.1 ∙ ap (λ (p : List Entry). done (changed_text scene.identifiers scene.labels held.seen (verdicts_on scene p))) (page_told book page told))
 
   changed : (book : Book) (held : Held) (before made label : ℕ) (calls : List Event) (answer : Answer) (new : Held) → IsLegalFrom F book calls → Asks scene held before label Page (Continues behaviour scene held made label script.Changed) calls answer new →
       IsRefusal answer ⊎ SaysVerdicts scene script.Changed (verdicts_on scene book.present) answer
@@ -367,6 +368,6 @@ module _ (behaviour : Option Behaviour) (scene : Scene) where
         )
 
 pub answers_name_winners : AnswersNameWinners
-answers_name_winners meaning behaviour game diagram lifters lines answers new opens answered =
-    names_lines behaviour (scene_of game diagram) (length-map game.vertices _ ∙ sym (length-map game.vertices unnamed)) opens.is_setting lifters meaning begun [] lines answers new
+answers_name_winners meaning behaviour labels game diagram lifters lines answers new opens answered =
+    names_lines behaviour (scene_of labels game diagram) (length-map game.vertices _ ∙ sym (length-map game.vertices unnamed)) opens.is_setting lifters meaning begun [] lines answers new
     (record { leaves = refl; legal = tt; lawful = tt; counted = refl; kept = tt }) answered

@@ -278,7 +278,7 @@ verdicts_on scene page =
 -- The answer compares the page's verdicts with those held as seen, and takes their place there.
 abbrev pub TellsVerdicts : Scene → Held → Reply → Rest
 TellsVerdicts scene held (PageIs page) calls answer new =
-    Ends (done (changed_text scene.identifiers held.seen (verdicts_on scene page)))
+    Ends (done (changed_text scene.identifiers scene.labels held.seen (verdicts_on scene page)))
     (with_seen held (verdicts_on scene page)) calls answer new
 TellsVerdicts scene held _ calls answer new = ⊥
 

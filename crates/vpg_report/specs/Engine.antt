@@ -29,8 +29,13 @@ pub record EngineState : Type 0 where
   pub client : ClientState
   pub held : Held
 
+-- the scene of an engine, with these names of vertices
+abbrev pub scene_with : (labels : List (List ℕ)) → EngineState → Scene
+scene_with labels state = scene_of labels state.client.desk.game state.client.desk.diagram
+
+-- without names
 abbrev pub scene_at : EngineState → Scene
-scene_at state = scene_of state.client.desk.game state.client.desk.diagram
+scene_at state = scene_with [] state
 
 abbrev pub between_of : EngineState → Between
 between_of state = record { book = state.client.desk.book; calls = state.client.calls; held = state.held }
@@ -49,17 +54,25 @@ pub record AnswersBy (old : EngineState) (label : ℕ) (first : Result Call Own)
   pub game : new.client.desk.game ≡ old.client.desk.game
   pub diagram : new.client.desk.diagram ≡ old.client.desk.diagram
 
--- The engine's answer to the request is given; game and diagram stay.
-pub record AnswersTo (old : EngineState) (request : Request) (tone : Tone) (before after : List ℕ)
-    (new : EngineState) : Type 0 where
-  pub by : AnswersBy old request.label (first_call (scene_at old) old.held request.command)
-      (Continues (scene_at old) old.held (old.client.calls + 1) request.label request.command) tone before after new
+-- The engine's answer to the request is given, with these names of vertices; game and diagram stay.
+pub record AnswersWith (labels : List (List ℕ)) (old : EngineState) (request : Request) (tone : Tone)
+    (before after : List ℕ) (new : EngineState) : Type 0 where
+  pub by : AnswersBy old request.label (first_call (scene_with labels old) old.held request.command)
+      (Continues (scene_with labels old) old.held (old.client.calls + 1) request.label request.command) tone before
+      after new
 
--- As `AnswersTo`, and what is committed or kept was made by sweeps of this many lifters.
-pub record SweepsTo (old : EngineState) (lifters : ℕ) (request : Request) (tone : Tone) (before after : List ℕ)
-    (new : EngineState) : Type 0 where
-  pub answers : AnswersTo old request tone before after new
+-- As `AnswersWith`, and what is committed or kept was made by sweeps of this many lifters.
+pub record SweepsWith (labels : List (List ℕ)) (old : EngineState) (lifters : ℕ) (request : Request) (tone : Tone)
+    (before after : List ℕ) (new : EngineState) : Type 0 where
+  pub answers : AnswersWith labels old request tone before after new
   pub made : AreMadeBy (setting_in (scene_at old)) lifters request.command answers.by.answers.0 new.held
+
+-- the answer to a request that names no vertex in its lines
+abbrev pub AnswersTo : EngineState → Request → Tone → (before after : List ℕ) → EngineState → Type 0
+AnswersTo old request tone before after new = AnswersWith [] old request tone before after new
+
+abbrev pub SweepsTo : EngineState → (lifters : ℕ) → Request → Tone → (before after : List ℕ) → EngineState → Type 0
+SweepsTo old lifters request tone before after new = SweepsWith [] old lifters request tone before after new
 
 -- the command that decides the feature of a name in or out
 abbrev pub deciding : Bool → List ℕ → script.Command

@@ -3,6 +3,7 @@ use Rattle.std.specs.Prelude.{◌≡◌, ℕ, ◌+◌, Option, List, [], ◌++�
 use Rattle.vpg_desk.specs.History.{Event, IsLegalFrom, book_after}
 use Rattle.vpg_desk.specs.Desk.{family_of}
 use Rattle.vpg_desk.specs.State.{IsHistoryOf}
+use Rattle.vpg_report.specs.Engine.{EngineState}
 use Rattle.vpg_report.specs.Held.{Held, nothing_held}
 use Rattle.vpg_report.specs.Made.{AreMadeBy}
 pub use Rattle.vpg_report.specs.Line.{Between, begun}
@@ -46,13 +47,18 @@ pub record Called : Type 0 where
   pub callings : List Calling
   pub behaviour : Option Behaviour
 
--- a scene in a context
-abbrev pub called_at : Scene → Context → Called
-called_at scene context = record { scene = scene; callings = context.callings; behaviour = context.behaviour }
-
--- the scene of a game and a diagram in a context
+-- the scene of a game and a diagram in a context, with its names at the ends of lines
 abbrev pub called_in : NamedGame → NamedDiagram → Context → Called
-called_in game diagram context = called_at (scene_of game diagram) context
+called_in game diagram context =
+    record {
+      scene = scene_of context.labels.names game diagram;
+      callings = context.callings;
+      behaviour = context.behaviour;
+    }
+
+-- that of an engine
+abbrev pub called_by : EngineState → Context → Called
+called_by state context = called_in state.client.desk.game state.client.desk.diagram context
 
 -- A line is answered as if the identifier of each vertex stood in place of its name.
 abbrev pub answering_called : Called → ℕ → Machine Between

@@ -34,17 +34,26 @@ pub record Ends (manner : Manner) (diagram : NamedDiagram) (game : NamedGame) (c
   pub opened : Opens ended (IsOpened game diagram)
 
 -- The run has this result, with the script before and after the run, and the output before and after.
-abbrev pub IsRun : Manner → NamedDiagram → NamedGame → Context → ℕ → (script rest before after : Option (List ℕ)) → Result Ending Fault → Type 0
-IsRun manner diagram game context lifters script rest before after (Ok ending) = Ends manner diagram game context lifters script rest before after (Ok ending)
-IsRun manner diagram game context lifters script rest before after (Err (told.Line n fault)) = Ends manner diagram game context lifters script rest before after (Err (stops.Line n fault))
-IsRun manner diagram game context lifters script rest before after (Err told.Read) = Ends manner diagram game context lifters script rest before after (Err stops.Read)
-IsRun manner diagram game context lifters script rest before after (Err told.Write) = Ends manner diagram game context lifters script rest before after (Err stops.Write)
-IsRun manner diagram game context lifters script rest before after (Err told.AtLimit) = Ends manner diagram game context lifters script rest before after (Err (stops.Open opens.AtLimit))
+abbrev pub IsRun : Manner → NamedDiagram → NamedGame → Context → ℕ → (script rest before after : Option (List ℕ)) →
+    Result Ending Fault → Type 0
+IsRun manner diagram game context lifters script rest before after (Ok ending) =
+    Ends manner diagram game context lifters script rest before after (Ok ending)
+IsRun manner diagram game context lifters script rest before after (Err (told.Line n fault)) =
+    Ends manner diagram game context lifters script rest before after (Err (stops.Line n fault))
+IsRun manner diagram game context lifters script rest before after (Err told.Read) =
+    Ends manner diagram game context lifters script rest before after (Err stops.Read)
+IsRun manner diagram game context lifters script rest before after (Err told.Write) =
+    Ends manner diagram game context lifters script rest before after (Err stops.Write)
+IsRun manner diagram game context lifters script rest before after (Err told.AtLimit) =
+    Ends manner diagram game context lifters script rest before after (Err (stops.Open opens.AtLimit))
 -- the fault names the root
 IsRun manner diagram game context lifters script rest before after (Err (told.Conflict name)) =
-    Ends manner diagram game context lifters script rest before after (Err (stops.Open (opens.Conflict 0))) × (slice_get diagram.names 0 ≡ Some (string_bytes name))
-IsRun manner diagram game context lifters script rest before after (Err told.Memory) = Ends manner diagram game context lifters script rest before after (Err stops.Memory)
-IsRun manner diagram game context lifters script rest before after (Err told.Stray) = Ends manner diagram game context lifters script rest before after (Err stops.Stray)
+    Ends manner diagram game context lifters script rest before after (Err (stops.Open (opens.Conflict 0))) ×
+    (slice_get diagram.names 0 ≡ Some (string_bytes name))
+IsRun manner diagram game context lifters script rest before after (Err told.Memory) =
+    Ends manner diagram game context lifters script rest before after (Err stops.Memory)
+IsRun manner diagram game context lifters script rest before after (Err told.Stray) =
+    Ends manner diagram game context lifters script rest before after (Err stops.Stray)
 IsRun manner diagram game context lifters script rest before after (Err fault) = ⊥
 
 -- This holds of each run except one that could not read its script to the end.

@@ -1,5 +1,5 @@
 -- The winners, by the answers of a run. This project's own.
-use Rattle.std.specs.Prelude.{◌≡◌, ◌⊎◌, ℕ, ◌<◌, Bool, Option, List, ◌++◌, length, map, Some, flat_map, slice_index, codes, decimal, ⊤}
+use Rattle.std.specs.Prelude.{◌≡◌, ◌⊎◌, ℕ, ◌<◌, Bool, Option, List, [], ◌∷◌, ◌++◌, length, map, Some, flat_map, slice_index, codes, decimal, ⊤}
 use Rattle.std.specs.List.{range_with_len}
 use Rattle.vpg_diagram.specs.DiagramText.{NamedDiagram}
 use Rattle.vpg_game.specs.Game.{NamedGame}
@@ -13,6 +13,7 @@ use Rattle.vpg_script.specs.Script.{Request}
 use Rattle.vpg_script.specs.Answer.{Answer, done, refused}
 use Rattle.vpg_script.specs.Output.{Machine, Answered}
 use Rattle.vpg_texts.specs.Changed.{changed_text, seen_at}
+use Rattle.vpg_texts.specs.Labels.{label_of, beside}
 use Rattle.vpg_texts.specs.Scene.{Scene, scene_of}
 use Rattle.vpg_texts.specs.Sights.{verdicts_answer}
 use Rattle.vpg_texts.specs.Text.{blank_number, hopeless_text, sure_text}
@@ -28,13 +29,13 @@ pub record AreTrue (scene : Scene) (page : List Entry) (verdicts : List Verdict)
   pub each : (v : ℕ) → v < length scene.game →
       VerdictMeans (setting_in scene) page v (seen_at verdicts v).hopeless (seen_at verdicts v).sure
 
--- A line of `show`: the vertex's identifier, its measures in two tables, and the words of its verdict, `hopeless` or
--- `possible` and `sure` or `unsure`.
+-- A line of `show`: the vertex's identifier, its measures in two tables, the words of its verdict, `hopeless` or
+-- `possible` and `sure` or `unsure`, and its name.
 abbrev pub verdict_line : Scene → (hopeful dual : List ℕ) → List Verdict → ℕ → List ℕ
 verdict_line scene hopeful dual verdicts v =
     decimal (slice_index scene.identifiers v) ++ blank_number (slice_index hopeful v)
     ++ blank_number (slice_index dual v) ++ hopeless_text (seen_at verdicts v).hopeless
-    ++ sure_text (seen_at verdicts v).sure
+    ++ sure_text (seen_at verdicts v).sure ++ beside (label_of scene.labels v) ++ 10 ∷ []
 
 -- those of these vertices, in their order
 abbrev pub verdict_lines : Scene → (hopeful dual : List ℕ) → List Verdict → List ℕ → List ℕ
@@ -58,7 +59,7 @@ SaysVerdicts scene (script.Look (script.Assert (script.Verdicts named claims))) 
     ⊎ (answer ≡ failing (codes "empty")) ⊎ (answer ≡ failing (codes "unsettled"))
 -- it lists those that differ from the ones reported before
 SaysVerdicts scene script.Changed verdicts answer =
-    (seen : List Verdict) × (answer ≡ done (changed_text scene.identifiers seen verdicts))
+    (seen : List Verdict) × (answer ≡ done (changed_text scene.identifiers scene.labels seen verdicts))
 SaysVerdicts scene _ verdicts answer = ⊤
 
 -- the answer to a line that is refused
@@ -78,11 +79,11 @@ naming behaviour scene lifters old request answer new =
     NamesWinners scene old.book.present request.command answer
 
 -- The answers of an office's run to `show`, `assert` and `changed` name the winners. The verdicts that they say are
--- true of the page at that point, under any meaning of the lines.
+-- true of the page at that point, under any meaning of the lines, and with any names of vertices.
 abbrev pub AnswersNameWinners : Type 0
 AnswersNameWinners =
-    (meaning : Request → Request) (behaviour : Option Behaviour) (game : NamedGame) (diagram : NamedDiagram)
-    (lifters : ℕ) (lines : List (List ℕ)) (answers : List Answer) (new : Between) →
+    (meaning : Request → Request) (behaviour : Option Behaviour) (labels : List (List ℕ)) (game : NamedGame)
+    (diagram : NamedDiagram) (lifters : ℕ) (lines : List (List ℕ)) (answers : List Answer) (new : Between) →
     IsOpened game diagram →
-    Answered (as_meant meaning (answering behaviour (scene_of game diagram) lifters)) begun lines answers new →
-    Answered (as_meant meaning (naming behaviour (scene_of game diagram) lifters)) begun lines answers new
+    Answered (as_meant meaning (answering behaviour (scene_of labels game diagram) lifters)) begun lines answers new →
+    Answered (as_meant meaning (naming behaviour (scene_of labels game diagram) lifters)) begun lines answers new

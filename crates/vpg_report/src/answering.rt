@@ -3,7 +3,7 @@ ghost use Rattle.std.specs.Prelude.{◌≡◌, ◌≤◌, IfOk, IsErrOf, OnOk};
 ghost use Rattle.vpg_report.specs.Faults.{IsAstray};
 ghost use Rattle.vpg_report.specs.Server.{AnswersTo};
 ghost use Rattle.vpg_report.specs.Run.{answering};
-ghost use Rattle.vpg_report.specs.Engine.{between_of, scene_at};
+ghost use Rattle.vpg_report.specs.Engine.{between_of, scene_at, scene_with};
 ghost use Rattle.vpg_script.specs.Answer.{Gives};
 ghost use Rattle.vpg_script.specs.Script.{Ask};
 ghost use Rattle.vpg_script.specs.View.{inquiry_shown, request_shown};
@@ -14,7 +14,6 @@ use crate::lines::{put_missing, put_unanswered};
 use std::alloc::Global;
 use std::sync::Wait;
 use std::thread::Threads;
-use vpg_checking::Behaviour;
 use vpg_family::Context;
 use vpg_office::Terms;
 use vpg_script::{Command, Inquiry, Request, ServeFault, Server, Tone, meant};
@@ -34,16 +33,16 @@ fn ask<L: Terms, R: Wait>(
     rt: &R,
     alloc: Global,
     session: u32,
-    behaviour: &Option<Behaviour>,
+    context: &Context,
     inquiry: Inquiry<'_>,
     out: &mut Vec<u8>,
 ) -> Result<Tone, ServeFault>
-    ensures answer { IfOk result (λ tone. AnswersTo behaviour.now engine.old
+    ensures answer { IfOk result (λ tone. AnswersTo context.now.labels.names context.now.behaviour engine.old
         (record { label = session; command = Ask (inquiry_shown inquiry.entry) }) tone
         out.old.items out.new.items engine.new) }
     ensures strayed { IsErrOf result ServeFault.Stray → IsAstray engine.old.client session engine.new.client }
 {
-    let query = match query_of(behaviour, engine.game(), engine.diagram(), inquiry) {
+    let query = match query_of(&context.behaviour, engine.game(), engine.diagram(), inquiry) {
         Ok(query) => query,
         Err(what) => return put_missing(what, out),
     };
@@ -51,7 +50,8 @@ fn ask<L: Terms, R: Wait>(
         Ok(order) => order,
         Err(fault) => return put_unanswered(fault, out),
     };
-    let tone = vpg_answers::answer(alloc, order, behaviour, query, LIMITS, out)?;
+    let (labels, behaviour) = (&context.labels, &context.behaviour);
+    let tone = vpg_answers::answer(alloc, order, labels, behaviour, query, LIMITS, out)?;
     Ok(tone)
 }
 
@@ -61,22 +61,23 @@ fn answer<L: Terms, T: Threads + Wait + Sync>(
     rt: &T,
     alloc: Global,
     lifters: u32,
-    behaviour: &Option<Behaviour>,
+    context: &Context,
     request: &Request<'_>,
     out: &mut Vec<u8>,
 ) -> Result<Tone, ServeFault>
     requires lifters { (1 ≤ lifters) × (lifters ≤ 64) }
     ensures answer { IfOk result
         (λ tone. Gives
-        (λ answer. answering behaviour.now (scene_at engine.old) lifters (between_of engine.old)
+        (λ answer. answering context.now.behaviour (scene_with context.now.labels.names engine.old) lifters
+        (between_of engine.old)
         (request_shown request.now) answer (between_of engine.new)) tone out.old.items out.new.items) }
     ensures scene { OnOk result (scene_at engine.new ≡ scene_at engine.old) }
     ensures strayed { IsErrOf result ServeFault.Stray →
         IsAstray engine.old.client request.now.label engine.new.client }
 {
     match &request.command {
-        Command::Ask(inquiry) => ask(engine, rt, alloc, request.label, behaviour, *inquiry, out),
-        _ => engine.carry_out(rt, alloc, lifters, request, out),
+        Command::Ask(inquiry) => ask(engine, rt, alloc, request.label, context, *inquiry, out),
+        _ => engine.carry_out(rt, alloc, lifters, &context.labels, request, out),
     }
 }
 
@@ -88,7 +89,7 @@ pub(crate) struct Answering<'c, L: Terms> {
 }
 
 impl<L: Terms> Server for Answering<'_, L> {
-    ghost use Rattle.vpg_report.specs.Run.{Between, Called, answering_called, called_at};
+    ghost use Rattle.vpg_report.specs.Run.{Between, Called, answering_called, called_by};
 
     ghost Scene = { Called };
 
@@ -96,7 +97,7 @@ impl<L: Terms> Server for Answering<'_, L> {
 
     ghost answering = { answering_called };
 
-    ghost scene = { λ a. called_at (scene_at a.engine) a.context.now };
+    ghost scene = { λ a. called_by a.engine a.context.now };
 
     ghost state = { λ a. between_of a.engine };
 
@@ -110,7 +111,7 @@ impl<L: Terms> Server for Answering<'_, L> {
     ) -> Result<Tone, ServeFault> {
         let features = self.engine.diagram().names();
         let said = meant(alloc, &self.context.callings, features, request)?;
-        let behaviour = &self.context.behaviour;
-        answer(&mut self.engine, rt, alloc, lifters, behaviour, &said, out)
+        let context = self.context;
+        answer(&mut self.engine, rt, alloc, lifters, context, &said, out)
     }
 }

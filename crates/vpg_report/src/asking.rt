@@ -1,5 +1,5 @@
 //! What lines ask of the page, by places in the game and the diagram.
-ghost use Rattle.std.specs.Prelude.{◌≡◌, ◌<◌, length, IfOk, IfSome};
+ghost use Rattle.std.specs.Prelude.{[], ◌≡◌, ◌<◌, length, IfOk, IfSome};
 ghost use Rattle.vpg_answers.specs.Answers.{IsWithin};
 ghost use Rattle.vpg_features.specs.Names.{index_of};
 ghost use Rattle.vpg_report.specs.Requests.{is_answerable, is_over, query_of};
@@ -53,7 +53,7 @@ fn query_of_vertex(
     question: VertexQuestion,
     named: Vertex<'_>,
 ) -> Result<Query, Missing>
-    ensures query { IsQuery (query_of behaviour.now (scene_of game.now diagram.now)
+    ensures query { IsQuery (query_of behaviour.now (scene_of [] game.now diagram.now)
         (OfVertex question (vertex_shown named.entry))) result }
     ensures within { IfOk result (IsWithin behaviour.now (length game.now.vertices) (length diagram.now.names)) }
 {
@@ -74,7 +74,7 @@ pub(crate) fn query_of(
     diagram: &Diagram,
     inquiry: Inquiry<'_>,
 ) -> Result<Query, Missing>
-    ensures query { IsQuery (query_of behaviour.now (scene_of game.now diagram.now) (inquiry_shown inquiry.entry))
+    ensures query { IsQuery (query_of behaviour.now (scene_of [] game.now diagram.now) (inquiry_shown inquiry.entry))
         result }
     ensures within { IfOk result (IsWithin behaviour.now (length game.now.vertices) (length diagram.now.names)) }
 {

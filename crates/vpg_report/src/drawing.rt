@@ -1,6 +1,6 @@
 //! Pictures of a family on the page that a script leaves.
 ghost use Rattle.std.specs.Arc.{arc_value};
-ghost use Rattle.std.specs.Prelude.{◌≡◌, ◌<◌, length, IfErr, IfOk, IfSome};
+ghost use Rattle.std.specs.Prelude.{[], ◌≡◌, ◌<◌, length, IfErr, IfOk, IfSome};
 ghost use Rattle.vpg_answers.specs.Answers.{IsOver};
 ghost use Rattle.vpg_diagram.specs.FeatureDiagram.{feature_count};
 ghost use Rattle.vpg_game.specs.Game.{graph_of};
@@ -147,7 +147,7 @@ fn vertex_asked(
     command: &Command<'_>,
 ) -> Result<Option<u32>, Missing>
     ensures asked { IfOk result (λ vertex. IfSome vertex
-        (AsksTrace behaviour.now (scene_of game.now diagram.now) (command_shown command.now))) }
+        (AsksTrace behaviour.now (scene_of [] game.now diagram.now) (command_shown command.now))) }
     ensures within { IfOk result (λ vertex. IfSome vertex
         (λ v. (v < length game.now.vertices) × IsOver (length diagram.now.names) behaviour.now)) }
 {
@@ -216,7 +216,7 @@ fn no_trace(alloc: Global, order: &Order, behaviour: &Behaviour, vertex: u32) ->
     requires features { behaviour.now.features ≡ order.now.game.features }
 {
     let mut answer = Vec::new(alloc);
-    match put_answer(alloc, order, behaviour, vertex, LIMITS, &mut answer) {
+    match put_answer(alloc, order, behaviour, vertex, b"", LIMITS, &mut answer) {
         Ok(()) => untraced(alloc, &answer),
         Err(_) => Fault::Memory,
     }

@@ -13,7 +13,7 @@ ghost use Rattle.vpg_office.specs.Kept.{IsElsewhere};
 ghost use Rattle.vpg_report.specs.Client.{HasUnknownCall, IsLogged};
 ghost use Rattle.vpg_report.specs.Faults.{IsAstray, Tells};
 ghost use Rattle.vpg_report.specs.Answers.{IsOwn};
-ghost use Rattle.vpg_report.specs.Engine.{AnswersTo, SweepsTo, IsOpenFault, deciding, engine_of};
+ghost use Rattle.vpg_report.specs.Engine.{AnswersTo, AnswersWith, SweepsTo, SweepsWith, IsOpenFault, deciding, engine_of};
 ghost use Rattle.vpg_script.specs.Script.{Retract, Reset, Undo as Undoes, Redo as Redoes, Keep, Forget, Lift, Harvest as Harvests, Commit, Settle, Look, Changed, Known};
 ghost use Rattle.vpg_script.specs.View.{lookup_shown, request_shown, vertex_shown};
 
@@ -35,7 +35,7 @@ use vpg_desk::OpenFault;
 use vpg_diagram::Diagram;
 use vpg_faults::{Never, Returned};
 use vpg_features::Names;
-use vpg_game::GuardedGame;
+use vpg_game::{GuardedGame, VertexNames};
 use vpg_guess::Groundwork;
 use vpg_measure::{Harvest, Order};
 use vpg_office::{NotOpened, Redo, Site, Terms, Undo};
@@ -401,16 +401,17 @@ impl<L: Terms> Engine<L> {
         lines::settled(settled, added, out)
     }
 
-    /// Answers a lookup on the present page.
+    /// Answers a lookup on the present page, with these names of vertices.
     fn look<R: Wait>(
         &mut self,
         rt: &R,
         alloc: Global,
         session: u32,
+        labels: &VertexNames,
         lookup: &Lookup<'_>,
         out: &mut Vec<u8>,
     ) -> Result<Tone, ServeFault>
-        ensures answer { IfOk result (λ tone. AnswersTo self.old
+        ensures answer { IfOk result (λ tone. AnswersWith labels.now.names self.old
             (record { label = session; command = Look (lookup_shown lookup.now) }) tone
             out.old.items out.new.items self.new) }
         ensures strayed { IsErrOf result ServeFault.Stray → IsAstray self.old.client session self.new.client }
@@ -423,19 +424,22 @@ impl<L: Terms> Engine<L> {
             Err(fault) => return lines::put_unanswered(fault, out),
         };
         let (game, diagram) = (&self.game, &self.diagram);
-        let tone = look(alloc, &games, &page, game, diagram, lookup, LIMITS, out)?;
+        let tone = look(
+            alloc, &games, &page, game, diagram, labels, lookup, LIMITS, out,
+        )?;
         Ok(tone)
     }
 
-    /// Writes the verdicts of the present page that differ from those reported last.
+    /// Writes the verdicts of the present page that differ from those reported last, with these names of vertices.
     fn changed<R: Wait>(
         &mut self,
         rt: &R,
         alloc: Global,
         session: u32,
+        labels: &VertexNames,
         out: &mut Vec<u8>,
     ) -> Result<Tone, ServeFault>
-        ensures answer { IfOk result (λ tone. AnswersTo self.old
+        ensures answer { IfOk result (λ tone. AnswersWith labels.now.names self.old
             (record { label = session; command = Changed }) tone out.old.items out.new.items self.new) }
         ensures strayed { IsErrOf result ServeFault.Stray → IsAstray self.old.client session self.new.client }
     {
@@ -444,7 +448,7 @@ impl<L: Terms> Engine<L> {
             Err(fault) => return lines::put_unanswered(fault, out),
         };
         let verdicts = verdicts_over(alloc, &games, &page, &self.game)?;
-        put_changed(alloc, &self.game, &self.seen, &verdicts, out)?;
+        put_changed(alloc, &self.game, labels, &self.seen, &verdicts, out)?;
         self.seen = verdicts;
         Ok(Tone::Done)
     }
@@ -564,20 +568,23 @@ impl<L: Terms> Engine<L> {
         self.client.order(rt, alloc, session)
     }
 
-    /// Carries a request out, with 1 to 64 lifters for sweeps. Appends the text of its answer, and returns the answer's
-    /// tone. A question about the page is not the engine's, and is never answered: the fault is `Stray`.
+    /// Carries a request out, with 1 to 64 lifters for sweeps. Appends the text of its answer, with these names at the
+    /// ends of lines about vertices, and returns the answer's tone. A question about the page is not the engine's, and
+    /// is never answered: the fault is `Stray`.
     pub fn carry_out<T: Threads + Wait + Sync>(
         &mut self,
         rt: &T,
         alloc: Global,
         lifters: u32,
+        labels: &VertexNames,
         request: &Request<'_>,
         out: &mut Vec<u8>,
     ) -> Result<Tone, ServeFault>
         requires lifters { (1 ≤ lifters) × (lifters ≤ 64) }
         ensures answer { IfOk result
             (λ tone. IsOwn (request_shown request.now).command ×
-            SweepsTo self.old lifters (request_shown request.now) tone out.old.items out.new.items self.new) }
+            SweepsWith labels.now.names self.old lifters (request_shown request.now) tone out.old.items out.new.items
+            self.new) }
         // A request of its own strays only where the log or the sessions show it.
         ensures strayed { IsErrOf result ServeFault.Stray → IsOwn (request_shown request.now).command →
             IsAstray self.old.client request.now.label self.new.client }
@@ -596,8 +603,8 @@ impl<L: Terms> Engine<L> {
             Command::Harvest => self.harvest(rt, alloc, session, lifters, out),
             Command::Commit(number) => self.commit(rt, alloc, session, *number, out),
             Command::Settle(sweeps) => self.settle(rt, alloc, session, *sweeps, lifters, out),
-            Command::Look(lookup) => self.look(rt, alloc, session, lookup, out),
-            Command::Changed => self.changed(rt, alloc, session, out),
+            Command::Look(lookup) => self.look(rt, alloc, session, labels, lookup, out),
+            Command::Changed => self.changed(rt, alloc, session, labels, out),
             Command::Known(name) => self.known(rt, alloc, session, *name, out),
             Command::Ask(_) => Err(ServeFault::Stray),
         }

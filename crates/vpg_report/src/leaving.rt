@@ -2,9 +2,9 @@
 ghost use Rattle.std.specs.Arc.{arc_value};
 ghost use Rattle.std.specs.Prelude.{◌≡◌, ◌⊎◌, Some, None, false, IfOk, IfErr};
 ghost use Rattle.vpg_diagram.specs.FeatureDiagram.{feature_count};
-ghost use Rattle.vpg_report.specs.Engine.{between_of, scene_at};
+ghost use Rattle.vpg_report.specs.Engine.{between_of};
 ghost use Rattle.vpg_report.specs.Left.{HandsOver, IsHanded, IsLeft, IsRunStopped, IsStopped, IsUnleft, plain};
-ghost use Rattle.vpg_report.specs.Run.{answering_called, called_at};
+ghost use Rattle.vpg_report.specs.Run.{answering_called, called_by};
 ghost use Rattle.vpg_script.specs.Manners.{Leaves};
 
 use crate::answering::Answering;
@@ -48,11 +48,11 @@ fn carried_from<L: Terms, T: Threads + Wait + Sync, R: Source, W: Sink>(
 ) -> Result<Ending, RunFault>
     requires { R.calls reader.old ≡ 0 }
     ensures left { IfOk result
-        (Leaves plain (answering_called (called_at (scene_at server.old.engine) server.old.context.now) 1)
+        (Leaves plain (answering_called (called_by server.old.engine server.old.context.now) 1)
         (between_of server.old.engine) (between_of server.new.engine) (R.remaining reader.old) (W.contents writer.old)
         (W.contents writer.new)) }
     ensures stopped { IfErr result
-        (IsStopped (answering_called (called_at (scene_at server.old.engine) server.old.context.now) 1)
+        (IsStopped (answering_called (called_by server.old.engine server.old.context.now) 1)
         (between_of server.old.engine) (R.remaining reader.old) (W.contents writer.old) (W.contents writer.new)) }
 {
     let plain = Manner {
@@ -71,10 +71,10 @@ fn carried<L: Terms, T: Threads + Wait + Sync>(
     script: &[u8],
 ) -> Result<Ending, RunFault>
     ensures left { IfOk result
-        (Leaves plain (answering_called (called_at (scene_at server.old.engine) server.old.context.now) 1)
+        (Leaves plain (answering_called (called_by server.old.engine server.old.context.now) 1)
         (between_of server.old.engine) (between_of server.new.engine) (Some script.now) None None) }
     ensures stopped { IfErr result
-        (IsStopped (answering_called (called_at (scene_at server.old.engine) server.old.context.now) 1)
+        (IsStopped (answering_called (called_by server.old.engine server.old.context.now) 1)
         (between_of server.old.engine) (Some script.now) None None) }
 {
     let mut reader = Device::reader(script);

@@ -26,7 +26,7 @@ pub(crate) fn not_opened(alloc: Global, diagram: &Diagram, fault: OpenFault) -> 
 }
 
 /// Carries a script out at an office of the family, in a manner. Its lines are read in this context: they may give
-/// vertices its names, and ask for traces of its system.
+/// vertices its names, and ask for traces of its system. Lines of answers end with the names that it has for vertices.
 pub fn run_script<T: Threads + Wait + Sync, R: Source, W: Sink>(
     rt: &T,
     alloc: Global,

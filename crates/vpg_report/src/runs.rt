@@ -1,6 +1,6 @@
 //! Runs of scripts.
 ghost use Rattle.std.specs.Arc.{arc_value};
-ghost use Rattle.std.specs.Prelude.{◌≡◌, ◌≤◌, ◌⊎◌, true, None, IsErrOf};
+ghost use Rattle.std.specs.Prelude.{[], ◌≡◌, ◌≤◌, ◌⊎◌, true, None, IsErrOf};
 ghost use Rattle.vpg_diagram.specs.FeatureDiagram.{feature_count};
 ghost use Rattle.vpg_desk.specs.State.{IsOpened};
 ghost use Rattle.vpg_report.specs.Server.{IsOpenRefusal};
@@ -45,7 +45,7 @@ pub fn run<T: Threads + Wait + Sync, R: Source, W: Sink>(
     // The answers to the lines read are written, each by calls on the office's desk with the replies that it gives,
     // while its log has room for them. A harvest that a line commits or keeps was made by at most its number of sweeps,
     // each by this many lifters.
-    ensures output { Outcome (answering None (scene_of (arc_value game) (arc_value diagram)) lifters)
+    ensures output { Outcome (answering None (scene_of [] (arc_value game) (arc_value diagram)) lifters)
         (IsOpenRefusal (arc_value game) (arc_value diagram)) begun (R.remaining reader.old) (R.remaining reader.new)
         (W.contents writer.old) (W.contents writer.new) result }
 
@@ -94,7 +94,7 @@ pub fn run_as<T: Threads + Wait + Sync, R: Source, W: Sink>(
 
     // The answers to the lines read are written in the manner's form: `run` writes the same ones plainly. The result is
     // their end.
-    ensures output { OutcomeAs manner (answering None (scene_of (arc_value game) (arc_value diagram)) lifters)
+    ensures output { OutcomeAs manner (answering None (scene_of [] (arc_value game) (arc_value diagram)) lifters)
         (IsOpenRefusal (arc_value game) (arc_value diagram)) begun (R.remaining reader.old) (R.remaining reader.new)
         (W.contents writer.old) (W.contents writer.new) result }
 
@@ -117,8 +117,8 @@ pub fn run_as<T: Threads + Wait + Sync, R: Source, W: Sink>(
 
 /// Runs a script as `run_as` does, in a context: lines may name vertices, and the game may be made of a system. A line
 /// is answered as if the identifier of each vertex stood in place of its name; a vertex with a name that none has is
-/// refused `NoVertex`. A trace is of the system that the game was made of; without one over the diagram's features it
-/// is refused `NoSystem`.
+/// refused `NoVertex`. Lines of answers end with the names that the context has for their vertices. A trace is of the
+/// system that the game was made of; without one over the diagram's features it is refused `NoSystem`.
 pub fn run_called<T: Threads + Wait + Sync, R: Source, W: Sink>(
     rt: &T,
     alloc: Global,
@@ -134,8 +134,8 @@ pub fn run_called<T: Threads + Wait + Sync, R: Source, W: Sink>(
     requires lifters { (1 ≤ lifters) × (lifters ≤ 64) }
     requires features { (arc_value game).features ≡ feature_count (arc_value diagram).lines }
 
-    // The answers to the lines read are written, with the vertices that their names mean and the system that the game
-    // was made of, and the result is their end.
+    // The answers to the lines read are written, with the vertices that their names mean, the system that the game was
+    // made of, and the names at the ends of lines; and the result is their end.
     ensures output { OutcomeAs manner
         (answering_called (called_in (arc_value game) (arc_value diagram) context.now) lifters)
         (IsOpenRefusal (arc_value game) (arc_value diagram)) begun (R.remaining reader.old) (R.remaining reader.new)

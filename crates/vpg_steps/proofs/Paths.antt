@@ -1,5 +1,5 @@
 -- Paths of walks, and that of the trace of a verdict.
-use Rattle.std.proofs.Common.{◌≡◌, ℕ, Bool, List, Option, inl, inr, refl, ap, ◌∙◌}
+use Rattle.std.proofs.Common.{◌≡◌, ℕ, Bool, List, [], Option, inl, inr, refl, ap, ◌∙◌}
 use Rattle.std.specs.Prelude.{Result, Ok, Err, IfOk, None}
 use Rattle.vpg_guards.specs.declared.tri.Tri.{Tri}
 use Rattle.vpg_game.specs.Game.{graph_of}
@@ -50,7 +50,7 @@ module _ (order : OrderView) (behaviour : Behaviour) (mover : Which) (vertex : �
       IsKnownTable order.diagram.lines (choices order.decisions) known → path ≡ trail_of known behaviour (walk_along (page_of order) known mover vertex moves).visits →
       IsPathOf (page_of order) behaviour mover vertex path
   path_is moves known path win is_known made = record {
-    text = walk_text (page_of order) known behaviour mover vertex moves;
+    text = walk_text (page_of order) known behaviour mover vertex [] moves;
     walk = record { moves = moves; win = win; known = known; is_known = is_known; text_is = refl };
     trail_is = made;
   }

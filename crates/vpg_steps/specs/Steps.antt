@@ -95,7 +95,7 @@ trail_of known behaviour visits =
 -- writes.
 pub record IsPathOf (page : Page) (behaviour : Behaviour) (mover : Which) (vertex : ℕ) (trail : Trail) : Type 0 where
   pub text : List ℕ
-  pub walk : TellsWalk page behaviour mover vertex text
+  pub walk : TellsWalk page behaviour mover vertex [] text
   pub trail_is : trail ≡ trail_of walk.known behaviour (walk_along page walk.known mover vertex walk.moves).visits
 
 -- The path of a walk along moves of the player that win; or the limits leave no room to find them.

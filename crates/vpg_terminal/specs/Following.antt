@@ -1,12 +1,18 @@
 -- The kinds of answers that a session at a terminal hears, and the lines that it hands on by itself. This project's
 -- own.
-use Rattle.std.specs.Prelude.{ℕ, Bool, ◌||◌, if◌then◌else◌, nat_eq, List, [], ◌∷◌, ◌++◌, Option, Some, None, codes, decimal}
-use Rattle.std.specs.List.{starts_with}
-use Rattle.vpg_terminal.specs.Naming.{behind_word}
+use Rattle.std.specs.Prelude.{ℕ, Bool, not, ◌||◌, ◌==◌, if◌then◌else◌, nat_eq, List, [], ◌∷◌, ◌++◌, drop, Option, Some, None, codes, decimal}
+use Rattle.std.specs.List.{prefix_len, starts_with}
 use Rattle.vpg_terminal.specs.declared.following.Asked.{Asked}
 use Rattle.vpg_terminal.specs.declared.following.Asked.TheVariants as asks
 use Rattle.vpg_terminal.specs.declared.hearing.Heard.{Heard}
 use Rattle.vpg_terminal.specs.declared.hearing.Heard.TheVariants as hears
+
+abbrev pub is_within_word : ℕ → Bool
+is_within_word b = not (b == 32)
+
+-- the text after the first word and the blank
+abbrev pub behind_word : List ℕ → List ℕ
+behind_word line = drop 1 (drop (prefix_len is_within_word line) line)
 
 abbrev pub begins : List ℕ → List ℕ → Bool
 begins text word = starts_with nat_eq text word

@@ -1,8 +1,8 @@
 //! The kinds of answers that a session hears, and a sink that listens.
-ghost use Rattle.std.specs.Prelude.{◌≡◌};
-ghost use Rattle.vpg_terminal.specs.Following.{heard_of};
+ghost use Rattle.std.specs.Prelude.{◌≡◌, ◌≤◌, length};
+ghost use Rattle.std.specs.List.{prefix_len};
+ghost use Rattle.vpg_terminal.specs.Following.{behind_word, heard_of, is_within_word};
 
-use crate::naming::behind_word;
 use std::cell::Cell;
 use vpg_script::{Failed, Sink};
 
@@ -23,6 +23,25 @@ pub enum Heard {
     Hopeless,
     /// None of these.
     Nothing,
+}
+
+/// Returns the number of bytes of the first word.
+fn word_len(line: &[u8]) -> usize
+    ensures len { result ≡ prefix_len is_within_word line.now }
+    ensures within { result ≤ length line.now }
+{
+    line.iter().take_while(|b| **b != b' ').count()
+}
+
+/// Returns the text after the first word and the blank.
+fn behind_word(line: &[u8]) -> &[u8]
+    ensures { result.now ≡ behind_word line.now }
+{
+    let rest = &line[word_len(line)..];
+    match rest {
+        [_, rest @ ..] => rest,
+        [] => rest,
+    }
 }
 
 /// Returns the kind of an answer.

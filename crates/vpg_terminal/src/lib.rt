@@ -7,20 +7,17 @@
 //! `Typed` is a script that is typed in: it hands each line on as it comes, and carries out `help`, `goals` and `quit`
 //! itself. After some answers it hands on lines of its own. They ask why a decision is refused, and what a settled page
 //! says, cautiously and exactly, of the goals: the vertices named so, or the one where the game starts. It hears of
-//! answers by an `Ear`, a sink that passes them on. `named_text` puts the names of vertices beside the lines of an
-//! answer, and `Named` is a sink that does so with each answer that is put to it.
+//! answers by an `Ear`, a sink that passes them on.
 //!
 //! The text beside the answers (a prompt, help, why a line is no command) goes to a sink of its own. So the answers are
 //! just those to the lines that are handed on.
 //!
-//! `specs/Following` defines the kinds of answers and the lines that follow them, `specs/Naming` the names beside a
-//! line. Both are this project's own.
+//! `specs/Following` defines the kinds of answers and the lines that follow them. It is this project's own.
 #![tactic(auto)]
 
 mod following;
 mod hearing;
 mod help;
-mod naming;
 mod reading;
 mod task;
 mod typing;
@@ -28,7 +25,6 @@ mod usage;
 mod verbs;
 
 pub use hearing::{Ear, Heard};
-pub use naming::{Named, named_text};
 pub use reading::{not_text, read};
 pub use task::{Invocation, Picture, Task};
 pub use typing::{Setting, Typed};

@@ -1,5 +1,5 @@
 -- What is counted of a page, and asserted of it.
-use Rattle.std.proofs.Common.{◌≡◌, ℕ, ◌≤◌, Bool, List, ◌++◌, length, All, ap, ◌∙◌, append_assoc}
+use Rattle.std.proofs.Common.{◌≡◌, ℕ, ◌≤◌, Bool, List, [], ◌++◌, length, All, ap, ◌∙◌, append_assoc}
 use Rattle.std.specs.Prelude.{map}
 use Rattle.std.specs.Bool.{Decides}
 use Rattle.vpg_diagram.specs.DiagramText.{NamedDiagram}
@@ -26,7 +26,7 @@ pub counts : (game : NamedGame) (diagram : NamedDiagram) (decisions : List Decis
     (hopeful dual mark text : List ℕ) → length hopeful ≡ length game.vertices → length dual ≡ length game.vertices →
     All (λ n. n ≤ top_for Hopeful (graph_of game)) hopeful → All (λ n. n ≤ top_for Dual (graph_of game)) dual →
     (full settled : Bool) → Decides full (AreAllKnown (length games.known) games.known) → Decides settled (AreSettledTables games hopeful dual) →
-    text ≡ count_text (top_of games.hopeful_levels) (top_of games.dual_levels) full settled mark hopeful dual → IsCounted (scene_of game diagram) decisions hopeful dual mark text
+    text ≡ count_text (top_of games.hopeful_levels) (top_of games.dual_levels) full settled mark hopeful dual → IsCounted (scene_of [] game diagram) decisions hopeful dual mark text
 counts game diagram decisions games are hopeful dual mark text hopeful_len dual_len hopeful_within dual_within full settled full_is settled_is text_is = (
   games.known,
   (
@@ -40,7 +40,7 @@ pub asserts : (game : NamedGame) (diagram : NamedDiagram) (decisions : List Deci
     (hopeful dual : List ℕ) (answer : Answer) → length hopeful ≡ length game.vertices → length dual ≡ length game.vertices →
     All (λ n. n ≤ top_for Hopeful (graph_of game)) hopeful → All (λ n. n ≤ top_for Dual (graph_of game)) dual → (assertion : script.Assertion) →
     (full settled : Bool) → Decides full (AreAllKnown (length games.known) games.known) → Decides settled (AreSettledTables games hopeful dual) →
-    answer ≡ assertion_answer (top_of games.hopeful_levels) (top_of games.dual_levels) (vertex_ids game.vertices) hopeful dual assertion full settled → IsAsserted (scene_of game diagram) assertion decisions hopeful dual answer
+    answer ≡ assertion_answer (top_of games.hopeful_levels) (top_of games.dual_levels) (vertex_ids game.vertices) hopeful dual assertion full settled → IsAsserted (scene_of [] game diagram) assertion decisions hopeful dual answer
 asserts game diagram decisions games are hopeful dual answer hopeful_len dual_len hopeful_within dual_within assertion full settled full_is settled_is answer_is = (
   games.known,
   (

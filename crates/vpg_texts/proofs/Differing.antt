@@ -9,6 +9,7 @@ use Rattle.vpg_measure.specs.TwoGames.{levels_for}
 use Rattle.vpg_sides.specs.declared.verdict.Verdict.{Verdict}
 use Rattle.vpg_sides.specs.declared.which.Which.{Which}
 use Rattle.vpg_sides.specs.declared.which.Which.TheVariants.{Hopeful, Dual}
+use Rattle.vpg_texts.specs.Labels.{label_of}
 use Rattle.vpg_texts.specs.Changed.{change_count, change_line, change_lines, same_verdicts, seen_at, verdicts_below, verdicts_by}
 
 -- the verdicts by the games of a page
@@ -18,12 +19,12 @@ verdicts_are game games levels hopeful dual =
     λ i. verdicts_below (top_of (levels Hopeful i)) (top_of (levels Dual i)) hopeful dual (sym (length-map game.vertices unnamed) i)
 
 -- one vertex more
-module _ (ids : List ℕ) (seen present : List Verdict) (n : ℕ) where
+module _ (ids : List ℕ) (labels : List (List ℕ)) (seen present : List Verdict) (n : ℕ) where
   abbrev same : Bool
   same = same_verdicts (seen_at seen n) (seen_at present n)
 
   abbrev line : List ℕ
-  line = change_line (slice_index ids n) (seen_at seen n) (seen_at present n)
+  line = change_line (slice_index ids n) (label_of labels n) (seen_at seen n) (seen_at present n)
 
   counted_to : (more : ℕ) → more ≡ change_count seen present (suc n) → more ≡ change_count seen present (n + 1)
   counted_to more is = subst (λ (m : ℕ). more ≡ change_count seen present m) (sym (add-one n)) is
@@ -41,17 +42,17 @@ module _ (ids : List ℕ) (seen present : List Verdict) (n : ℕ) where
       plus_none : (k : ℕ) → k ≡ k + 0
       plus_none k = omega arith
 
-  lines_to : (before two : List ℕ) → two ≡ before ++ change_lines ids seen present (suc n) → two ≡ before ++ change_lines ids seen present (n + 1)
-  lines_to before two is = subst (λ (m : ℕ). two ≡ before ++ change_lines ids seen present m) (sym (add-one n)) is
+  lines_to : (before two : List ℕ) → two ≡ before ++ change_lines ids labels seen present (suc n) → two ≡ before ++ change_lines ids labels seen present (n + 1)
+  lines_to before two is = subst (λ (m : ℕ). two ≡ before ++ change_lines ids labels seen present m) (sym (add-one n)) is
 
-  pub line_more : (t : Bool) → t ≡ same → t ≡ false → (before one two : List ℕ) → one ≡ before ++ change_lines ids seen present n → two ≡ one ++ line → two ≡ before ++ change_lines ids seen present (n + 1)
+  pub line_more : (t : Bool) → t ≡ same → t ≡ false → (before one two : List ℕ) → one ≡ before ++ change_lines ids labels seen present n → two ≡ one ++ line → two ≡ before ++ change_lines ids labels seen present (n + 1)
   line_more t is other before one two written more =
       lines_to before two
-      (more ∙ ap (λ (bytes : List ℕ). bytes ++ line) written ∙ append_assoc before (change_lines ids seen present n) line
-      ∙ ap (λ (b : Bool). before ++ (change_lines ids seen present n ++ (if b then [] else line))) (sym other ∙ is))
+      (more ∙ ap (λ (bytes : List ℕ). bytes ++ line) written ∙ append_assoc before (change_lines ids labels seen present n) line
+      ∙ ap (λ (b : Bool). before ++ (change_lines ids labels seen present n ++ (if b then [] else line))) (sym other ∙ is))
 
-  pub no_line : (t : Bool) → t ≡ same → t ≡ true → (before one two : List ℕ) → one ≡ before ++ change_lines ids seen present n → two ≡ one → two ≡ before ++ change_lines ids seen present (n + 1)
+  pub no_line : (t : Bool) → t ≡ same → t ≡ true → (before one two : List ℕ) → one ≡ before ++ change_lines ids labels seen present n → two ≡ one → two ≡ before ++ change_lines ids labels seen present (n + 1)
   no_line t is alike before one two written more =
       lines_to before two
-      (more ∙ written ∙ ap (λ (bytes : List ℕ). before ++ bytes) (sym (append-nil (change_lines ids seen present n)))
-      ∙ ap (λ (b : Bool). before ++ (change_lines ids seen present n ++ (if b then [] else line))) (sym alike ∙ is))
+      (more ∙ written ∙ ap (λ (bytes : List ℕ). before ++ bytes) (sym (append-nil (change_lines ids labels seen present n)))
+      ∙ ap (λ (b : Bool). before ++ (change_lines ids labels seen present n ++ (if b then [] else line))) (sym alike ∙ is))

@@ -37,13 +37,13 @@ verdict_each game hopeful dual verdicts is =
     ∙ below_length (top_for Hopeful (graph_of game)) (top_for Dual (graph_of game)) hopeful dual (length (graph_of game)) ∙ length-map game.vertices unnamed
 
 -- the picture, with what it shows as the code has it
-pub draws : {E : Type 0} (game : NamedGame) (diagram : NamedDiagram) (decisions : List Decision) (games : GamesView) → ArePageGames game diagram (map literal_of decisions) games → game.features ≡ feature_count diagram.lines →
+pub draws : {E : Type 0} (page_labels : List (List ℕ)) (game : NamedGame) (diagram : NamedDiagram) (decisions : List Decision) (games : GamesView) → ArePageGames game diagram (map literal_of decisions) games → game.features ≡ feature_count diagram.lines →
     (hopeful dual : List ℕ) (r : Result (Unit {0}) E) (before after : List ℕ) (names : List (List ℕ)) (known : List Tri) (decided : List Decision) (labels : List (List ℕ)) (verdicts : List Verdict) →
-    names ≡ diagram.names → known ≡ games.known → decided ≡ decisions → labels ≡ [] → verdicts ≡ verdicts_by (graph_of game) hopeful dual →
+    names ≡ diagram.names → known ≡ games.known → decided ≡ decisions → labels ≡ page_labels → verdicts ≡ verdicts_by (graph_of game) hopeful dual →
     OnOk r (after ≡ before ++ game_drawing names known (map literal_of decided) labels verdicts game) →
-    OnOk r ((text : List ℕ) × (IsDrawn (scene_of game diagram) decisions hopeful dual text × (after ≡ before ++ text)))
-draws game diagram decisions games are features hopeful dual r before after names known decided labels verdicts names_are known_is decided_are labels_are verdicts_are =
-    let same : game ≡ named_game (scene_of game diagram) = λ i. record { vertices = named_again game.vertices i; features = features i } in
+    OnOk r ((text : List ℕ) × (IsDrawn (scene_of page_labels game diagram) decisions hopeful dual text × (after ≡ before ++ text)))
+draws page_labels game diagram decisions games are features hopeful dual r before after names known decided labels verdicts names_are known_is decided_are labels_are verdicts_are =
+    let same : game ≡ named_game (scene_of page_labels game diagram) = λ i. record { vertices = named_again game.vertices i; features = features i } in
     on_ok r _ _ (λ appended. (
       game_drawing names known (map literal_of decided) labels verdicts game,
       ((games.known, (are.known, (λ i. game_drawing (names_are i) (known_is i) (map literal_of (decided_are i)) (labels_are i) (verdicts_are i) (same i)))), appended),

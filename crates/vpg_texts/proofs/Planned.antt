@@ -105,17 +105,17 @@ full_game game diagram choices known set is_game is_diagram same is_known all re
     (λ g below. full_values_decide n known set g all (remaining_products_complete diagram.lines choices known set is_diagram.diagram is_known remains) below)
     (subst (λ (k : ℕ). AllGuards (IsBelow k) (graph_of game)) same (games_have_graphs game is_game).named)
 
-module _ (game : NamedGame) (diagram : NamedDiagram) (decisions : List Decision) (is_game : IsGame game) (is_diagram : IsNamedDiagram diagram) (same : game.features ≡ feature_count diagram.lines)
+module _ (labels : List (List ℕ)) (game : NamedGame) (diagram : NamedDiagram) (decisions : List Decision) (is_game : IsGame game) (is_diagram : IsNamedDiagram diagram) (same : game.features ≡ feature_count diagram.lines)
     (named : AreChoicesOf diagram.lines (map literal_of decisions)) (known : List Tri) (is_known : IsKnownTable diagram.lines (map literal_of decisions) known) where
   pub plan_wins : (hopeful dual : List ℕ) → AreAllKnown (length known) known → AreProgressTables known (graph_of game) hopeful dual →
-      PlanWins (scene_of game diagram) decisions hopeful
+      PlanWins (scene_of labels game diagram) decisions hopeful
   plan_wins hopeful dual full settled = of (full_tables_have_one_product diagram.lines (map literal_of decisions) known is_diagram.diagram named is_known all)
     where
       all : AreAllKnown (feature_count diagram.lines) known
       all = subst (λ n. AreAllKnown n known) is_known.length_is full
 
       of : (set : List Bool) × IsRemaining diagram.lines (map literal_of decisions) set ×
-          ((other : List Bool) → IsRemaining diagram.lines (map literal_of decisions) other → other ≡ set) → PlanWins (scene_of game diagram) decisions hopeful
+          ((other : List Bool) → IsRemaining diagram.lines (map literal_of decisions) other → other ≡ set) → PlanWins (scene_of labels game diagram) decisions hopeful
       of s = record {
         product = s.0;
         only = record { remaining = s.1; only = s.2 };
@@ -129,17 +129,17 @@ module _ (game : NamedGame) (diagram : NamedDiagram) (decisions : List Decision)
 
 -- ---- a plan over the games of a page
 
-module _ (game : NamedGame) (diagram : NamedDiagram) (decisions : List Decision) (games : GamesView) (are : ArePageGames game diagram (map literal_of decisions) games) where
+module _ (labels : List (List ℕ)) (game : NamedGame) (diagram : NamedDiagram) (decisions : List Decision) (games : GamesView) (are : ArePageGames game diagram (map literal_of decisions) games) where
   pub chosen_are : (hopeful : List ℕ) (chosen : List (Option ℕ)) → AreChoices games.hopeful_levels games.hopeful_arena hopeful chosen → AreChosen games.known (graph_of game) hopeful chosen
   chosen_are hopeful chosen h =
       subst (λ (a : Game). AreChoices (levels_for Hopeful (graph_of game)) a hopeful chosen) (are.arena Hopeful)
       (subst (λ (s : List Level). AreChoices s games.hopeful_arena hopeful chosen) (are.levels Hopeful) h)
 
   module _ (hopeful dual : List ℕ) where
-    pub not_full : ¬ (AreAllKnown (length games.known) games.known) → IsPlanFault (scene_of game diagram) decisions hopeful dual NotFull
+    pub not_full : ¬ (AreAllKnown (length games.known) games.known) → IsPlanFault (scene_of labels game diagram) decisions hopeful dual NotFull
     not_full fails = (games.known, (are.known, fails))
 
-    pub not_settled : AreAllKnown (length games.known) games.known → ¬ (AreSettledTables games hopeful dual) → IsPlanFault (scene_of game diagram) decisions hopeful dual NotSettled
+    pub not_settled : AreAllKnown (length games.known) games.known → ¬ (AreSettledTables games hopeful dual) → IsPlanFault (scene_of labels game diagram) decisions hopeful dual NotSettled
     not_settled full fails = (games.known, (are.known, (full, λ all. fails (settled_back game diagram (map literal_of decisions) games are hopeful dual all))))
 
     module _ (hopeful_len : length hopeful ≡ length game.vertices) (dual_len : length dual ≡ length game.vertices)
@@ -148,8 +148,8 @@ module _ (game : NamedGame) (diagram : NamedDiagram) (decisions : List Decision)
       progress : AreProgressTables games.known (graph_of game) hopeful dual
       progress = all_settled game diagram (map literal_of decisions) games are hopeful dual hopeful_len dual_len hopeful_within dual_within settled
 
-      pub planned : (chosen : List (Option ℕ)) (text : List ℕ) → AreChoices games.hopeful_levels games.hopeful_arena hopeful chosen → text ≡ plan_text (vertex_ids game.vertices) chosen →
-          IsPlanned (scene_of game diagram) decisions hopeful dual text
+      pub planned : (chosen : List (Option ℕ)) (text : List ℕ) → AreChoices games.hopeful_levels games.hopeful_arena hopeful chosen → text ≡ plan_text (vertex_ids game.vertices) labels chosen →
+          IsPlanned (scene_of labels game diagram) decisions hopeful dual text
       planned chosen text h text_is = (
         games.known,
         (
@@ -158,5 +158,5 @@ module _ (game : NamedGame) (diagram : NamedDiagram) (decisions : List Decision)
         ),
       )
 
-      pub planned_wins : game.features ≡ feature_count diagram.lines → AreChoicesOf diagram.lines (map literal_of decisions) → PlanWins (scene_of game diagram) decisions hopeful
-      planned_wins same named = plan_wins game diagram decisions are.is_game are.is_diagram same named games.known are.known hopeful dual full progress
+      pub planned_wins : game.features ≡ feature_count diagram.lines → AreChoicesOf diagram.lines (map literal_of decisions) → PlanWins (scene_of labels game diagram) decisions hopeful
+      planned_wins same named = plan_wins labels game diagram decisions are.is_game are.is_diagram same named games.known are.known hopeful dual full progress

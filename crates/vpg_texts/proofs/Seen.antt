@@ -28,8 +28,8 @@ module _ (scene : Scene) (entries : List Entry) (decisions : List Decision) wher
   under_one P Q k a b =
       k a.0 a.1.1 (subst Q (known_is_one scene.lines (map literal_of decisions) b.0 a.0 b.1.0 a.1.0) b.1.1)
 
-  tells_one : {A : Type 0} (hopeful dual : List ℕ) (text_of : Bool → Bool → A) (one other : A) → UnderKnown scene decisions (λ known. TellsUnder scene known hopeful dual text_of one) →
-      UnderKnown scene decisions (λ known. TellsUnder scene known hopeful dual text_of other) → one ≡ other
+  tells_one : {A : Type 0} (hopeful dual : List ℕ) (text_of : Bool → Bool → A) (one other : A) → UnderKnown scene decisions (λ known. TellsUnder scene.game known hopeful dual text_of one) →
+      UnderKnown scene decisions (λ known. TellsUnder scene.game known hopeful dual text_of other) → one ≡ other
   tells_one hopeful dual text_of one other =
       under_one _ _ (λ known a b.
       a.text_is ∙ ap₂ text_of (one_answer a.full b.full a.full_is b.full_is) (one_answer a.settled b.settled a.settled_is b.settled_is) ∙ sym b.text_is)
@@ -45,7 +45,7 @@ module _ (scene : Scene) (entries : List Entry) (decisions : List Decision) wher
 
   chosen_one : (known : List Tri) (hopeful dual one other : List ℕ) → PlansUnder scene known hopeful dual one → PlansUnder scene known hopeful dual other → one ≡ other
   chosen_one known hopeful dual one other a b =
-      a.text_is ∙ ap (plan_text scene.identifiers) (same_lists a.chosen b.chosen (a.chosen_are.0 ∙ sym b.chosen_are.0) same) ∙ sym b.text_is
+      a.text_is ∙ ap (plan_text scene.identifiers scene.labels) (same_lists a.chosen b.chosen (a.chosen_are.0 ∙ sym b.chosen_are.0) same) ∙ sym b.text_is
     where
       same : (v : ℕ) (d : Option ℕ) → v < length a.chosen → get_or a.chosen v d ≡ get_or b.chosen v d
       same v d l =
@@ -110,12 +110,12 @@ module _ {E : Type 0} (scene : Scene) (entries : List Entry) (decisions : List D
       OnOk r ((text : List ℕ) × (Shows scene one entries decisions hopeful dual text × (after ≡ before ++ text))) → IfOk s (λ tone. Gives (IsSeen scene lookup entries decisions hopeful dual) tone before after)
   shown_as r s made one lookup is same told = seen_as s one lookup same (done_gives (Shows scene one entries decisions hopeful dual) (IsSeen scene one entries decisions hopeful dual) is r s made before after told)
 
-pub named_shown : {E : Type 0} (game : NamedGame) (diagram : NamedDiagram) (entries : List Entry) (decisions : List Decision) (hopeful dual : List ℕ) (games : GamesView) → ArePageGames game diagram (map literal_of decisions) games →
+pub named_shown : {E : Type 0} (labels : List (List ℕ)) (game : NamedGame) (diagram : NamedDiagram) (entries : List Entry) (decisions : List Decision) (hopeful dual : List ℕ) (games : GamesView) → ArePageGames game diagram (map literal_of decisions) games →
     (r : Result (Unit {0}) E) (before after : List ℕ) (seen vs : List script.Vertex) → seen ≡ vs →
-    OnOk r (after ≡ before ++ named_lines (top_of games.hopeful_levels) (top_of games.dual_levels) (vertex_ids game.vertices) hopeful dual seen) →
-    OnOk r ((text : List ℕ) × (Shows (scene_of game diagram) (script.Vertices vs) entries decisions hopeful dual text × (after ≡ before ++ text)))
-named_shown game diagram entries decisions hopeful dual games are r before after seen vs same told =
-    let lines = named_lines (top_of games.hopeful_levels) (top_of games.dual_levels) (vertex_ids game.vertices) hopeful dual seen in
-    let tops = ap₂ (λ (first second : ℕ). named_lines first second (vertex_ids game.vertices) hopeful dual seen) (ap top_of (are.levels Hopeful)) (ap top_of (are.levels Dual)) in
-    let all = ap (λ (vs : List script.Vertex). named_lines (top_for Hopeful (graph_of game)) (top_for Dual (graph_of game)) (vertex_ids game.vertices) hopeful dual vs) same in
+    OnOk r (after ≡ before ++ named_lines (top_of games.hopeful_levels) (top_of games.dual_levels) (vertex_ids game.vertices) labels hopeful dual seen) →
+    OnOk r ((text : List ℕ) × (Shows (scene_of labels game diagram) (script.Vertices vs) entries decisions hopeful dual text × (after ≡ before ++ text)))
+named_shown labels game diagram entries decisions hopeful dual games are r before after seen vs same told =
+    let lines = named_lines (top_of games.hopeful_levels) (top_of games.dual_levels) (vertex_ids game.vertices) labels hopeful dual seen in
+    let tops = ap₂ (λ (first second : ℕ). named_lines first second (vertex_ids game.vertices) labels hopeful dual seen) (ap top_of (are.levels Hopeful)) (ap top_of (are.levels Dual)) in
+    let all = ap (λ (vs : List script.Vertex). named_lines (top_for Hopeful (graph_of game)) (top_for Dual (graph_of game)) (vertex_ids game.vertices) labels hopeful dual vs) same in
     on_ok r _ _ (λ appended. (lines, (tops ∙ all, appended))) told

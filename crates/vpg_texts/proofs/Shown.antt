@@ -47,7 +47,7 @@ pub tells : {A : Type 0} (game : NamedGame) (diagram : NamedDiagram) (choices : 
     (text_of : ℕ → ℕ → Bool → Bool → A) (full settled : Bool) (hopeful dual : List ℕ) (text : A) →
     Decides full (AreAllKnown (length games.known) games.known) → Decides settled (AreProgressTables games.known (graph_of game) hopeful dual) →
     text ≡ text_of (top_of games.hopeful_levels) (top_of games.dual_levels) full settled →
-    TellsUnder (scene_of game diagram) games.known hopeful dual (text_of (top_for Hopeful (graph_of game)) (top_for Dual (graph_of game))) text
+    TellsUnder (graph_of game) games.known hopeful dual (text_of (top_for Hopeful (graph_of game)) (top_for Dual (graph_of game))) text
 tells game diagram choices games are text_of full settled hopeful dual text full_is settled_is text_is = record {
   full = full;
   settled = settled;
@@ -58,14 +58,14 @@ tells game diagram choices games are text_of full settled hopeful dual text full
 
 -- the lines of a page
 pub shows : (game : NamedGame) (diagram : NamedDiagram) (decisions : List Decision) (games : GamesView) → ArePageGames game diagram (map literal_of decisions) games →
-    (full settled : Bool) (hopeful dual before text : List ℕ) (names : List (List ℕ)) → names ≡ diagram.names → before ≡ [] →
+    (full settled : Bool) (hopeful dual before text : List ℕ) (names labels : List (List ℕ)) → names ≡ diagram.names → before ≡ [] →
     Decides full (AreAllKnown (length games.known) games.known) → Decides settled (AreProgressTables games.known (graph_of game) hopeful dual) →
-    text ≡ before ++ show_text names (vertex_ids game.vertices) (top_of games.hopeful_levels) (top_of games.dual_levels) (map literal_of decisions) full settled hopeful dual →
-    TellsUnder (scene_of game diagram) games.known hopeful dual (shown_lines (scene_of game diagram) decisions hopeful dual) text
-shows game diagram decisions games are full settled hopeful dual before text names names_is empty full_is settled_is text_is =
+    text ≡ before ++ show_text names (vertex_ids game.vertices) labels (top_of games.hopeful_levels) (top_of games.dual_levels) (map literal_of decisions) full settled hopeful dual →
+    TellsUnder (graph_of game) games.known hopeful dual (shown_lines (scene_of labels game diagram) decisions hopeful dual) text
+shows game diagram decisions games are full settled hopeful dual before text names labels names_is empty full_is settled_is text_is =
     tells game diagram (map literal_of decisions) games are
-    (λ first second full settled. show_text diagram.names (vertex_ids game.vertices) first second (map literal_of decisions) full settled hopeful dual)
+    (λ first second full settled. show_text diagram.names (vertex_ids game.vertices) labels first second (map literal_of decisions) full settled hopeful dual)
     full settled hopeful dual text full_is settled_is
     (text_is
-    ∙ ap (λ (bytes : List ℕ). bytes ++ show_text names (vertex_ids game.vertices) (top_of games.hopeful_levels) (top_of games.dual_levels) (map literal_of decisions) full settled hopeful dual) empty
-    ∙ ap (λ (ns : List (List ℕ)). show_text ns (vertex_ids game.vertices) (top_of games.hopeful_levels) (top_of games.dual_levels) (map literal_of decisions) full settled hopeful dual) names_is)
+    ∙ ap (λ (bytes : List ℕ). bytes ++ show_text names (vertex_ids game.vertices) labels (top_of games.hopeful_levels) (top_of games.dual_levels) (map literal_of decisions) full settled hopeful dual) empty
+    ∙ ap (λ (ns : List (List ℕ)). show_text ns (vertex_ids game.vertices) labels (top_of games.hopeful_levels) (top_of games.dual_levels) (map literal_of decisions) full settled hopeful dual) names_is)

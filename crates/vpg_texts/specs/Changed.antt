@@ -6,7 +6,8 @@ use Rattle.vpg_game.specs.Guarded.{GuardedGame}
 use Rattle.vpg_measure.specs.TwoGames.{top_for}
 use Rattle.vpg_sides.specs.declared.verdict.Verdict.{Verdict}
 use Rattle.vpg_trail.specs.Page.{Hopeful, Dual}
-use Rattle.vpg_texts.specs.Text.{count_line, hopeless_text}
+use Rattle.vpg_texts.specs.Labels.{label_of, beside}
+use Rattle.vpg_texts.specs.Text.{count_line, hopeless_text, sure_text}
 
 -- ---- the verdicts of a page
 
@@ -42,26 +43,25 @@ same_verdicts before now = beq before.hopeless now.hopeless && beq before.sure n
 
 -- ---- the text
 
-abbrev pub sure_word : Bool → List ℕ
-sure_word sure = if sure then codes " sure" else codes " unsure"
-
 abbrev pub verdict_words : Verdict → List ℕ
-verdict_words verdict = hopeless_text verdict.hopeless ++ sure_word verdict.sure
+verdict_words verdict = hopeless_text verdict.hopeless ++ sure_text verdict.sure
 
--- a vertex's identifier, the verdict seen of it, and its verdict now
-abbrev pub change_line : ℕ → (before now : Verdict) → List ℕ
-change_line identifier before now = decimal identifier ++ verdict_words before ++ verdict_words now ++ 10 ∷ []
+-- a vertex's identifier, the verdict seen of it, its verdict now, and its name
+abbrev pub change_line : ℕ → (label : List ℕ) → (before now : Verdict) → List ℕ
+change_line identifier label before now =
+    decimal identifier ++ verdict_words before ++ verdict_words now ++ beside label ++ 10 ∷ []
 
 -- the line if the verdicts differ
-abbrev pub change_text : ℕ → (before now : Verdict) → List ℕ
-change_text identifier before now = if same_verdicts before now then [] else change_line identifier before now
+abbrev pub change_text : ℕ → (label : List ℕ) → (before now : Verdict) → List ℕ
+change_text identifier label before now =
+    if same_verdicts before now then [] else change_line identifier label before now
 
 -- the lines of the vertices below n
-abbrev pub change_lines : List ℕ → (seen now : List Verdict) → ℕ → List ℕ
-change_lines identifiers seen now zero = []
-change_lines identifiers seen now (suc n) =
-    change_lines identifiers seen now n
-    ++ change_text (slice_index identifiers n) (seen_at seen n) (seen_at now n)
+abbrev pub change_lines : List ℕ → (labels : List (List ℕ)) → (seen now : List Verdict) → ℕ → List ℕ
+change_lines identifiers labels seen now zero = []
+change_lines identifiers labels seen now (suc n) =
+    change_lines identifiers labels seen now n
+    ++ change_text (slice_index identifiers n) (label_of labels n) (seen_at seen n) (seen_at now n)
 
 -- the number of these lines
 abbrev pub change_count : (seen now : List Verdict) → ℕ → ℕ
@@ -70,7 +70,7 @@ change_count seen now (suc n) =
     change_count seen now n + (if same_verdicts (seen_at seen n) (seen_at now n) then 0 else 1)
 
 -- a line for each vertex with another verdict than was seen, and their number
-abbrev pub changed_text : List ℕ → (seen now : List Verdict) → List ℕ
-changed_text identifiers seen now =
-    change_lines identifiers seen now (length identifiers)
+abbrev pub changed_text : List ℕ → (labels : List (List ℕ)) → (seen now : List Verdict) → List ℕ
+changed_text identifiers labels seen now =
+    change_lines identifiers labels seen now (length identifiers)
     ++ count_line (codes "changed") (change_count seen now (length identifiers))

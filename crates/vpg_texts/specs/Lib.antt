@@ -1,4 +1,5 @@
 pub mod Changed
+pub mod Labels
 pub mod Picture
 pub mod Plan
 pub mod Scene

@@ -21,9 +21,9 @@ named_game scene =
     record { vertices = named_vertices scene.identifiers scene.game; features = feature_count scene.lines }
 
 -- The text is the picture of a game on a page, with these decisions, under what they make known, and with the verdicts
--- of these tables. No vertex has a name.
+-- of these tables, with the names that stand beside lines.
 abbrev pub IsDrawn : Scene → List Decision → (hopeful dual text : List ℕ) → Type 0
 IsDrawn scene decisions hopeful dual text =
     UnderKnown scene decisions
-    (λ known. text ≡ game_drawing scene.names known (map literal_of decisions) []
+    (λ known. text ≡ game_drawing scene.names known (map literal_of decisions) scene.labels
     (verdicts_by scene.game hopeful dual) (named_game scene))

@@ -29,7 +29,7 @@ pub record PlansUnder (scene : Scene) (known : List Tri) (hopeful dual text : Li
   pub settled : AreProgressTables known scene.game hopeful dual
   pub chosen : List (Option ℕ)
   pub chosen_are : AreChosen known scene.game hopeful chosen
-  pub text_is : text ≡ plan_text scene.identifiers chosen
+  pub text_is : text ≡ plan_text scene.identifiers scene.labels chosen
 
 -- The text is the plan of these decisions and tables.
 abbrev pub IsPlanned : Scene → List Decision → (hopeful dual text : List ℕ) → Type 0

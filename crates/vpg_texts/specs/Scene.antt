@@ -22,15 +22,18 @@ pub record Scene : Type 0 where
   -- of the features, and of the vertices
   pub names : List (List ℕ)
   pub identifiers : List ℕ
+  -- the names of vertices that stand beside lines; none if no names are asked for
+  pub labels : List (List ℕ)
 
--- the scene of a game and the diagram with its features
-abbrev pub scene_of : NamedGame → NamedDiagram → Scene
-scene_of game diagram =
+-- the scene of a game and the diagram with its features, with these names of its vertices
+abbrev pub scene_of : (labels : List (List ℕ)) → NamedGame → NamedDiagram → Scene
+scene_of labels game diagram =
     record {
       game = graph_of game;
       lines = diagram.lines;
       names = diagram.names;
       identifiers = vertex_ids game.vertices;
+      labels = labels;
     }
 
 -- this holds of the features that the decisions make known
@@ -55,25 +58,25 @@ AreProgressTables known game hopeful dual =
 
 -- Under what is known, the text, or the answer, is made of whether each feature is known, and of whether both tables
 -- are progress tables.
-pub record TellsUnder {A : Type 0} (scene : Scene) (known : List Tri) (hopeful dual : List ℕ)
+pub record TellsUnder {A : Type 0} (game : GuardedGame Formula) (known : List Tri) (hopeful dual : List ℕ)
     (text_of : (full settled : Bool) → A) (text : A) : Type 0 where
   pub full : Bool
   pub settled : Bool
   pub full_is : Decides full (AreAllKnown (length known) known)
-  pub settled_is : Decides settled (AreProgressTables known scene.game hopeful dual)
+  pub settled_is : Decides settled (AreProgressTables known game hopeful dual)
   pub text_is : text ≡ text_of full settled
 
 -- the lines of these decisions and tables
 abbrev pub shown_lines : Scene → List Decision → (hopeful dual : List ℕ) → (full settled : Bool) → List ℕ
 shown_lines scene decisions hopeful dual full settled =
-    show_text scene.names scene.identifiers (top_for Hopeful scene.game) (top_for Dual scene.game)
+    show_text scene.names scene.identifiers scene.labels (top_for Hopeful scene.game) (top_for Dual scene.game)
     (map literal_of decisions) full settled hopeful dual
 
 -- The text shows these decisions, under what they make known, and these tables.
 abbrev pub IsShown : Scene → List Decision → (hopeful dual text : List ℕ) → Type 0
 IsShown scene decisions hopeful dual text =
     UnderKnown scene decisions
-    (λ known. TellsUnder scene known hopeful dual (shown_lines scene decisions hopeful dual) text)
+    (λ known. TellsUnder scene.game known hopeful dual (shown_lines scene decisions hopeful dual) text)
 
 -- the number of vertices with each verdict by these tables; a mark ends the last line
 abbrev pub counted_lines : Scene → (hopeful dual mark : List ℕ) → (full settled : Bool) → List ℕ
@@ -84,7 +87,7 @@ counted_lines scene hopeful dual mark full settled =
 abbrev pub IsCounted : Scene → List Decision → (hopeful dual mark text : List ℕ) → Type 0
 IsCounted scene decisions hopeful dual mark text =
     UnderKnown scene decisions
-    (λ known. TellsUnder scene known hopeful dual (counted_lines scene hopeful dual mark) text)
+    (λ known. TellsUnder scene.game known hopeful dual (counted_lines scene hopeful dual mark) text)
 
 -- The text says of each feature whether the decisions make it known.
 abbrev pub TellsKnown : Scene → List Decision → List ℕ → Type 0

@@ -8,6 +8,7 @@ use Rattle.vpg_measure.specs.TwoGames.{top_for}
 use Rattle.vpg_script.specs.Answer.{Answer, IsDone, done, failed, refused}
 use Rattle.vpg_trail.specs.Page.{Hopeful, Dual, Decision, Entry}
 use Rattle.vpg_texts.specs.declared.showing.plans.PlanFault.TheVariants.{NotFull, NotSettled}
+use Rattle.vpg_texts.specs.Labels.{label_of}
 use Rattle.vpg_texts.specs.Picture.{IsDrawn}
 use Rattle.vpg_texts.specs.Plan.{IsPlanned, IsPlanFault}
 use Rattle.vpg_texts.specs.Scene.{Scene, UnderKnown, TellsUnder, IsShown, IsCounted, TellsKnown}
@@ -41,15 +42,18 @@ has_vertices identifiers script.Count = true
 has_vertices identifiers script.Draw = true
 
 -- the line of the vertex at a place
-abbrev pub line_at : ℕ → ℕ → List ℕ → (hopeful dual : List ℕ) → Option ℕ → List ℕ
-line_at hopeful_top dual_top identifiers hopeful dual None = []
-line_at hopeful_top dual_top identifiers hopeful dual (Some v) =
-    vertex_line hopeful_top dual_top (slice_index identifiers v) (slice_index hopeful v) (slice_index dual v)
+abbrev pub line_at : ℕ → ℕ → List ℕ → (labels : List (List ℕ)) → (hopeful dual : List ℕ) → Option ℕ → List ℕ
+line_at hopeful_top dual_top identifiers labels hopeful dual None = []
+line_at hopeful_top dual_top identifiers labels hopeful dual (Some v) =
+    vertex_line hopeful_top dual_top (slice_index identifiers v) (label_of labels v) (slice_index hopeful v)
+    (slice_index dual v)
 
 -- the lines of these vertices
-abbrev pub named_lines : ℕ → ℕ → List ℕ → (hopeful dual : List ℕ) → List script.Vertex → List ℕ
-named_lines hopeful_top dual_top identifiers hopeful dual vertices =
-    flat_map (λ vertex. line_at hopeful_top dual_top identifiers hopeful dual (vertex_of identifiers vertex)) vertices
+abbrev pub named_lines : ℕ → ℕ → List ℕ → (labels : List (List ℕ)) → (hopeful dual : List ℕ) → List script.Vertex →
+    List ℕ
+named_lines hopeful_top dual_top identifiers labels hopeful dual vertices =
+    flat_map (λ vertex. line_at hopeful_top dual_top identifiers labels hopeful dual (vertex_of identifiers vertex))
+    vertices
 
 -- ---- assertions
 
@@ -122,7 +126,7 @@ asserted_answer scene hopeful dual assertion full settled =
 abbrev pub IsAsserted : Scene → script.Assertion → List Decision → (hopeful dual : List ℕ) → Answer → Type 0
 IsAsserted scene assertion decisions hopeful dual answer =
     UnderKnown scene decisions
-    (λ known. TellsUnder scene known hopeful dual (asserted_answer scene hopeful dual assertion) answer)
+    (λ known. TellsUnder scene.game known hopeful dual (asserted_answer scene hopeful dual assertion) answer)
 
 -- ---- all that is looked at
 
@@ -138,8 +142,11 @@ IsPlanAnswer scene decisions hopeful dual answer =
 abbrev pub Shows : Scene → script.Lookup → List Entry → List Decision → (hopeful dual text : List ℕ) → Type 0
 Shows scene script.Show entries decisions hopeful dual text = IsShown scene decisions hopeful dual text
 Shows scene (script.Vertices vertices) entries decisions hopeful dual text =
-    text ≡ named_lines (top_for Hopeful scene.game) (top_for Dual scene.game) scene.identifiers hopeful dual vertices
-Shows scene script.Trail entries decisions hopeful dual text = text ≡ trail_text scene.names scene.identifiers entries
+    text ≡ named_lines (top_for Hopeful scene.game)
+    (top_for Dual scene.game) scene.identifiers scene.labels hopeful dual
+    vertices
+Shows scene script.Trail entries decisions hopeful dual text =
+    text ≡ trail_text scene.names scene.identifiers scene.labels entries
 Shows scene script.Products entries decisions hopeful dual text = TellsKnown scene decisions text
 Shows scene script.Count entries decisions hopeful dual text = IsCounted scene decisions hopeful dual [] text
 Shows scene script.Draw entries decisions hopeful dual text = IsDrawn scene decisions hopeful dual text

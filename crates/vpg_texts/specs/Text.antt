@@ -4,6 +4,7 @@ use Rattle.vpg_diagram.specs.declared.clause.Literal.{Literal}
 use Rattle.vpg_guards.specs.declared.tri.Tri.{Tri}
 use Rattle.vpg_guards.specs.declared.tri.Tri.TheVariants.{No, Unknown, Yes}
 use Rattle.vpg_trail.specs.Page.{Which, Hopeful, Dual, Entry, Decided, Lifted}
+use Rattle.vpg_texts.specs.Labels.{label_of, beside, beside_both}
 
 -- a blank, and then a number
 abbrev pub blank_number : ℕ → List ℕ
@@ -39,27 +40,30 @@ abbrev pub hopeless_text : Bool → List ℕ
 hopeless_text hopeless = if hopeless then codes " hopeless" else codes " possible"
 
 abbrev pub sure_text : Bool → List ℕ
-sure_text sure = if sure then codes " sure\n" else codes " unsure\n"
+sure_text sure = if sure then codes " sure" else codes " unsure"
 
--- a vertex's identifier, its two measures and its verdict
-abbrev pub vertex_line : ℕ → ℕ → ℕ → ℕ → ℕ → List ℕ
-vertex_line hopeful_top dual_top identifier hopeful dual =
+-- a vertex's identifier, its two measures, its verdict, and its name
+abbrev pub vertex_line : (hopeful_top dual_top identifier : ℕ) → (label : List ℕ) → (hopeful dual : ℕ) → List ℕ
+vertex_line hopeful_top dual_top identifier label hopeful dual =
     decimal identifier ++ blank_number hopeful ++ blank_number dual ++ hopeless_text (hopeful == hopeful_top)
-    ++ sure_text (dual == dual_top)
+    ++ sure_text (dual == dual_top) ++ beside label ++ 10 ∷ []
 
 -- the lines of the vertices below n
-abbrev pub vertex_lines : ℕ → ℕ → List ℕ → List ℕ → List ℕ → ℕ → List ℕ
-vertex_lines hopeful_top dual_top identifiers hopeful dual zero = []
-vertex_lines hopeful_top dual_top identifiers hopeful dual (suc n) =
-    vertex_lines hopeful_top dual_top identifiers hopeful dual n
-    ++ vertex_line hopeful_top dual_top (slice_index identifiers n) (slice_index hopeful n) (slice_index dual n)
+abbrev pub vertex_lines : (hopeful_top dual_top : ℕ) → (identifiers : List ℕ) (labels : List (List ℕ)) →
+    (hopeful dual : List ℕ) → ℕ → List ℕ
+vertex_lines hopeful_top dual_top identifiers labels hopeful dual zero = []
+vertex_lines hopeful_top dual_top identifiers labels hopeful dual (suc n) =
+    vertex_lines hopeful_top dual_top identifiers labels hopeful dual n
+    ++ vertex_line hopeful_top dual_top (slice_index identifiers n) (label_of labels n) (slice_index hopeful n)
+    (slice_index dual n)
 
-abbrev pub show_text : List (List ℕ) → List ℕ → ℕ → ℕ → List Literal → Bool → Bool → List ℕ → List ℕ → List ℕ
-show_text names identifiers hopeful_top dual_top choices full settled hopeful dual =
+abbrev pub show_text : (names : List (List ℕ)) (identifiers : List ℕ) (labels : List (List ℕ)) →
+    (hopeful_top dual_top : ℕ) → List Literal → (full settled : Bool) → (hopeful dual : List ℕ) → List ℕ
+show_text names identifiers labels hopeful_top dual_top choices full settled hopeful dual =
     decisions_line names choices
     ++ codes "full" ++ answer_line full
     ++ codes "settled" ++ answer_line settled
-    ++ vertex_lines hopeful_top dual_top identifiers hopeful dual (length identifiers)
+    ++ vertex_lines hopeful_top dual_top identifiers labels hopeful dual (length identifiers)
 
 -- ---- count
 
@@ -92,18 +96,20 @@ abbrev pub table_text : Which → List ℕ
 table_text Hopeful = codes "hopeful"
 table_text Dual = codes "dual"
 
--- a decision with its serial; a lift of a vertex in a table, with the old and the new value and its assumptions
-abbrev pub entry_line : List (List ℕ) → List ℕ → Entry → List ℕ
-entry_line names identifiers (Decided d) =
+-- A decision with its serial. A lift of a vertex in a table, with the old and the new value, its assumptions, and the
+-- vertex's name.
+abbrev pub entry_line : (names : List (List ℕ)) (identifiers : List ℕ) (labels : List (List ℕ)) → Entry → List ℕ
+entry_line names identifiers labels (Decided d) =
     deciding_text d.value ++ blank_name names d.feature ++ blank_number d.serial ++ 10 ∷ []
-entry_line names identifiers (Lifted l) =
+entry_line names identifiers labels (Lifted l) =
     table_text l.table ++ blank_number (slice_index identifiers l.vertex) ++ blank_number l.old ++ blank_number l.new
-    ++ choices_text names l.under ++ 10 ∷ []
+    ++ choices_text names l.under ++ beside (label_of labels l.vertex) ++ 10 ∷ []
 
 -- a line for each entry, and their number
-abbrev pub trail_text : List (List ℕ) → List ℕ → List Entry → List ℕ
-trail_text names identifiers entries =
-    flat_map (entry_line names identifiers) entries ++ codes "entries" ++ blank_number (length entries) ++ 10 ∷ []
+abbrev pub trail_text : (names : List (List ℕ)) (identifiers : List ℕ) (labels : List (List ℕ)) → List Entry → List ℕ
+trail_text names identifiers labels entries =
+    flat_map (entry_line names identifiers labels) entries ++ codes "entries" ++ blank_number (length entries)
+    ++ 10 ∷ []
 
 -- ---- products
 
@@ -146,19 +152,20 @@ known_text names known f = known_word (slice_index_or known f Unknown) ++ blank_
 
 -- ---- plan
 
--- a vertex's identifier and that of its chosen successor
-abbrev pub plan_line : List ℕ → ℕ → Option ℕ → List ℕ
-plan_line identifiers v None = []
-plan_line identifiers v (Some w) =
-    codes "plan" ++ blank_number (slice_index identifiers v) ++ blank_number (slice_index identifiers w) ++ 10 ∷ []
+-- a vertex's identifier, that of its chosen successor, and their names
+abbrev pub plan_line : (identifiers : List ℕ) (labels : List (List ℕ)) → ℕ → Option ℕ → List ℕ
+plan_line identifiers labels v None = []
+plan_line identifiers labels v (Some w) =
+    codes "plan" ++ blank_number (slice_index identifiers v) ++ blank_number (slice_index identifiers w)
+    ++ beside_both (label_of labels v) (label_of labels w) ++ 10 ∷ []
 
 -- the lines of the vertices below n
-abbrev pub plan_lines : List ℕ → List (Option ℕ) → ℕ → List ℕ
-plan_lines identifiers chosen zero = []
-plan_lines identifiers chosen (suc n) =
-    plan_lines identifiers chosen n ++ plan_line identifiers n (slice_index_or chosen n None)
+abbrev pub plan_lines : (identifiers : List ℕ) (labels : List (List ℕ)) → List (Option ℕ) → ℕ → List ℕ
+plan_lines identifiers labels chosen zero = []
+plan_lines identifiers labels chosen (suc n) =
+    plan_lines identifiers labels chosen n ++ plan_line identifiers labels n (slice_index_or chosen n None)
 
-abbrev pub plan_text : List ℕ → List (Option ℕ) → List ℕ
-plan_text identifiers chosen =
-    plan_lines identifiers chosen (length identifiers) ++ codes "plans" ++ blank_number (count_by is_some chosen)
+abbrev pub plan_text : (identifiers : List ℕ) (labels : List (List ℕ)) → List (Option ℕ) → List ℕ
+plan_text identifiers labels chosen =
+    plan_lines identifiers labels chosen (length identifiers) ++ codes "plans" ++ blank_number (count_by is_some chosen)
     ++ 10 ∷ []

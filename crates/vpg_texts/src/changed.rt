@@ -2,11 +2,12 @@
 ghost use Rattle.std.specs.Prelude.{◌≡◌, ◌++◌, ◌<◌, length, slice_index, IfOk, OnOk};
 ghost use Rattle.vpg_game.specs.Game.{vertex_ids};
 ghost use Rattle.vpg_game.specs.Levels.{top_of};
-ghost use Rattle.vpg_texts.specs.Changed.{change_count, change_line, change_lines, changed_text, same_verdicts, seen_at, sure_word, verdict_of, verdict_words, verdicts_below};
+ghost use Rattle.vpg_texts.specs.Changed.{change_count, change_line, change_lines, changed_text, same_verdicts, seen_at, verdict_of, verdict_words, verdicts_below};
 
-use crate::text::{count_line, hopeless, identifier, number};
+use crate::labels::put_beside;
+use crate::text::{count_line, hopeless, identifier, number, sure};
 use std::alloc::{AllocError, Global};
-use vpg_game::GuardedGame;
+use vpg_game::{GuardedGame, VertexNames};
 use vpg_measure::{PageGames, Table};
 use vpg_sides::{Verdict, Which};
 
@@ -67,30 +68,27 @@ fn same(before: Verdict, now: Verdict) -> bool
     before.hopeless == now.hopeless && before.sure == now.sure
 }
 
-fn sure_word(sure: bool, out: &mut Vec<u8>) -> Result<(), AllocError>
-    ensures { OnOk result (out.new.items ≡ out.old.items ++ sure_word sure) }
-{
-    if sure {
-        out.extend_from_slice(b" sure")
-    } else {
-        out.extend_from_slice(b" unsure")
-    }
-}
-
 fn words(verdict: Verdict, out: &mut Vec<u8>) -> Result<(), AllocError>
     ensures { OnOk result (out.new.items ≡ out.old.items ++ verdict_words verdict) }
 {
     hopeless(verdict.hopeless, out)?;
-    sure_word(verdict.sure, out)
+    sure(verdict.sure, out)
 }
 
-/// Appends the line of a vertex: its identifier, the verdict seen of it, and its verdict now.
-fn change(id: u32, before: Verdict, now: Verdict, out: &mut Vec<u8>) -> Result<(), AllocError>
-    ensures { OnOk result (out.new.items ≡ out.old.items ++ change_line id before now) }
+/// Appends the line of a vertex: its identifier, the verdict seen of it, its verdict now, and its name.
+fn change(
+    id: u32,
+    label: &[u8],
+    before: Verdict,
+    now: Verdict,
+    out: &mut Vec<u8>,
+) -> Result<(), AllocError>
+    ensures { OnOk result (out.new.items ≡ out.old.items ++ change_line id label.now before now) }
 {
     number(id as u64, out)?;
     words(before, out)?;
     words(now, out)?;
+    put_beside(label, out)?;
     out.push(b'\n')?;
     Ok(())
 }
@@ -98,13 +96,15 @@ fn change(id: u32, before: Verdict, now: Verdict, out: &mut Vec<u8>) -> Result<(
 /// Appends the lines of the vertices with another verdict than was seen, and returns their number.
 fn changes(
     game: &GuardedGame,
+    labels: &VertexNames,
     seen: &[Verdict],
     present: &[Verdict],
     out: &mut Vec<u8>,
 ) -> Result<usize, AllocError>
     ensures count { IfOk result (λ n. n ≡ change_count seen.now present.now (length game.now.vertices)) }
     ensures lines { IfOk result (λ _. out.new.items ≡ out.old.items
-        ++ change_lines (vertex_ids game.now.vertices) seen.now present.now (length game.now.vertices)) }
+        ++ change_lines (vertex_ids game.now.vertices) labels.now.names seen.now present.now
+        (length game.now.vertices)) }
 {
     let count = game.vertices() as u32;
     let mut changed = 0;
@@ -112,7 +112,7 @@ fn changes(
         let before = seen_at(seen, v);
         let verdict = seen_at(present, v);
         if !same(before, verdict) {
-            change(identifier(game, v), before, verdict, out)?;
+            change(identifier(game, v), labels.name(v), before, verdict, out)?;
             changed += 1;
         }
     }
@@ -122,13 +122,14 @@ fn changes(
 /// Appends a line for each vertex with another verdict than was seen, and their number.
 pub(crate) fn changed(
     game: &GuardedGame,
+    labels: &VertexNames,
     seen: &[Verdict],
     present: &[Verdict],
     out: &mut Vec<u8>,
 ) -> Result<(), AllocError>
     ensures { OnOk result (out.new.items ≡ out.old.items
-        ++ changed_text (vertex_ids game.now.vertices) seen.now present.now) }
+        ++ changed_text (vertex_ids game.now.vertices) labels.now.names seen.now present.now) }
 {
-    let count = changes(game, seen, present, out)?;
+    let count = changes(game, labels, seen, present, out)?;
     count_line(b"changed", count, out)
 }

@@ -2,8 +2,10 @@
 //!
 //! `show` writes a page's decisions, its tables and its verdicts, `count` how many vertices have which verdict, and
 //! `trail` its entries. `products` writes what is known of each feature, `put_known` what is known of one, and `plan`
-//! Even's moves if everything is known and settled. They take a page with its game and its diagram, and know no desk.
-//! The crate of runs above answers lines by them, and takes `blank_number` and `blank_name` for its own answers.
+//! Even's moves if everything is known and settled. They take a page with its game and its diagram, and know no desk. A
+//! line about a vertex ends with the vertex's name, and one about a move with two, if the names given have one
+//! (`put_beside`, `put_beside_both`). The crates of answers and runs above answer lines by these texts, and take
+//! `blank_number` and `blank_name` for their own answers.
 //!
 //! They make the games that the page's decisions leave once, as `PageGames`. A caller who holds these already, as a
 //! desk does, takes `show_over`, `products_over`, `put_known_over`, `plan_over` and `count_over`, which write the same
@@ -13,15 +15,17 @@
 //! the verdicts of a page, `verdicts_by` those of two tables, and `put_changed` writes which of them differ from some
 //! that were seen earlier.
 //!
-//! The texts are defined in `specs/Text`, `specs/Sights` and `specs/Changed`, and their meaning for a page in
-//! `specs/Scene`, `specs/Picture` and `specs/Plan`. All are this project's own.
+//! The texts are defined in `specs/Text`, `specs/Labels`, `specs/Sights` and `specs/Changed`, and their meaning for a
+//! page in `specs/Scene`, `specs/Picture` and `specs/Plan`. All are this project's own.
 #![tactic(auto)]
 
 mod changed;
+mod labels;
 mod showing;
 mod sights;
 mod text;
 
+pub use labels::{put_beside, put_beside_both};
 pub use showing::{
     PlanFault, count, count_over, draw_over, look_over, plan, plan_over, products, products_over,
     put_changed, put_known, put_known_over, show, show_over, trail, verdicts_by, verdicts_over,

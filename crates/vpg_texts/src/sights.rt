@@ -9,7 +9,7 @@ ghost use Rattle.vpg_texts.specs.Sights.{assertion_answer, claim_text, failing_t
 
 use crate::text;
 use std::alloc::AllocError;
-use vpg_game::GuardedGame;
+use vpg_game::{GuardedGame, VertexNames};
 use vpg_measure::{PageGames, Table};
 use vpg_script::{Assertion, Claim, Lookup, Tone, Vertex};
 use vpg_sides::Which;
@@ -87,6 +87,7 @@ fn place(game: &GuardedGame, vertex: Vertex<'_>) -> u32
 pub(crate) fn named(
     games: &PageGames,
     game: &GuardedGame,
+    labels: &VertexNames,
     hopeful: &Table,
     dual: &Table,
     vertices: &[Vertex<'_>],
@@ -97,10 +98,11 @@ pub(crate) fn named(
     requires dual { length dual.now ≡ length game.now.vertices }
     ensures { OnOk result (out.new.items ≡ out.old.items
         ++ named_lines (top_of games.now.hopeful_levels) (top_of games.now.dual_levels)
-        (vertex_ids game.now.vertices) hopeful.now dual.now (map vertex_shown vertices.now)) }
+        (vertex_ids game.now.vertices) labels.now.names hopeful.now dual.now (map vertex_shown vertices.now)) }
 {
     for named in vertices {
-        text::vertex(games, game, hopeful, dual, place(game, *named), out)?;
+        let v = place(game, *named);
+        text::vertex(games, game, labels, hopeful, dual, v, out)?;
     }
     Ok(())
 }

@@ -1,5 +1,6 @@
 //! The texts of a page.
 ghost use Rattle.std.specs.Prelude.{◌≡◌, ◌<◌, ◌≤◌, Some, ◌==◌, ◌++◌, ◌∷◌, [], codes, count_by, decimal, is_some, length, not, map, IfSome, OnOk, OnErr, All, slice_index, suc};
+ghost use Rattle.vpg_texts.specs.Labels.{label_of};
 ghost use Rattle.vpg_texts.specs.Scene.{EntryIsWithin};
 ghost use Rattle.vpg_texts.specs.Text.{blank_number, name_of, blank_name, choice_text, choices_text, decisions_line, answer_line, answer_word, hopeless_text, sure_text, vertex_line, vertex_lines, show_text};
 ghost use Rattle.vpg_texts.specs.Text.{count_line, count_lines, state_lines, count_text, deciding_text, table_text, entry_line, trail_text, names_known, products_line, products_text, known_word, known_text, plan_line, plan_text};
@@ -8,11 +9,12 @@ ghost use Rattle.vpg_trail.specs.Shown.{entry_of};
 ghost use Rattle.vpg_game.specs.Game.{vertex_ids};
 ghost use Rattle.vpg_game.specs.Levels.{top_of};
 
+use crate::labels::{put_beside, put_beside_both};
 use itoa::Buffer;
 use std::alloc::AllocError;
 use vpg_diagram::Literal;
 use vpg_features::Names;
-use vpg_game::GuardedGame;
+use vpg_game::{GuardedGame, VertexNames};
 use vpg_guards::Tri;
 use vpg_measure::{PageGames, Table};
 use vpg_partial::{Decision, Partial};
@@ -124,26 +126,36 @@ pub(crate) fn hopeless(hopeless: bool, out: &mut Vec<u8>) -> Result<(), AllocErr
     Ok(())
 }
 
-fn sure(sure: bool, out: &mut Vec<u8>) -> Result<(), AllocError>
+pub(crate) fn sure(sure: bool, out: &mut Vec<u8>) -> Result<(), AllocError>
     ensures { OnOk result (out.new.items ≡ out.old.items ++ sure_text sure) }
 {
     if sure {
-        out.extend_from_slice(b" sure\n")?;
+        out.extend_from_slice(b" sure")?;
     } else {
-        out.extend_from_slice(b" unsure\n")?;
+        out.extend_from_slice(b" unsure")?;
     }
     Ok(())
 }
 
-fn measures(games: &PageGames, id: u32, h: u64, d: u64, out: &mut Vec<u8>) -> Result<(), AllocError>
+fn measures(
+    games: &PageGames,
+    id: u32,
+    label: &[u8],
+    h: u64,
+    d: u64,
+    out: &mut Vec<u8>,
+) -> Result<(), AllocError>
     ensures { OnOk result (out.new.items ≡ out.old.items
-        ++ vertex_line (top_of games.now.hopeful_levels) (top_of games.now.dual_levels) id h d) }
+        ++ vertex_line (top_of games.now.hopeful_levels) (top_of games.now.dual_levels) id label.now h d) }
 {
     number(id as u64, out)?;
     blank_number(h, out)?;
     blank_number(d, out)?;
     hopeless(h == games.shape(Which::Hopeful).top(), out)?;
-    sure(d == games.shape(Which::Dual).top(), out)
+    sure(d == games.shape(Which::Dual).top(), out)?;
+    put_beside(label, out)?;
+    out.push(b'\n')?;
+    Ok(())
 }
 
 pub(crate) fn identifier(game: &GuardedGame, v: u32) -> u32
@@ -157,6 +169,7 @@ pub(crate) fn identifier(game: &GuardedGame, v: u32) -> u32
 pub(crate) fn vertex(
     games: &PageGames,
     game: &GuardedGame,
+    labels: &VertexNames,
     hopeful: &Table,
     dual: &Table,
     v: u32,
@@ -167,15 +180,18 @@ pub(crate) fn vertex(
     requires dual { v < length dual.now }
     ensures { OnOk result (out.new.items ≡ out.old.items
         ++ vertex_line (top_of games.now.hopeful_levels) (top_of games.now.dual_levels)
-        (slice_index (vertex_ids game.now.vertices) v) (slice_index hopeful.now v) (slice_index dual.now v)) }
+        (slice_index (vertex_ids game.now.vertices) v) (label_of labels.now.names v)
+        (slice_index hopeful.now v) (slice_index dual.now v)) }
 {
-    measures(games, identifier(game, v), hopeful.get(v), dual.get(v), out)
+    let id = identifier(game, v);
+    measures(games, id, labels.name(v), hopeful.get(v), dual.get(v), out)
 }
 
 /// Appends the lines of all vertices.
 fn vertices(
     games: &PageGames,
     game: &GuardedGame,
+    labels: &VertexNames,
     hopeful: &Table,
     dual: &Table,
     out: &mut Vec<u8>,
@@ -184,11 +200,11 @@ fn vertices(
     requires dual { length dual.now ≡ length game.now.vertices }
     ensures { OnOk result (out.new.items ≡ out.old.items
         ++ vertex_lines (top_of games.now.hopeful_levels) (top_of games.now.dual_levels)
-        (vertex_ids game.now.vertices) hopeful.now dual.now (length game.now.vertices)) }
+        (vertex_ids game.now.vertices) labels.now.names hopeful.now dual.now (length game.now.vertices)) }
 {
     let count = game.vertices() as u32;
     for v in 0..count {
-        vertex(games, game, hopeful, dual, v, out)?;
+        vertex(games, game, labels, hopeful, dual, v, out)?;
     }
     Ok(())
 }
@@ -197,6 +213,7 @@ fn vertices(
 pub(crate) fn page(
     names: &Names,
     game: &GuardedGame,
+    labels: &VertexNames,
     games: &PageGames,
     ds: &[Decision],
     full: bool,
@@ -209,7 +226,7 @@ pub(crate) fn page(
     requires hopeful { length hopeful.now ≡ length game.now.vertices }
     requires dual { length dual.now ≡ length game.now.vertices }
     ensures { OnOk result (out.new.items ≡ out.old.items
-        ++ show_text names.now (vertex_ids game.now.vertices) (top_of games.now.hopeful_levels)
+        ++ show_text names.now (vertex_ids game.now.vertices) labels.now.names (top_of games.now.hopeful_levels)
         (top_of games.now.dual_levels) (map literal_of ds.now) full settled hopeful.now dual.now) }
 {
     out.extend_from_slice(b"decisions")?;
@@ -219,7 +236,7 @@ pub(crate) fn page(
     answer(full, out)?;
     out.extend_from_slice(b"settled")?;
     answer(settled, out)?;
-    vertices(games, game, hopeful, dual, out)
+    vertices(games, game, labels, hopeful, dual, out)
 }
 
 pub(crate) fn count_line(word: &[u8], n: usize, out: &mut Vec<u8>) -> Result<(), AllocError>
@@ -320,10 +337,16 @@ fn decision(names: &Names, d: Decision, out: &mut Vec<u8>) -> Result<(), AllocEr
 }
 
 /// Appends the line of an entry.
-fn entry(names: &Names, game: &GuardedGame, e: &Entry, out: &mut Vec<u8>) -> Result<(), AllocError>
+fn entry(
+    names: &Names,
+    game: &GuardedGame,
+    labels: &VertexNames,
+    e: &Entry,
+    out: &mut Vec<u8>,
+) -> Result<(), AllocError>
     requires { EntryIsWithin (length names.now) (length game.now.vertices) (entry_of e.now) }
     ensures { OnOk result (out.new.items ≡ out.old.items
-        ++ entry_line names.now (vertex_ids game.now.vertices) (entry_of e.now)) }
+        ++ entry_line names.now (vertex_ids game.now.vertices) labels.now.names (entry_of e.now)) }
 {
     match e {
         Entry::Decide(d) => decision(names, *d, out),
@@ -339,6 +362,7 @@ fn entry(names: &Names, game: &GuardedGame, e: &Entry, out: &mut Vec<u8>) -> Res
             blank_number(*old, out)?;
             blank_number(*new, out)?;
             assumed(names, under.literals(), out)?;
+            put_beside(labels.name(*v), out)?;
             out.push(b'\n')?;
             Ok(())
         }
@@ -349,15 +373,16 @@ fn entry(names: &Names, game: &GuardedGame, e: &Entry, out: &mut Vec<u8>) -> Res
 pub(crate) fn trail(
     names: &Names,
     game: &GuardedGame,
+    labels: &VertexNames,
     entries: &[Entry],
     out: &mut Vec<u8>,
 ) -> Result<(), AllocError>
     requires { All (EntryIsWithin (length names.now) (length game.now.vertices)) (map entry_of entries.now) }
     ensures { OnOk result (out.new.items ≡ out.old.items
-        ++ trail_text names.now (vertex_ids game.now.vertices) (map entry_of entries.now)) }
+        ++ trail_text names.now (vertex_ids game.now.vertices) labels.now.names (map entry_of entries.now)) }
 {
     for e in entries {
-        entry(names, game, e, out)?;
+        entry(names, game, labels, e, out)?;
     }
     out.extend_from_slice(b"entries")?;
     blank_number(entries.len() as u64, out)?;
@@ -441,13 +466,15 @@ pub(crate) fn known(
 /// Appends the line of a vertex that has a chosen successor.
 fn plan_line(
     game: &GuardedGame,
+    labels: &VertexNames,
     v: u32,
     chosen: Option<u32>,
     out: &mut Vec<u8>,
 ) -> Result<(), AllocError>
     requires v { v < length game.now.vertices }
     requires w { IfSome chosen (λ w. w < length game.now.vertices) }
-    ensures { OnOk result (out.new.items ≡ out.old.items ++ plan_line (vertex_ids game.now.vertices) v chosen) }
+    ensures { OnOk result (out.new.items ≡ out.old.items
+        ++ plan_line (vertex_ids game.now.vertices) labels.now.names v chosen) }
 {
     match chosen {
         None => Ok(()),
@@ -455,6 +482,7 @@ fn plan_line(
             out.extend_from_slice(b"plan")?;
             blank_number(identifier(game, v) as u64, out)?;
             blank_number(identifier(game, w) as u64, out)?;
+            put_beside_both(labels.name(v), labels.name(w), out)?;
             out.push(b'\n')?;
             Ok(())
         }
@@ -470,16 +498,18 @@ fn chosen_count(chosen: &[Option<u32>]) -> usize
 /// Appends the chosen successors, and their number.
 pub(crate) fn plan(
     game: &GuardedGame,
+    labels: &VertexNames,
     chosen: &[Option<u32>],
     out: &mut Vec<u8>,
 ) -> Result<(), AllocError>
     requires len { length chosen.now ≡ length game.now.vertices }
     requires below { All (λ w. IfSome w (λ v. v < length game.now.vertices)) chosen.now }
-    ensures { OnOk result (out.new.items ≡ out.old.items ++ plan_text (vertex_ids game.now.vertices) chosen.now) }
+    ensures { OnOk result (out.new.items ≡ out.old.items
+        ++ plan_text (vertex_ids game.now.vertices) labels.now.names chosen.now) }
 {
     let count = game.vertices() as u32;
     for v in 0..count {
-        plan_line(game, v, chosen[v as usize], out)?;
+        plan_line(game, labels, v, chosen[v as usize], out)?;
     }
     out.extend_from_slice(b"plans")?;
     blank_number(chosen_count(chosen) as u64, out)?;

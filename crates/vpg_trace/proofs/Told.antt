@@ -70,15 +70,15 @@ module _ (page : Page) (behaviour : Behaviour) (game arena : Game) (moves : List
       let walk : IsWalkFrom game moves vertex visits is_cut = subst (λ (a : Game). IsWalkFrom a moves vertex visits is_cut) arena_is is in
       λ i. trace_text (family_of (shown_is i) (actions_are i) (seen_is i) (states_are i) (sets_are i) (parts_are i) (pairs_are i)) (walk.made i) (walk.cut i)
 
-module _ (order : OrderView) (behaviour : Behaviour) (vertex : ℕ) (before after : List ℕ) where
+module _ (order : OrderView) (behaviour : Behaviour) (vertex : ℕ) (beside before after : List ℕ) where
   abbrev page : Page
   page = page_of order
 
   -- the head, and the walk behind it
   pub walk_told : (mover : Which) (moves : List (Option ℕ)) (known : List Tri) (head : List ℕ) (middle : List ℕ) → IsKnownTable order.diagram.lines (choices order.decisions) known →
-      head ≡ head_line (other_table mover) (identifier_of page vertex) → middle ≡ before ++ head →
+      head ≡ head_line (other_table mover) (identifier_of page vertex) beside → middle ≡ before ++ head →
       after ≡ middle ++ trace_text (family_on page known behaviour) (walk_along page known mover vertex moves).visits (is_left (walk_along page known mover vertex moves).waiting) →
-      IsWalkTold page behaviour mover vertex moves before after
+      IsWalkTold page behaviour mover vertex beside moves before after
   walk_told mover moves known head middle is_known head_is middle_is after_is = record {
     known = known;
     is_known = is_known;
@@ -90,17 +90,17 @@ module _ (order : OrderView) (behaviour : Behaviour) (vertex : ℕ) (before afte
 
   module _ (limits : Limits) where
     abbrev Won : Which → Type 0
-    Won mover = Appends (TellsWon page behaviour limits mover vertex) before after
+    Won mover = Appends (TellsWon page behaviour limits mover vertex beside) before after
 
     abbrev Told : Type 0
-    Told = Appends (TellsTrace page behaviour limits vertex) before after
+    Told = Appends (TellsTrace page behaviour limits vertex beside) before after
 
     pub tells_walk : (mover : Which) (moves items : List (Option ℕ)) → moves ≡ items → AreWinning (graph_of order.game) order.diagram.lines (choices order.decisions) mover vertex items →
-        IsWalkTold page behaviour mover vertex moves before after → Won mover
+        IsWalkTold page behaviour mover vertex beside moves before after → Won mover
     tells_walk mover moves items same are told = (
-      walk_text page told.known behaviour mover vertex items,
+      walk_text page told.known behaviour mover vertex beside items,
       inl (record { moves = items; win = are; known = told.known; is_known = told.is_known; text_is = refl }),
-      told.appended ∙ ap (λ (ms : List (Option ℕ)). before ++ walk_text page told.known behaviour mover vertex ms) same,
+      told.appended ∙ ap (λ (ms : List (Option ℕ)). before ++ walk_text page told.known behaviour mover vertex beside ms) same,
     )
 
     pub tells_short : (mover : Which) → IsTooShort page limits mover → after ≡ before ++ unsettled_line → Won mover
@@ -113,9 +113,9 @@ module _ (order : OrderView) (behaviour : Behaviour) (vertex : ℕ) (before afte
     tells_sure low high (text, won, appended) = (text, inr (inl (low, high, won)), appended)
 
     pub tells_neither : ¬ (HasVerdict page Hopeful vertex) → ¬ (HasVerdict page Dual vertex) → (identifier : ℕ) → identifier ≡ identifier_of page vertex →
-        after ≡ before ++ neither_line identifier → Told
+        after ≡ before ++ neither_line identifier beside → Told
     tells_neither low also identifier same appended = (
-      neither_line (identifier_of page vertex),
+      neither_line (identifier_of page vertex) beside,
       inr (inr (low, also, refl)),
-      appended ∙ ap (λ (n : ℕ). before ++ neither_line n) same,
+      appended ∙ ap (λ (n : ℕ). before ++ neither_line n beside) same,
     )

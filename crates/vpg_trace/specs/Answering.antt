@@ -58,14 +58,14 @@ HasVerdict page which vertex = slice_index (page_table which page) vertex ≡ to
 abbrev pub identifier_of : Page → ℕ → ℕ
 identifier_of page vertex = slice_index page.identifiers vertex
 
--- the verdict of a table at a vertex
-abbrev pub head_line : Which → ℕ → List ℕ
-head_line Hopeful identifier = codes "hopeless " ++ decimal identifier ++ codes "\n"
-head_line Dual identifier = codes "sure " ++ decimal identifier ++ codes "\n"
+-- the verdict of a table at a vertex, and what stands beside it
+abbrev pub head_line : Which → ℕ → (beside : List ℕ) → List ℕ
+head_line Hopeful identifier beside = codes "hopeless " ++ decimal identifier ++ beside ++ codes "\n"
+head_line Dual identifier beside = codes "sure " ++ decimal identifier ++ beside ++ codes "\n"
 
 -- the vertex has neither verdict
-abbrev pub neither_line : ℕ → List ℕ
-neither_line identifier = codes "possible " ++ decimal identifier ++ codes " unsure\n"
+abbrev pub neither_line : ℕ → (beside : List ℕ) → List ℕ
+neither_line identifier beside = codes "possible " ++ decimal identifier ++ codes " unsure" ++ beside ++ codes "\n"
 
 -- a limit was met
 abbrev pub unsettled_line : List ℕ
@@ -76,26 +76,27 @@ abbrev pub walk_along : Page → List Tri → Which → ℕ → List (Option ℕ
 walk_along page known mover vertex moves = walk_from (caution_for known mover page.game) moves vertex
 
 -- the verdict by which the player wins, and the walk
-abbrev pub walk_text : Page → List Tri → Behaviour → Which → ℕ → List (Option ℕ) → List ℕ
-walk_text page known behaviour mover vertex moves =
-    head_line (other_table mover) (identifier_of page vertex)
+abbrev pub walk_text : Page → List Tri → Behaviour → Which → ℕ → (beside : List ℕ) → List (Option ℕ) → List ℕ
+walk_text page known behaviour mover vertex beside moves =
+    head_line (other_table mover) (identifier_of page vertex) beside
     ++ trace_text (family_on page known behaviour) (walk_along page known mover vertex moves).visits
     (is_left (walk_along page known mover vertex moves).waiting)
 
 -- The text added is the walk along these moves, under what the decisions make known.
-pub record IsWalkTold (page : Page) (behaviour : Behaviour) (mover : Which) (vertex : ℕ) (moves : List (Option ℕ))
-    (before after : List ℕ) : Type 0 where
+pub record IsWalkTold (page : Page) (behaviour : Behaviour) (mover : Which) (vertex : ℕ) (beside : List ℕ)
+    (moves : List (Option ℕ)) (before after : List ℕ) : Type 0 where
   pub known : List Tri
   pub is_known : IsKnownTable page.lines (choices page.decisions) known
-  pub appended : after ≡ before ++ walk_text page known behaviour mover vertex moves
+  pub appended : after ≡ before ++ walk_text page known behaviour mover vertex beside moves
 
 -- The moves win in each product that is left, and the text is that of the walk along them, under what is known.
-pub record TellsWalk (page : Page) (behaviour : Behaviour) (mover : Which) (vertex : ℕ) (text : List ℕ) : Type 0 where
+pub record TellsWalk (page : Page) (behaviour : Behaviour) (mover : Which) (vertex : ℕ) (beside text : List ℕ) :
+    Type 0 where
   pub moves : List (Option ℕ)
   pub win : AreWinning page.game page.lines (choices page.decisions) mover vertex moves
   pub known : List Tri
   pub is_known : IsKnownTable page.lines (choices page.decisions) known
-  pub text_is : text ≡ walk_text page known behaviour mover vertex moves
+  pub text_is : text ≡ walk_text page known behaviour mover vertex beside moves
 
 -- the limits leave no room to find such moves
 abbrev pub IsTooShort : Page → Limits → Which → Type 0
@@ -103,19 +104,19 @@ IsTooShort page limits mover =
     ¬ (ChoicesSettleInCaution limits.rounds page.game page.lines (choices page.decisions) mover)
 
 -- A walk along moves of the player that win; or the limits leave no room to find them.
-abbrev pub TellsWon : Page → Behaviour → Limits → (mover : Which) → (vertex : ℕ) → (text : List ℕ) → Type 0
-TellsWon page behaviour limits mover vertex text =
-    TellsWalk page behaviour mover vertex text ⊎ (IsTooShort page limits mover × (text ≡ unsettled_line))
+abbrev pub TellsWon : Page → Behaviour → Limits → (mover : Which) → (vertex : ℕ) → (beside text : List ℕ) → Type 0
+TellsWon page behaviour limits mover vertex beside text =
+    TellsWalk page behaviour mover vertex beside text ⊎ (IsTooShort page limits mover × (text ≡ unsettled_line))
 
 -- If the vertex is hopeless on the page, the walk is along Odd's moves; if it is sure, along Even's. Otherwise the text
--- says that it is neither.
-abbrev pub TellsTrace : Page → Behaviour → Limits → (vertex : ℕ) → (text : List ℕ) → Type 0
-TellsTrace page behaviour limits vertex text =
-    (HasVerdict page Hopeful vertex × TellsWon page behaviour limits Dual vertex text)
+-- says that it is neither. What stands beside the vertex ends its line.
+abbrev pub TellsTrace : Page → Behaviour → Limits → (vertex : ℕ) → (beside text : List ℕ) → Type 0
+TellsTrace page behaviour limits vertex beside text =
+    (HasVerdict page Hopeful vertex × TellsWon page behaviour limits Dual vertex beside text)
     ⊎ (¬ (HasVerdict page Hopeful vertex) × HasVerdict page Dual vertex
-    × TellsWon page behaviour limits Hopeful vertex text)
+    × TellsWon page behaviour limits Hopeful vertex beside text)
     ⊎ (¬ (HasVerdict page Hopeful vertex) × ¬ (HasVerdict page Dual vertex)
-    × (text ≡ neither_line (identifier_of page vertex)))
+    × (text ≡ neither_line (identifier_of page vertex) beside))
 
 -- such a text is appended
 abbrev pub Appends : (List ℕ → Type 0) → List ℕ → List ℕ → Type 0

@@ -38,24 +38,32 @@ fn other_table(which: Which) -> Which
 }
 
 /// Appends the line of a verdict.
-fn put_head(verdict: Which, identifier: u32, out: &mut Vec<u8>) -> Result<(), AllocError>
-    ensures { OnOk result (out.new.items ≡ out.old.items ++ head_line verdict identifier) }
+fn put_head(
+    verdict: Which,
+    identifier: u32,
+    beside: &[u8],
+    out: &mut Vec<u8>,
+) -> Result<(), AllocError>
+    ensures { OnOk result (out.new.items ≡ out.old.items ++ head_line verdict identifier beside.now) }
 {
     match verdict {
         Which::Hopeful => out.extend_from_slice(b"hopeless ")?,
         Which::Dual => out.extend_from_slice(b"sure ")?,
     }
     put_number(identifier as u64, out)?;
+    out.extend_from_slice(beside)?;
     out.extend_from_slice(b"\n")
 }
 
 /// Appends that a vertex is neither hopeless nor sure.
-fn put_neither(identifier: u32, out: &mut Vec<u8>) -> Result<(), AllocError>
-    ensures { OnOk result (out.new.items ≡ out.old.items ++ neither_line identifier) }
+fn put_neither(identifier: u32, beside: &[u8], out: &mut Vec<u8>) -> Result<(), AllocError>
+    ensures { OnOk result (out.new.items ≡ out.old.items ++ neither_line identifier beside.now) }
 {
     out.extend_from_slice(b"possible ")?;
     put_number(identifier as u64, out)?;
-    out.extend_from_slice(b" unsure\n")
+    out.extend_from_slice(b" unsure")?;
+    out.extend_from_slice(beside)?;
+    out.extend_from_slice(b"\n")
 }
 
 fn put_unsettled(out: &mut Vec<u8>) -> Result<(), AllocError>
@@ -112,15 +120,16 @@ fn put_won(
     behaviour: &Behaviour,
     mover: Which,
     vertex: u32,
+    beside: &[u8],
     moves: &[Option<u32>],
     out: &mut Vec<u8>,
 ) -> Result<(), AllocError>
     requires vertex { vertex < length order.now.game.vertices }
     requires features { behaviour.now.features ≡ order.now.game.features }
-    ensures { OnOk result (IsWalkTold (page_of order.now) behaviour.now mover vertex moves.now out.old.items
+    ensures { OnOk result (IsWalkTold (page_of order.now) behaviour.now mover vertex beside.now moves.now out.old.items
         out.new.items) }
 {
-    put_head(other_table(mover), identifier(order, vertex), out)?;
+    put_head(other_table(mover), identifier(order, vertex), beside, out)?;
     put_walk(
         alloc,
         order,
@@ -140,6 +149,7 @@ fn won(
     behaviour: &Behaviour,
     mover: Which,
     vertex: u32,
+    beside: &[u8],
     limits: Limits,
     out: &mut Vec<u8>,
 ) -> Result<(), AllocError>
@@ -147,11 +157,13 @@ fn won(
     requires verdict { slice_index (order_table (other_table mover) order.now) vertex ≡
         top_for (other_table mover) (graph_of order.now.game) }
     requires features { behaviour.now.features ≡ order.now.game.features }
-    ensures { OnOk result (Appends (TellsWon (page_of order.now) behaviour.now limits mover vertex)
+    ensures { OnOk result (Appends (TellsWon (page_of order.now) behaviour.now limits mover vertex beside.now)
         out.old.items out.new.items) }
 {
     match winning_moves(alloc, order, mover, vertex, limits)? {
-        Moves::Winning(moves) => put_won(alloc, order, behaviour, mover, vertex, &moves, out),
+        Moves::Winning(moves) => {
+            put_won(alloc, order, behaviour, mover, vertex, beside, &moves, out)
+        }
         Moves::Nothing => unreachable!(),
         Moves::Unsettled => put_unsettled(out),
     }
@@ -163,25 +175,45 @@ fn won(
 ///
 /// The behaviour is what the game was made of, over the features of the order's diagram. The first line is the verdict,
 /// `hopeless 0` or `sure 0`; the walk follows, as of `put_trace`, up to the line `steps 12`. Else there is one line:
-/// `possible 0 unsure`, or `unsettled`. The only error is a lack of memory.
+/// `possible 0 unsure`, or `unsettled`. A line with the vertex ends with what the caller passes to stand beside it. The
+/// only error is a lack of memory.
 pub fn put_answer(
     alloc: Global,
     order: &Order,
     behaviour: &Behaviour,
     vertex: u32,
+    beside: &[u8],
     limits: Limits,
     out: &mut Vec<u8>,
 ) -> Result<(), AllocError>
     requires vertex { vertex < length order.now.game.vertices }
     requires features { behaviour.now.features ≡ order.now.game.features }
-    ensures { OnOk result (Appends (TellsTrace (page_of order.now) behaviour.now limits vertex)
+    ensures { OnOk result (Appends (TellsTrace (page_of order.now) behaviour.now limits vertex beside.now)
         out.old.items out.new.items) }
 {
     if has_top(order, Which::Hopeful, vertex) {
-        won(alloc, order, behaviour, Which::Dual, vertex, limits, out)
+        won(
+            alloc,
+            order,
+            behaviour,
+            Which::Dual,
+            vertex,
+            beside,
+            limits,
+            out,
+        )
     } else if has_top(order, Which::Dual, vertex) {
-        won(alloc, order, behaviour, Which::Hopeful, vertex, limits, out)
+        won(
+            alloc,
+            order,
+            behaviour,
+            Which::Hopeful,
+            vertex,
+            beside,
+            limits,
+            out,
+        )
     } else {
-        put_neither(identifier(order, vertex), out)
+        put_neither(identifier(order, vertex), beside, out)
     }
 }

@@ -17,7 +17,7 @@ use crate::refusals::writing::{is_before, text_before};
 use std::alloc::{AllocError, Global};
 use std::sync::Arc;
 use vpg_diagram::{Diagram, Literal};
-use vpg_game::GuardedGame;
+use vpg_game::{GuardedGame, VertexNames};
 use vpg_measure::{Shape, Table};
 use vpg_partial::{Partial, PartialFault};
 use vpg_scarce::{End, Finding, Heap, MOST_TRIES, Report, more};
@@ -88,12 +88,13 @@ fn put(
     requires entries { All (EntryIsWithin (feature_count diagram.now.lines)
         (length game.now.vertices)) page.now.entries }
 {
+    let labels = VertexNames::none(alloc);
     match text {
-        Text::Show => end_of(show(alloc, page, game, diagram, out)),
-        Text::Trail => end_of(trail(alloc, page, game, diagram, out)),
+        Text::Show => end_of(show(alloc, page, game, diagram, &labels, out)),
+        Text::Trail => end_of(trail(alloc, page, game, diagram, &labels, out)),
         Text::Products => end_of(products(alloc, page, game, diagram, out)),
         Text::Count => end_of(count(alloc, page, game, diagram, out)),
-        Text::Plan => match plan(alloc, page, game, diagram, out) {
+        Text::Plan => match plan(alloc, page, game, diagram, &labels, out) {
             Ok(()) => End::Done,
             Err(PlanFault::Memory) => End::Memory,
             Err(_) => End::Otherwise,

@@ -1,4 +1,7 @@
 //! Scripts carried out on families, with the texts that report their ends. Most rows have the built-in family.
+ghost use Rattle.std.specs.Arc.{arc_value};
+ghost use Rattle.std.specs.Prelude.{◌≡◌, IfOk};
+ghost use Rattle.vpg_diagram.specs.FeatureDiagram.{feature_count};
 
 use super::manners::{PLAIN, STRICT};
 use crate::devices::{Gives, Takes, all, then_fails, whole};
@@ -59,6 +62,48 @@ fn texts_of(alloc: Global, diagram: &str, game: &str) -> Result<Texts, AllocErro
     })
 }
 
+/// Returns a script's end on a family, in its context.
+pub(super) fn ending_on<T: Threads + Wait + Sync>(
+    rt: &T,
+    alloc: Global,
+    known: &Known,
+    manner: Manner,
+    gives: Gives<'_>,
+    takes: Takes<'_>,
+) -> Result<Ending, Fault>
+    requires { (arc_value known.now.family.game).features ≡ feature_count (arc_value known.now.family.diagram).lines }
+{
+    let mut reader = Device::reader(gives);
+    let mut writer = Device::writer(takes);
+    let Ok(family) = known.family.again() else {
+        return Err(Fault::Memory);
+    };
+    run_script(
+        rt,
+        alloc,
+        family,
+        &known.context,
+        &mut reader,
+        &mut writer,
+        1,
+        manner,
+    )
+}
+
+/// Returns the family of these texts.
+pub(super) fn known_of(alloc: Global, texts: (&str, &str)) -> Result<Known, Fault>
+    ensures { IfOk result (λ known.
+        (arc_value known.family.game).features ≡ feature_count (arc_value known.family.diagram).lines) }
+{
+    let Ok(texts) = texts_of(alloc, texts.0, texts.1) else {
+        return Err(Fault::Memory);
+    };
+    match Known::read(alloc, &texts) {
+        Ok(known) => Ok(known),
+        Err(fault) => Err(fault),
+    }
+}
+
 /// Returns a script's end on a family of these texts.
 pub(super) fn ending<T: Threads + Wait + Sync>(
     rt: &T,
@@ -68,27 +113,8 @@ pub(super) fn ending<T: Threads + Wait + Sync>(
     gives: Gives<'_>,
     takes: Takes<'_>,
 ) -> Result<Ending, Fault> {
-    let mut reader = Device::reader(gives);
-    let mut writer = Device::writer(takes);
-    let Ok(texts) = texts_of(alloc, texts.0, texts.1) else {
-        return Err(Fault::Memory);
-    };
-    match Known::read(alloc, &texts) {
-        Ok(known) => {
-            let Ok(family) = known.family.again() else {
-                return Err(Fault::Memory);
-            };
-            run_script(
-                rt,
-                alloc,
-                family,
-                &known.context,
-                &mut reader,
-                &mut writer,
-                1,
-                manner,
-            )
-        }
+    match known_of(alloc, texts) {
+        Ok(known) => ending_on(rt, alloc, &known, manner, gives, takes),
         Err(fault) => Err(fault),
     }
 }

@@ -1,6 +1,6 @@
-//! Scripts that name vertices, each with its whole output. Lines are separated by ` / `.
+//! Scripts that name vertices, and one whose answers do, each with its whole output. Lines are separated by ` / `.
 
-use super::ends::ending;
+use super::ends::{ending, ending_on, known_of};
 use super::manners::PLAIN;
 use super::runs::put_lines;
 use crate::devices::{all, whole};
@@ -61,6 +61,38 @@ static ROWS: [Row; 6] = [
     },
 ];
 
+/// Lines of answers that end with the names of their vertices: 1 has none.
+static LABELLED: Row = Row {
+    game: "0 1 0 1[f],0 \"door\topen\"; 1 2 1 0[g],1; 12 0 1 0,12 \"+f or fewer\";",
+    script: "show 12 1 / exclude f / settle / show / changed / trail / count / why 0 / lost 12 / won 12 \
+        / decide 0 / winners 12 / spoil 0 / plan / assert 0 hopeless / reset / select g / select f / settle / plan \
+        / decide 12 / repair 12 / known f",
+    answers: "12 0 0 possible unsure \"+f or fewer\" / 1 0 0 possible unsure / done 1 / settled 4 / decisions -f \
+        / full no / settled yes / 0 2 0 hopeless unsure \"door?open\" / 1 0 2 possible unsure \
+        / 12 2 1 hopeless unsure \"+f or fewer\" / 0 possible unsure hopeless unsure \"door?open\" \
+        / 12 possible unsure hopeless unsure \"+f or fewer\" / changed 2 / exclude f 1 \
+        / hopeful 0 0 2 -f \"door?open\" / hopeful 12 0 2 -f \"+f or fewer\" / dual 1 0 2 -f \
+        / dual 12 0 1 -f \"+f or fewer\" / entries 5 / hopeless 2 / possible 1 / sure 0 / unsure 3 / settled yes \
+        / full no / hopeless 0 -f \"door?open\" / unsure 0 \"door?open\" / lost 12 -f \"+f or fewer\" \
+        / product r g / lost 0 \"door?open\" / lost 12 2 \"+f or fewer\" / winners 12 0 1 \"+f or fewer\" \
+        / spoils 0 / refused NotFull / holds / done 2 / done 3 / done 4 / settled 5 \
+        / plan 0 1 \"door?open\" \"\" / plans 1 / won 12 \"+f or fewer\" / possible 12 \"+f or fewer\" / in f",
+};
+
+/// Whether the lines of a row's answers end with names.
+fn is_labelled<T: Threads + Wait + Sync>(rt: &T, alloc: Global, row: &Row) -> bool {
+    let (mut script, mut wanted) = (Vec::new(alloc), Vec::new(alloc));
+    let mut got = Vec::new(alloc);
+    let done = put_lines(alloc, row.script, &mut script)
+        & put_lines(alloc, row.answers, &mut wanted);
+    let Ok(mut known) = known_of(alloc, (DIAGRAM, row.game)) else {
+        return false;
+    };
+    known.label();
+    let ended = ending_on(rt, alloc, &known, PLAIN, whole(&script), all(&mut got));
+    done && ended.is_ok() && got.as_slice() == wanted.as_slice()
+}
+
 /// Whether a row is answered so; or ends in a fault, if it has no answers.
 fn is_answered<T: Threads + Wait + Sync>(rt: &T, alloc: Global, row: &Row) -> bool {
     let (mut script, mut wanted) = (Vec::new(alloc), Vec::new(alloc));
@@ -81,5 +113,9 @@ pub(super) fn first_other<T: Threads + Wait + Sync>(rt: &T, alloc: Global) -> Op
             return Some(k);
         }
     }
-    None
+    if is_labelled(rt, alloc, &LABELLED) {
+        None
+    } else {
+        Some(ROWS.len())
+    }
 }

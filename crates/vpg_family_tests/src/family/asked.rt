@@ -8,10 +8,7 @@ use super::rows::{Row, TABLES, row_of};
 use crate::said::Said;
 use std::alloc::{AllocError, Global};
 use std::test::*;
-use vpg_family::{Family, Fault, Pictured, Subject, Texts, drawn, linted, system_drawn};
-use vpg_game::VertexNames;
-use vpg_script::{Device, Sink};
-use vpg_terminal::named_text;
+use vpg_family::{Family, Fault, Subject, Texts, drawn, linted, system_drawn};
 
 /// Returns the text that was made, if there is memory for it.
 fn kept(made: Result<Vec<u8>, AllocError>) -> Result<Vec<u8>, Fault> {
@@ -45,56 +42,13 @@ fn texts(alloc: Global, row: &Row<'_>) -> Result<Texts, AllocError> {
     })
 }
 
-/// Returns the text that is passed on for an answer.
-fn passed_on(
-    alloc: Global,
-    family: &Family,
-    names: &VertexNames,
-    answer: &str,
-) -> Result<Vec<u8>, Fault>
-    requires { (arc_value family.now.game).features ≡ feature_count (arc_value family.now.diagram).lines }
-{
-    let text = Device::writer(Vec::new(alloc));
-    let mut sink = Pictured::new(alloc, &family.diagram, &family.game, names, text);
-    match sink.put(answer.as_bytes()) {
-        Ok(()) => Ok(sink.into_writer().into_writer()),
-        Err(_) => Err(Fault::Write),
-    }
-}
-
-/// Returns an answer with the names of vertices.
-fn named(
-    alloc: Global,
-    family: &Family,
-    names: &VertexNames,
-    row: &Row<'_>,
-) -> Result<Vec<u8>, Fault>
-    requires { (arc_value family.now.game).features ≡ feature_count (arc_value family.now.diagram).lines }
-{
-    match row.asked {
-        "pass-on" => passed_on(alloc, family, names, row.text),
-        _ => kept(named_text(alloc, &family.game, names, row.text.as_bytes())),
-    }
-}
-
-/// Returns the text about a family and the names of its vertices.
-fn with_names(alloc: Global, family: &Family, row: &Row<'_>) -> Result<Vec<u8>, Fault>
-    requires { (arc_value family.now.game).features ≡ feature_count (arc_value family.now.diagram).lines }
-{
-    match VertexNames::read(alloc, row.game.as_bytes()) {
-        Ok(names) => named(alloc, family, &names, row),
-        Err(_) => Err(Fault::Memory),
-    }
-}
-
 /// Returns the text about a family.
 fn of_family(alloc: Global, family: &Family, row: &Row<'_>) -> Result<Vec<u8>, Fault>
     requires { (arc_value family.now.game).features ≡ feature_count (arc_value family.now.diagram).lines }
 {
     match row.asked {
         "check" => kept(family.counted(alloc)),
-        "project" => projected(alloc, family, row.text),
-        _ => with_names(alloc, family, row),
+        _ => projected(alloc, family, row.text),
     }
 }
 

@@ -6,12 +6,6 @@ const NONE: &str = "root r\nmandatory r a\nexcludes r a\n";
 
 const DOT: &str = "0 0 0 0;";
 
-/// The first vertex has a name.
-const HERE: &str = "0 1 0 1[f],0 \"he\\re\"; 1 2 1 0[g],1;";
-
-/// The vertex 1 has no name.
-const DOOR: &str = "0 1 0 1[f],0 \"door\topen\"; 1 2 1 0[g],1; 12 0 1 0 \"+f or fewer\";";
-
 /// A system of three states: transitions that look alike between the same two, and actions as mCRL2 writes them.
 const SYSTEM: &str = "des (0, 7, 3)
 (0, \"send(\"a\") [f]\", 1)
@@ -36,8 +30,8 @@ const WIDEST: &str = "\
 /// A family, a question about it, and the text on standard output, or else on standard error.
 #[derive(Drop)]
 pub(super) struct Row<'t> {
-    /// A word. `project` takes the words of a text with one blank between them, `pass-on` and `name` an answer. `draw`
-    /// is about the game, with `-features` about the diagram, and with `-system` about the system in place of the game.
+    /// A word. `project` takes the words of a text with one blank between them. `draw` is about the game, with
+    /// `-features` about the diagram, and with `-system` about the system in place of the game.
     pub(super) asked: &'t str,
     pub(super) text: &'t str,
     pub(super) diagram: &'t str,
@@ -53,8 +47,6 @@ fn meant(part: &str) -> &str {
         "NONE" => NONE,
         "DOT" => DOT,
         "WIDEST" => WIDEST,
-        "HERE" => HERE,
-        "DOOR" => DOOR,
         "SYSTEM" => SYSTEM,
         _ => part,
     }
@@ -83,7 +75,7 @@ pub(super) fn row_of(writing: &str) -> Row<'_> {
 
 /// The rows, each with a `§` after it. The parts of a row stand beside `¦`: a remark, the question, the texts of the
 /// diagram and of the game or their names, its text, and the answer.
-pub(super) static TABLES: [&str; 7] = [REFUSED, DONE, PICTURES, SYSTEMS, PASSED, NAMED, WARNED];
+pub(super) static TABLES: [&str; 5] = [REFUSED, DONE, PICTURES, SYSTEMS, WARNED];
 
 /// Families that are refused, and words that name no product.
 const REFUSED: &str = "\
@@ -168,214 +160,6 @@ const SYSTEMS: &str = "\
 ¦draw-system¦DIAGRAM¦des (0, 1, 1)\n¦¦vpgdesk: system WrongCount 1\n§\
 ¦draw-system¦NONE¦des (0, 0, 0)\n¦¦vpgdesk: system NoState 1\n§\
 ¦draw-system¦NONE¦des (0, 0, 1)\n¦¦vpgdesk: Conflict r\n§\
-";
-
-/// Answers that are passed on, with the names of vertices in pictures.
-const PASSED: &str = "\
-¦pass-on¦DIAGRAM¦HERE¦0 2 0 hopeless unsure\n¦0 2 0 hopeless unsure\n§\
-¦pass-on¦DIAGRAM¦HERE¦digraph game {
-  graph [label=\"decisions -g\", labelloc=t, rankdir=LR];
-  node [style=filled];
-  0 [shape=diamond, label=\"0 : 1\", fillcolor=mistyrose, color=firebrick];
-  1 [shape=box, label=\"1 : 2\", fillcolor=white, color=gray40];
-  0 -> 1 [label=\"f\", style=dashed, color=steelblue, fontcolor=steelblue];
-  0 -> 0 [style=solid];
-  1 -> 0 [label=\"g\", style=dotted, color=gray70, fontcolor=gray50];
-  1 -> 1 [style=solid];
-}
-¦digraph game {
-  graph [label=\"decisions -g\", labelloc=t, rankdir=LR];
-  node [style=filled];
-  0 [shape=diamond, label=\"0 : 1\\nhe\\\\re\", fillcolor=mistyrose, color=firebrick];
-  1 [shape=box, label=\"1 : 2\", fillcolor=white, color=gray40];
-  0 -> 1 [label=\"f\", style=dashed, color=steelblue, fontcolor=steelblue];
-  0 -> 0 [style=solid];
-  1 -> 0 [label=\"g\", style=dotted, color=gray70, fontcolor=gray50];
-  1 -> 1 [style=solid];
-}
-§\
-¦pass-on¦DIAGRAM¦HERE¦digraph game {\n}\n¦vpgdesk: Write\n§\
-Odd's moves are listed.¦pass-on¦DIAGRAM¦HERE¦digraph part {
-  graph [label=\"decisions -g\", labelloc=t, rankdir=LR];
-  node [style=filled];
-  0 [shape=diamond, label=\"0 : 1\", penwidth=3, fillcolor=mistyrose, color=firebrick];
-  1 [shape=box, label=\"1 : 2\", fillcolor=white, color=gray40];
-  0 -> 1 [label=\"f\", style=dashed, color=steelblue, fontcolor=steelblue];
-  0 -> 0 [style=solid];
-  1 -> 1 [style=solid, color=\"#b03a1e\", penwidth=2.6];
-}
-¦digraph part {
-  graph [label=\"decisions -g\", labelloc=t, rankdir=LR];
-  node [style=filled];
-  0 [shape=diamond, label=\"0 : 1\\nhe\\\\re\", penwidth=3, fillcolor=mistyrose, color=firebrick];
-  1 [shape=box, label=\"1 : 2\", fillcolor=white, color=gray40];
-  0 -> 1 [label=\"f\", style=dashed, color=steelblue, fontcolor=steelblue];
-  0 -> 0 [style=solid];
-  1 -> 1 [style=solid, color=\"#b03a1e\", penwidth=2.6];
-}
-§\
-Even's moves, and the vertex with no name is told from the others.¦pass-on¦DIAGRAM¦HERE¦digraph part {
-  graph [label=\"decisions +f +g\", labelloc=t, rankdir=LR];
-  node [style=filled];
-  0 [shape=diamond, label=\"0 : 1\", fillcolor=honeydew, color=darkgreen];
-  1 [shape=box, label=\"1 : 2\", penwidth=3, fillcolor=honeydew, color=darkgreen];
-  0 -> 1 [label=\"f\", style=solid, color=\"#3f7d2c\", penwidth=2.6];
-  1 -> 0 [label=\"g\", style=solid];
-  1 -> 1 [style=solid];
-}
-¦digraph part {
-  graph [label=\"decisions +f +g\", labelloc=t, rankdir=LR];
-  node [style=filled];
-  0 [shape=diamond, label=\"0 : 1\\nhe\\\\re\", fillcolor=honeydew, color=darkgreen];
-  1 [shape=box, label=\"1 : 2\", penwidth=3, fillcolor=honeydew, color=darkgreen];
-  0 -> 1 [label=\"f\", style=solid, color=\"#3f7d2c\", penwidth=2.6];
-  1 -> 0 [label=\"g\", style=solid];
-  1 -> 1 [style=solid];
-}
-§\
-No move is listed, and one vertex alone is drawn.¦pass-on¦DIAGRAM¦HERE¦digraph part {
-  graph [label=\"decisions -f\", labelloc=t, rankdir=LR];
-  node [style=filled];
-  0 [shape=diamond, label=\"0 : 1\", penwidth=3, fillcolor=white, color=gray40];
-  0 -> 0 [style=solid];
-}
-¦digraph part {
-  graph [label=\"decisions -f\", labelloc=t, rankdir=LR];
-  node [style=filled];
-  0 [shape=diamond, label=\"0 : 1\\nhe\\\\re\", penwidth=3, fillcolor=white, color=gray40];
-  0 -> 0 [style=solid];
-}
-§\
-Another width: no part that is drawn so.¦pass-on¦DIAGRAM¦HERE¦digraph part {
-  graph [label=\"decisions -f\", labelloc=t, rankdir=LR];
-  node [style=filled];
-  0 [shape=diamond, label=\"0 : 1\", penwidth=4, fillcolor=white, color=gray40];
-  0 -> 0 [style=solid];
-}
-¦digraph part {
-  graph [label=\"decisions -f\", labelloc=t, rankdir=LR];
-  node [style=filled];
-  0 [shape=diamond, label=\"0 : 1\", penwidth=4, fillcolor=white, color=gray40];
-  0 -> 0 [style=solid];
-}
-§\
-The edge is kept under these decisions.¦pass-on¦DIAGRAM¦HERE¦digraph part {
-  graph [label=\"decisions +f\", labelloc=t, rankdir=LR];
-  node [style=filled];
-  0 [shape=diamond, label=\"0 : 1\", penwidth=3, fillcolor=white, color=gray40];
-  0 -> 0 [style=solid];
-}
-¦digraph part {
-  graph [label=\"decisions +f\", labelloc=t, rankdir=LR];
-  node [style=filled];
-  0 [shape=diamond, label=\"0 : 1\", penwidth=3, fillcolor=white, color=gray40];
-  0 -> 0 [style=solid];
-}
-§\
-The decisions contradict each other.¦pass-on¦DIAGRAM¦HERE¦digraph part {
-  graph [label=\"decisions +f -f\", labelloc=t, rankdir=LR];
-  0 [
-}
-¦digraph part {
-  graph [label=\"decisions +f -f\", labelloc=t, rankdir=LR];
-  0 [
-}
-§\
-¦pass-on¦DIAGRAM¦HERE¦digraph part {\n}\n¦digraph part {\n}\n§\
-¦pass-on¦DIAGRAM¦HERE¦unsettled\n¦unsettled\n§\
-";
-
-/// Answers with the names of vertices beside their lines.
-const NAMED: &str = "\
-¦name¦DIAGRAM¦DOOR¦decisions -f
-full no
-settled yes
-0 2 0 hopeless unsure
-1 0 1 possible unsure
-¦decisions -f
-full no
-settled yes
-0 2 0 hopeless unsure \"door?open\"
-1 0 1 possible unsure
-§\
-¦name¦DIAGRAM¦DOOR¦12 possible unsure hopeless unsure
-changed 12
-¦12 possible unsure hopeless unsure \"+f or fewer\"
-changed 12
-§\
-¦name¦DIAGRAM¦DOOR¦exclude f 12
-hopeful 0 0 2 -f
-dual 12 0 1
-hopeful 1 0 2
-entries 0
-¦exclude f 12
-hopeful 0 0 2 -f \"door?open\"
-dual 12 0 1 \"+f or fewer\"
-hopeful 1 0 2
-entries 0
-§\
-These are numbers of vertices.¦name¦DIAGRAM¦DOOR¦hopeless 0
-possible 12
-sure 0
-unsure 12
-settled yes
-full no
-¦hopeless 0
-possible 12
-sure 0
-unsure 12
-settled yes
-full no
-§\
-¦name¦DIAGRAM¦DOOR¦hopeless 0 -f or fewer\nunsure 0\n¦hopeless 0 -f or fewer \"door?open\"\nunsure 0 \"door?open\"\n§\
-¦name¦DIAGRAM¦DOOR¦possible 12\nsure 12 +f +g\n¦possible 12 \"+f or fewer\"\nsure 12 +f +g \"+f or fewer\"\n§\
-¦name¦DIAGRAM¦DOOR¦lost 12 -f
-won 0
-lost 1 -f
-unsure 0
-¦lost 12 -f \"+f or fewer\"
-won 0 \"door?open\"
-lost 1 -f
-unsure 0 \"door?open\"
-§\
-¦name¦DIAGRAM¦DOOR¦spoil 12 0
-spoil 1 0
-spoil 1 1
-spoils 12
-plan 0 1
-plans depend
-plans 0
-¦spoil 12 0 \"+f or fewer\" \"door?open\"
-spoil 1 0 \"\" \"door?open\"
-spoil 1 1
-spoils 12
-plan 0 1 \"door?open\" \"\"
-plans depend
-plans 0
-§\
-These are about no vertex.¦name¦DIAGRAM¦DOOR¦product r f
-needs +f
-needs 12 or more
-repair -f +g
-repairs 0
-offer +f possible sure
-offers 12
-settled 12
-refused NotNewest 12
-13 0 0 possible sure
-4294967308 1 1 possible sure
-¦product r f
-needs +f
-needs 12 or more
-repair -f +g
-repairs 0
-offer +f possible sure
-offers 12
-settled 12
-refused NotNewest 12
-13 0 0 possible sure
-4294967308 1 1 possible sure
-§\
 ";
 
 /// Warnings of families.

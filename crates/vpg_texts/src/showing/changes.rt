@@ -7,7 +7,7 @@ ghost use Rattle.vpg_texts.specs.Changed.{changed_text, verdicts_by};
 
 use crate::changed;
 use std::alloc::{AllocError, Global};
-use vpg_game::GuardedGame;
+use vpg_game::{GuardedGame, VertexNames};
 use vpg_measure::{PageGames, Table};
 use vpg_sides::{Verdict, Which};
 use vpg_trail::Page;
@@ -46,20 +46,22 @@ pub fn verdicts_over(
 }
 
 /// Appends a line for each vertex with another verdict now than was seen of it, in file order: its identifier, the
-/// verdict seen, and its verdict now. Then their number. A vertex without a seen verdict counts as possible and unsure,
-/// as on the opening page.
+/// verdict seen, its verdict now, and its name. Then their number. A vertex without a seen verdict counts as possible
+/// and unsure, as on the opening page.
 pub fn put_changed(
     alloc: Global,
     game: &GuardedGame,
+    labels: &VertexNames,
     seen: &[Verdict],
     present: &[Verdict],
     out: &mut Vec<u8>,
 ) -> Result<(), AllocError>
     ensures changed { OnOk result
-        (out.new.items ≡ out.old.items ++ changed_text (vertex_ids game.now.vertices) seen.now present.now) }
+        (out.new.items ≡ out.old.items
+        ++ changed_text (vertex_ids game.now.vertices) labels.now.names seen.now present.now) }
     ensures unchanged { OnErr result (out.new.items ≡ out.old.items) }
 {
     let mut text = Vec::new(alloc);
-    changed::changed(game, seen, present, &mut text)?;
+    changed::changed(game, labels, seen, present, &mut text)?;
     out.extend_from_slice(&text)
 }

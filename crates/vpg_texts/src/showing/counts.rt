@@ -37,7 +37,7 @@ pub fn count_over(
     requires dual_within { All (λ n. n ≤ top_for Which.Dual (graph_of game.now)) page.now.dual }
     ensures counted { OnOk result
         ((text : List ℕ) ×
-        (IsCounted (scene_of game.now diagram.now) page.now.decisions page.now.hopeful page.now.dual mark.now text ×
+        (IsCounted (scene_of [] game.now diagram.now) page.now.decisions page.now.hopeful page.now.dual mark.now text ×
         (out.new.items ≡ out.old.items ++ text))) }
     ensures unchanged { OnErr result (out.new.items ≡ out.old.items) }
 {
@@ -76,7 +76,7 @@ pub fn count(
     requires dual_within { All (λ n. n ≤ top_for Which.Dual (graph_of game.now)) page.now.dual }
     ensures counted { OnOk result
         ((text : List ℕ) ×
-        (IsCounted (scene_of game.now diagram.now) page.now.decisions page.now.hopeful page.now.dual [] text ×
+        (IsCounted (scene_of [] game.now diagram.now) page.now.decisions page.now.hopeful page.now.dual [] text ×
         (out.new.items ≡ out.old.items ++ text))) }
     ensures unchanged { OnErr result (out.new.items ≡ out.old.items) }
 {

@@ -1,5 +1,5 @@
 //! The text about one feature: whether a page's decisions make it known.
-ghost use Rattle.std.specs.Prelude.{◌≡◌, ◌<◌, ◌++◌, ℕ, List, length, map, OnOk, OnErr};
+ghost use Rattle.std.specs.Prelude.{[], ◌≡◌, ◌<◌, ◌++◌, ℕ, List, length, map, OnOk, OnErr};
 ghost use Rattle.vpg_diagram.specs.FeatureDiagram.{feature_count};
 ghost use Rattle.vpg_game.specs.Game.{IsAtLimit};
 ghost use Rattle.vpg_partial.specs.Known.{literal_of};
@@ -52,7 +52,7 @@ pub fn put_known(
     requires feature { feature < length diagram.now.names }
     ensures known { OnOk result
         ((text : List ℕ) ×
-        (TellsFeature (scene_of game.now diagram.now) page.now.decisions feature text ×
+        (TellsFeature (scene_of [] game.now diagram.now) page.now.decisions feature text ×
         (out.new.items ≡ out.old.items ++ text))) }
     ensures unchanged { OnErr result (out.new.items ≡ out.old.items) }
 {

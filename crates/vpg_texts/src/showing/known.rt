@@ -1,5 +1,5 @@
 //! The text of the features that a page's decisions make known.
-ghost use Rattle.std.specs.Prelude.{◌≡◌, ◌++◌, ℕ, List, length, map, OnOk, OnErr};
+ghost use Rattle.std.specs.Prelude.{[], ◌≡◌, ◌++◌, ℕ, List, length, map, OnOk, OnErr};
 ghost use Rattle.vpg_diagram.specs.FeatureDiagram.{feature_count};
 ghost use Rattle.vpg_game.specs.Game.{IsAtLimit};
 ghost use Rattle.vpg_partial.specs.Known.{literal_of};
@@ -47,7 +47,7 @@ pub fn products(
     requires consistent { ¬ (HasConflictOf diagram.now.lines (map literal_of page.now.decisions)) }
     ensures products { OnOk result
         ((text : List ℕ) ×
-        (TellsKnown (scene_of game.now diagram.now) page.now.decisions text ×
+        (TellsKnown (scene_of [] game.now diagram.now) page.now.decisions text ×
         (out.new.items ≡ out.old.items ++ text))) }
     ensures unchanged { OnErr result (out.new.items ≡ out.old.items) }
 {

@@ -1,5 +1,5 @@
 //! The answers to lookups.
-ghost use Rattle.std.specs.Prelude.{◌≡◌, ◌≤◌, ◌++◌, length, map, All, IfOk, OnOk, OnErr, true};
+ghost use Rattle.std.specs.Prelude.{[], ◌≡◌, ◌≤◌, ◌++◌, length, map, All, IfOk, OnOk, OnErr, true};
 ghost use Rattle.std.specs.List.{list_all};
 ghost use Rattle.vpg_diagram.specs.FeatureDiagram.{feature_count};
 ghost use Rattle.vpg_game.specs.Game.{graph_of, vertex_ids};
@@ -22,7 +22,7 @@ use crate::showing::plans::{PlanFault, plan_over};
 use crate::sights;
 use std::alloc::{AllocError, Global};
 use vpg_diagram::Diagram;
-use vpg_game::GuardedGame;
+use vpg_game::{GuardedGame, VertexNames};
 use vpg_measure::PageGames;
 use vpg_script::{Assertion, Lookup, Tone, Vertex, done};
 use vpg_sides::Which;
@@ -34,6 +34,7 @@ fn vertices_over(
     games: &PageGames,
     page: &Page,
     game: &GuardedGame,
+    labels: &VertexNames,
     vertices: &[Vertex<'_>],
     out: &mut Vec<u8>,
 ) -> Result<(), AllocError>
@@ -42,11 +43,20 @@ fn vertices_over(
     requires dual { length page.now.dual ≡ length game.now.vertices }
     ensures named { OnOk result (out.new.items ≡ out.old.items
         ++ named_lines (top_of games.now.hopeful_levels) (top_of games.now.dual_levels)
-        (vertex_ids game.now.vertices) page.now.hopeful page.now.dual (map vertex_shown vertices.now)) }
+        (vertex_ids game.now.vertices) labels.now.names page.now.hopeful page.now.dual
+        (map vertex_shown vertices.now)) }
     ensures unchanged { OnErr result (out.new.items ≡ out.old.items) }
 {
     let mut text = Vec::new(alloc);
-    sights::named(games, game, &page.hopeful, &page.dual, vertices, &mut text)?;
+    sights::named(
+        games,
+        game,
+        labels,
+        &page.hopeful,
+        &page.dual,
+        vertices,
+        &mut text,
+    )?;
     out.extend_from_slice(&text)
 }
 
@@ -67,6 +77,7 @@ fn plan_answer(
     page: &Page,
     game: &GuardedGame,
     diagram: &Diagram,
+    labels: &VertexNames,
     out: &mut Vec<u8>,
 ) -> Result<Tone, AllocError>
     requires features { game.now.features ≡ feature_count diagram.now.lines }
@@ -78,11 +89,11 @@ fn plan_answer(
     requires dual_within { All (λ n. n ≤ top_for Which.Dual (graph_of game.now)) page.now.dual }
     ensures planned { IfOk result
         (λ tone. Gives
-        (IsPlanAnswer (scene_of game.now diagram.now) page.now.decisions page.now.hopeful page.now.dual) tone
-        out.old.items out.new.items) }
+        (IsPlanAnswer (scene_of labels.now.names game.now diagram.now) page.now.decisions page.now.hopeful
+        page.now.dual) tone out.old.items out.new.items) }
     ensures unchanged { OnErr result (out.new.items ≡ out.old.items) }
 {
-    match plan_over(alloc, games, page, game, diagram, out) {
+    match plan_over(alloc, games, page, game, diagram, labels, out) {
         Ok(()) => Ok(Tone::Done),
         Err(PlanFault::NotFull) => refused(b"refused NotFull\n", out),
         Err(PlanFault::NotSettled) => refused(b"refused NotSettled\n", out),
@@ -108,7 +119,7 @@ fn assertion_over(
     requires dual_within { All (λ n. n ≤ top_for Which.Dual (graph_of game.now)) page.now.dual }
     ensures asserted { IfOk result
         (λ tone. Gives
-        (IsAsserted (scene_of game.now diagram.now) (assertion_shown assertion.now) page.now.decisions
+        (IsAsserted (scene_of [] game.now diagram.now) (assertion_shown assertion.now) page.now.decisions
         page.now.hopeful page.now.dual) tone out.old.items out.new.items) }
     ensures unchanged { OnErr result (out.new.items ≡ out.old.items) }
 {
@@ -130,13 +141,14 @@ fn assertion_over(
 }
 
 /// Appends the answer to a lookup, and returns its tone. It is over the games that the page's decisions leave: no guard
-/// is looked at. The game has the vertices that the lookup names.
+/// is looked at. The game has the vertices that the lookup names. Lines about vertices end with the names of these.
 pub fn look_over(
     alloc: Global,
     games: &PageGames,
     page: &Page,
     game: &GuardedGame,
     diagram: &Diagram,
+    labels: &VertexNames,
     lookup: &Lookup<'_>,
     out: &mut Vec<u8>,
 ) -> Result<Tone, AllocError>
@@ -152,18 +164,21 @@ pub fn look_over(
     requires dual_within { All (λ n. n ≤ top_for Which.Dual (graph_of game.now)) page.now.dual }
     ensures seen { IfOk result
         (λ tone. Gives
-        (IsSeen (scene_of game.now diagram.now) (lookup_shown lookup.now) page.now.entries page.now.decisions
+        (IsSeen (scene_of labels.now.names game.now diagram.now)
+        (lookup_shown lookup.now) page.now.entries page.now.decisions
         page.now.hopeful page.now.dual) tone out.old.items out.new.items) }
     ensures unchanged { OnErr result (out.new.items ≡ out.old.items) }
 {
     match lookup {
-        Lookup::Show => done(show_over(alloc, games, page, game, diagram, out)),
-        Lookup::Vertices(vertices) => done(vertices_over(alloc, games, page, game, vertices, out)),
-        Lookup::Trail => done(trail(alloc, page, game, diagram, out)),
+        Lookup::Show => done(show_over(alloc, games, page, game, diagram, labels, out)),
+        Lookup::Vertices(vertices) => {
+            done(vertices_over(alloc, games, page, game, labels, vertices, out))
+        }
+        Lookup::Trail => done(trail(alloc, page, game, diagram, labels, out)),
         Lookup::Products => done(products_over(alloc, games, diagram, out)),
-        Lookup::Plan => plan_answer(alloc, games, page, game, diagram, out),
+        Lookup::Plan => plan_answer(alloc, games, page, game, diagram, labels, out),
         Lookup::Count => done(count_over(alloc, games, page, game, diagram, b"", out)),
-        Lookup::Draw => done(draw_over(alloc, games, page, game, diagram, out)),
+        Lookup::Draw => done(draw_over(alloc, games, page, game, diagram, labels, out)),
         Lookup::Assert(assertion) => {
             assertion_over(alloc, games, page, game, diagram, assertion, out)
         }

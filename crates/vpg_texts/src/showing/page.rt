@@ -15,7 +15,7 @@ use crate::showing::games_of;
 use crate::text;
 use std::alloc::{AllocError, Global};
 use vpg_diagram::Diagram;
-use vpg_game::GuardedGame;
+use vpg_game::{GuardedGame, VertexNames};
 use vpg_measure::{PageGames, Table, is_progress};
 use vpg_partial::Decision;
 use vpg_sides::Which;
@@ -47,6 +47,7 @@ fn shown(
     games: &PageGames,
     game: &GuardedGame,
     diagram: &Diagram,
+    labels: &VertexNames,
     decisions: &[Decision],
     hopeful: &Table,
     dual: &Table,
@@ -58,8 +59,8 @@ fn shown(
     requires hopeful_within { All (λ n. n ≤ top_for Which.Hopeful (graph_of game.now)) hopeful.now }
     requires dual_within { All (λ n. n ≤ top_for Which.Dual (graph_of game.now)) dual.now }
     ensures { IfOk result (λ text.
-        TellsUnder (scene_of game.now diagram.now) games.now.known hopeful.now dual.now
-        (shown_lines (scene_of game.now diagram.now) decisions.now hopeful.now dual.now) text.items) }
+        TellsUnder (graph_of game.now) games.now.known hopeful.now dual.now
+        (shown_lines (scene_of labels.now.names game.now diagram.now) decisions.now hopeful.now dual.now) text.items) }
 {
     let full = games.known().is_full();
     let settled = is_settled(games, hopeful, dual);
@@ -67,6 +68,7 @@ fn shown(
     text::page(
         diagram.names(),
         game,
+        labels,
         games,
         decisions,
         full,
@@ -85,6 +87,7 @@ pub fn show_over(
     page: &Page,
     game: &GuardedGame,
     diagram: &Diagram,
+    labels: &VertexNames,
     out: &mut Vec<u8>,
 ) -> Result<(), AllocError>
     requires games { ArePageGames game.now diagram.now (map literal_of page.now.decisions) games.now }
@@ -95,7 +98,8 @@ pub fn show_over(
     requires dual_within { All (λ n. n ≤ top_for Which.Dual (graph_of game.now)) page.now.dual }
     ensures shown { OnOk result
         ((text : List ℕ) ×
-        (IsShown (scene_of game.now diagram.now) page.now.decisions page.now.hopeful page.now.dual text ×
+        (IsShown (scene_of labels.now.names game.now diagram.now) page.now.decisions page.now.hopeful page.now.dual
+        text ×
         (out.new.items ≡ out.old.items ++ text))) }
     ensures unchanged { OnErr result (out.new.items ≡ out.old.items) }
 {
@@ -104,6 +108,7 @@ pub fn show_over(
         games,
         game,
         diagram,
+        labels,
         page.decisions.as_slice(),
         &page.hopeful,
         &page.dual,
@@ -112,13 +117,14 @@ pub fn show_over(
 }
 
 /// Appends the text of a page: its decisions in their order, whether each feature is known, and whether both tables are
-/// progress tables. Then each vertex with its two measures and its verdict. The page's decisions have no conflict, and
-/// its tables have one number up to the top for each vertex.
+/// progress tables. Then each vertex with its two measures, its verdict and its name. The page's decisions have no
+/// conflict, and its tables have one number up to the top for each vertex.
 pub fn show(
     alloc: Global,
     page: &Page,
     game: &GuardedGame,
     diagram: &Diagram,
+    labels: &VertexNames,
     out: &mut Vec<u8>,
 ) -> Result<(), AllocError>
     requires not_at_limit { ¬ IsAtLimit game.now }
@@ -131,10 +137,11 @@ pub fn show(
     requires dual_within { All (λ n. n ≤ top_for Which.Dual (graph_of game.now)) page.now.dual }
     ensures shown { OnOk result
         ((text : List ℕ) ×
-        (IsShown (scene_of game.now diagram.now) page.now.decisions page.now.hopeful page.now.dual text ×
+        (IsShown (scene_of labels.now.names game.now diagram.now) page.now.decisions page.now.hopeful page.now.dual
+        text ×
         (out.new.items ≡ out.old.items ++ text))) }
     ensures unchanged { OnErr result (out.new.items ≡ out.old.items) }
 {
     let games = games_of(alloc, game, diagram, page.decisions.as_slice())?;
-    show_over(alloc, &games, page, game, diagram, out)
+    show_over(alloc, &games, page, game, diagram, labels, out)
 }

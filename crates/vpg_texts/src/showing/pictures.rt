@@ -16,13 +16,14 @@ use vpg_measure::PageGames;
 use vpg_trail::Page;
 
 /// Appends the picture of a page's game, over the games that its decisions leave: its decisions, the verdicts by its
-/// tables, and each guard by what is known. A vertex has its identifier and no name.
+/// tables, the names of the vertices, and each guard by what is known.
 pub fn draw_over(
     alloc: Global,
     games: &PageGames,
     page: &Page,
     game: &GuardedGame,
     diagram: &Diagram,
+    labels: &VertexNames,
     out: &mut Vec<u8>,
 ) -> Result<(), AllocError>
     requires features { game.now.features ≡ feature_count diagram.now.lines }
@@ -32,11 +33,11 @@ pub fn draw_over(
     requires dual { length page.now.dual ≡ length game.now.vertices }
     ensures drawn { OnOk result
         ((text : List ℕ) ×
-        (IsDrawn (scene_of game.now diagram.now) page.now.decisions page.now.hopeful page.now.dual text ×
+        (IsDrawn (scene_of labels.now.names game.now diagram.now) page.now.decisions page.now.hopeful page.now.dual
+        text ×
         (out.new.items ≡ out.old.items ++ text))) }
     ensures unchanged { OnErr result (out.new.items ≡ out.old.items) }
 {
-    let names = VertexNames::none(alloc);
     let verdicts = verdicts_over(alloc, games, page, game)?;
     draw_game(
         alloc,
@@ -44,7 +45,7 @@ pub fn draw_over(
         diagram.names(),
         games.known(),
         page.decisions.as_slice(),
-        &names,
+        labels,
         &verdicts,
         out,
     )

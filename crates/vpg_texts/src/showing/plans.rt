@@ -18,7 +18,7 @@ use crate::text;
 use std::alloc::{AllocError, Global};
 use thiserror::Error;
 use vpg_diagram::Diagram;
-use vpg_game::GuardedGame;
+use vpg_game::{GuardedGame, VertexNames};
 use vpg_measure::{PageGames, StrategyFault, Table, strategy};
 use vpg_sides::Which;
 use vpg_trail::Page;
@@ -83,6 +83,7 @@ pub fn plan_over(
     page: &Page,
     game: &GuardedGame,
     diagram: &Diagram,
+    labels: &VertexNames,
     out: &mut Vec<u8>,
 ) -> Result<(), PlanFault>
     requires features { game.now.features ≡ feature_count diagram.now.lines }
@@ -94,10 +95,12 @@ pub fn plan_over(
     requires dual_within { All (λ n. n ≤ top_for Which.Dual (graph_of game.now)) page.now.dual }
     ensures planned { OnOk result
         ((text : List ℕ) ×
-        (IsPlanned (scene_of game.now diagram.now) page.now.decisions page.now.hopeful page.now.dual text ×
+        (IsPlanned (scene_of labels.now.names game.now diagram.now) page.now.decisions page.now.hopeful page.now.dual
+        text ×
         (out.new.items ≡ out.old.items ++ text))) }
     ensures refused { IfErr result
-        (IsPlanFault (scene_of game.now diagram.now) page.now.decisions page.now.hopeful page.now.dual) }
+        (IsPlanFault (scene_of labels.now.names game.now diagram.now) page.now.decisions page.now.hopeful
+        page.now.dual) }
 
     // Out of memory takes the place of neither.
     ensures not_full { (result ≡ Err PlanFault.NotFull) ↔
@@ -107,7 +110,8 @@ pub fn plan_over(
         ¬ (AreSettledTables games.now page.now.hopeful page.now.dual)) }
 
     // Even wins by the choices, in the one product that remains.
-    ensures wins { OnOk result (PlanWins (scene_of game.now diagram.now) page.now.decisions page.now.hopeful) }
+    ensures wins { OnOk result
+        (PlanWins (scene_of labels.now.names game.now diagram.now) page.now.decisions page.now.hopeful) }
     ensures unchanged { OnErr result (out.new.items ≡ out.old.items) }
 {
     if !games.known().is_full() {
@@ -117,7 +121,7 @@ pub fn plan_over(
         return Err(PlanFault::NotSettled);
     };
     let mut text = Vec::new(alloc);
-    text::plan(game, &chosen, &mut text)?;
+    text::plan(game, labels, &chosen, &mut text)?;
     out.extend_from_slice(&text)?;
     Ok(())
 }
@@ -133,6 +137,7 @@ pub fn plan(
     page: &Page,
     game: &GuardedGame,
     diagram: &Diagram,
+    labels: &VertexNames,
     out: &mut Vec<u8>,
 ) -> Result<(), PlanFault>
     requires not_at_limit { ¬ IsAtLimit game.now }
@@ -145,15 +150,18 @@ pub fn plan(
     requires dual_within { All (λ n. n ≤ top_for Which.Dual (graph_of game.now)) page.now.dual }
     ensures planned { OnOk result
         ((text : List ℕ) ×
-        (IsPlanned (scene_of game.now diagram.now) page.now.decisions page.now.hopeful page.now.dual text ×
+        (IsPlanned (scene_of labels.now.names game.now diagram.now) page.now.decisions page.now.hopeful page.now.dual
+        text ×
         (out.new.items ≡ out.old.items ++ text))) }
     ensures refused { IfErr result
-        (IsPlanFault (scene_of game.now diagram.now) page.now.decisions page.now.hopeful page.now.dual) }
+        (IsPlanFault (scene_of labels.now.names game.now diagram.now) page.now.decisions page.now.hopeful
+        page.now.dual) }
 
     // Even wins by the choices, in the one product that remains.
-    ensures wins { OnOk result (PlanWins (scene_of game.now diagram.now) page.now.decisions page.now.hopeful) }
+    ensures wins { OnOk result
+        (PlanWins (scene_of labels.now.names game.now diagram.now) page.now.decisions page.now.hopeful) }
     ensures unchanged { OnErr result (out.new.items ≡ out.old.items) }
 {
     let games = games_of(alloc, game, diagram, page.decisions.as_slice())?;
-    plan_over(alloc, &games, page, game, diagram, out)
+    plan_over(alloc, &games, page, game, diagram, labels, out)
 }

@@ -1,3 +1,5 @@
+use Rattle.vpg_texts.proofs.Shown.{on_ok}
+use Rattle.vpg_answers.proofs.Naming.{same_offers}
 use Rattle.vpg_answers.proofs.answering.of_vertex.Goals as goal
 
 pub returns-in-Repair : goal.returns-in-Repair
@@ -19,7 +21,11 @@ pub returns-in-Needs : goal.returns-in-Needs
 returns-in-Needs c = rw c.in-Needs.is c.forced.ensures
 
 pub returns-in-Offer : goal.returns-in-Offer
-returns-in-Offer c = rw c.in-Offer.is c.offers.ensures
+returns-in-Offer c =
+    let order = c.args.order.now in
+    rw c.in-Offer.is
+    (on_ok c.offers.result _ _
+    (λ a. (a.0, (same_offers c.args.labels.now.names order.game order.diagram c.args.limits c.args.vertex order.decisions a.0 a.1.0, a.1.1))) c.offers.ensures)
 
 pub returns-in-Why : goal.returns-in-Why
 returns-in-Why c = rw c.in-Why.is c.vertex.ensures

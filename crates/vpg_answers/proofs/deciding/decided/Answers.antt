@@ -8,7 +8,7 @@ returns-in-Won c =
     let order = c.args.order.now in
     let found = c.in_ok-found.ensures in
     on_ok c.fact.result _ _
-    (λ appended. told_won order c.args.limits c.args.vertex order.decisions refl c.names-names.result.now c.names-names.ensures.names c.identifier-identifier.result c.identifier-identifier.ensures
+    (λ appended. told_won c.args.labels.now.names order c.args.limits c.args.vertex order.decisions refl c.names-names.result.now c.names-names.ensures.names c.identifier-identifier.result c.identifier-identifier.ensures c.name-label.result.now c.name-label.ensures
     c.args.out.now.items c.fact.new.out.items c.in_ok-found.found c.in-Won.is found.decided appended) c.fact.ensures
 
 pub returns-in-Lost : goal.returns-in-Lost
@@ -16,7 +16,7 @@ returns-in-Lost c =
     let order = c.args.order.now in
     let found = c.in_ok-found.ensures in
     on_ok c.fact-in-Lost.result _ _
-    (λ appended. told_lost order c.args.limits c.args.vertex order.decisions refl c.names-names.result.now c.names-names.ensures.names c.identifier-identifier.result c.identifier-identifier.ensures
+    (λ appended. told_lost c.args.labels.now.names order c.args.limits c.args.vertex order.decisions refl c.names-names.result.now c.names-names.ensures.names c.identifier-identifier.result c.identifier-identifier.ensures c.name-label.result.now c.name-label.ensures
     c.args.out.now.items c.fact-in-Lost.new.out.items c.in_ok-found.found c.in-Lost.is found.decided appended) c.fact-in-Lost.ensures
 
 pub returns-in-Mixed : goal.returns-in-Mixed
@@ -24,7 +24,7 @@ returns-in-Mixed c =
     let order = c.args.order.now in
     let found = c.in_ok-found.ensures in
     on_ok c.mixed.result _ _
-    (λ appended. told_mixed order c.args.limits c.args.vertex order.decisions refl c.names-names.result.now c.names-names.ensures.names c.identifier-identifier.result c.identifier-identifier.ensures
+    (λ appended. told_mixed c.args.labels.now.names order c.args.limits c.args.vertex order.decisions refl c.names-names.result.now c.names-names.ensures.names c.identifier-identifier.result c.identifier-identifier.ensures c.name-label.result.now c.name-label.ensures
     c.args.out.now.items c.mixed.new.out.items c.in_ok-found.found c.in-Mixed.won c.in-Mixed.lost c.in-Mixed.is found.decided found.settled appended) c.mixed.ensures
 
 pub returns-in-Empty : goal.returns-in-Empty
@@ -32,7 +32,7 @@ returns-in-Empty c =
     let order = c.args.order.now in
     let found = c.in_ok-found.ensures in
     on_ok c.empty.result _ _
-    (λ appended. told_empty order c.args.limits c.args.vertex order.decisions refl c.names-names.result.now c.names-names.ensures.names c.identifier-identifier.result c.identifier-identifier.ensures
+    (λ appended. told_empty c.args.labels.now.names order c.args.limits c.args.vertex order.decisions refl c.names-names.result.now c.names-names.ensures.names c.identifier-identifier.result c.identifier-identifier.ensures c.name-label.result.now c.name-label.ensures
     c.args.out.now.items c.empty.new.out.items c.in_ok-found.found c.in-Empty.is found.decided appended) c.empty.ensures
 
 pub returns-in-Unsettled : goal.returns-in-Unsettled
@@ -40,5 +40,5 @@ returns-in-Unsettled c =
     let order = c.args.order.now in
     let found = c.in_ok-found.ensures in
     on_ok c.unsettled.result _ _
-    (λ appended. told_open order c.args.limits c.args.vertex order.decisions refl c.names-names.result.now c.names-names.ensures.names c.identifier-identifier.result c.identifier-identifier.ensures
+    (λ appended. told_open c.args.labels.now.names order c.args.limits c.args.vertex order.decisions refl c.names-names.result.now c.names-names.ensures.names c.identifier-identifier.result c.identifier-identifier.ensures c.name-label.result.now c.name-label.ensures
     c.args.out.now.items c.unsettled.new.out.items c.in_ok-found.found c.in-Unsettled.is found.settled appended) c.unsettled.ensures

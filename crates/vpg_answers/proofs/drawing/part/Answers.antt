@@ -7,7 +7,7 @@ use Rattle.vpg_answers.proofs.drawing.part.Goals as goal
 pub returns-then-has_top-2 : goal.returns-then-has_top-2
 returns-then-has_top-2 c =
     on_ok c.winning-then-has_top-2.result _ _
-    (tells_sure c.args.order.now c.args.limits c.args.vertex c.args.out.now.items c.winning-then-has_top-2.new.out.items
+    (tells_sure c.args.labels.now.names c.args.order.now c.args.limits c.args.vertex c.args.out.now.items c.winning-then-has_top-2.new.out.items
     (λ high. clash (sym c.if-has_top.false ∙ c.has_top.ensures.1 high)) (c.has_top-else-has_top.ensures.0 c.if-has_top-2.true)) c.winning-then-has_top-2.ensures
   where
     clash : false ≡ true → ⊥
@@ -16,7 +16,7 @@ returns-then-has_top-2 c =
 pub returns-then-has_top : goal.returns-then-has_top
 returns-then-has_top c =
     on_ok c.winning.result _ _
-    (tells_hopeless c.args.order.now c.args.limits c.args.vertex c.args.out.now.items c.winning.new.out.items
+    (tells_hopeless c.args.labels.now.names c.args.order.now c.args.limits c.args.vertex c.args.out.now.items c.winning.new.out.items
     (c.has_top.ensures.0 c.if-has_top.true)) c.winning.ensures
 
 pub returns-else-has_top-2 : goal.returns-else-has_top-2

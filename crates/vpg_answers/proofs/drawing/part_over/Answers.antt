@@ -22,9 +22,9 @@ draw_part-requires-clause-marks c =
 
 pub returns : goal.returns
 returns c =
-    draws_part c.args.game.now c.args.diagram.now c.args.decisions.now c.args.games.now c.requires.games c.requires.features c.args.hopeful.now c.args.dual.now c.args.vertex c.args.mover c.args.moves.now
-    c.draw_part.result c.args.out.now.items c.draw_part.new.out.items c.names.result.now c.known-2.result.now c.none-names.result.names c.deref.result.now c.deref-2.result.now
-    c.names.ensures.names c.known-2.ensures c.none-names.ensures.names (c.deref.ensures.value ∙ c.in_ok-verdicts.ensures)
+    draws_part c.args.labels.now.names c.args.game.now c.args.diagram.now c.args.decisions.now c.args.games.now c.requires.games c.requires.features c.args.hopeful.now c.args.dual.now c.args.vertex c.args.mover c.args.moves.now
+    c.draw_part.result c.args.out.now.items c.draw_part.new.out.items c.names.result.now c.known-2.result.now c.deref.result.now c.deref-2.result.now
+    c.names.ensures.names c.known-2.ensures (c.deref.ensures.value ∙ c.in_ok-verdicts.ensures)
     (subst (λ (bs : List Bool). AreReachable (graph_of c.args.game.now) c.args.games.now.known c.args.mover c.args.moves.now c.args.vertex bs) (sym c.deref-2.ensures.value)
     (subst (λ (k : List Tri). AreReachable (graph_of c.args.game.now) k c.args.mover c.args.moves.now c.args.vertex c.in_ok-marks.marks.items) c.known.ensures c.in_ok-marks.ensures))
     c.draw_part.ensures.drawn

@@ -1,3 +1,4 @@
+use Rattle.std.proofs.Common.{[]}
 use Rattle.vpg_texts.proofs.Shown.{on_ok}
 use Rattle.vpg_why.specs.Explained.{choices}
 use Rattle.vpg_why.specs.Suffices.{IsSettled}
@@ -11,7 +12,7 @@ returns-in-Product c =
     let found = found_product order c.args.aim c.in_ok-found.field-0 c.in-Product.found c.deref.result.now c.in-Product.is c.deref.ensures.value c.in_ok-found.ensures.found in
     let settled = first_settled c.in_ok-found.field-0 c.in-Product.found (IsSettled order.game order.diagram c.args.limits (asks.Lost c.args.aim) (choices order.decisions)) c.in-Product.is c.in_ok-found.ensures.settled in
     on_ok c.product.result _ _
-    (λ appended. told_product order c.names-names.result.now c.names-names.ensures.names c.args.limits c.args.aim c.args.out.now.items c.product.new.out.items c.deref.result.now
+    (λ appended. told_product [] order c.names-names.result.now c.names-names.ensures.names c.args.limits c.args.aim c.args.out.now.items c.product.new.out.items c.deref.result.now
     c.in-Product.found.first found settled appended) c.product.ensures
 
 pub returns-in-Nothing : goal.returns-in-Nothing
@@ -19,11 +20,11 @@ returns-in-Nothing c =
     let order = c.args.order.now in
     let none = found_nothing order c.args.aim c.in_ok-found.field-0 c.in-Nothing.is c.in_ok-found.ensures.found in
     on_ok c.none.result _ _
-    (λ appended. told_nothing order c.names-names.result.now c.names-names.ensures.names c.args.limits c.args.aim c.args.out.now.items c.none.new.out.items none appended) c.none.ensures
+    (λ appended. told_nothing [] order c.names-names.result.now c.names-names.ensures.names c.args.limits c.args.aim c.args.out.now.items c.none.new.out.items none appended) c.none.ensures
 
 pub returns-in-Unsettled : goal.returns-in-Unsettled
 returns-in-Unsettled c =
     let order = c.args.order.now in
     let short = search_short c.in_ok-found.field-0 (IsSettled order.game order.diagram c.args.limits (asks.Lost c.args.aim) (choices order.decisions)) c.in-Unsettled.is c.in_ok-found.ensures.settled in
     on_ok c.unsettled.result _ _
-    (λ appended. told_unsettled order c.names-names.result.now c.names-names.ensures.names c.args.limits c.args.aim c.args.out.now.items c.unsettled.new.out.items short appended) c.unsettled.ensures
+    (λ appended. told_unsettled [] order c.names-names.result.now c.names-names.ensures.names c.args.limits c.args.aim c.args.out.now.items c.unsettled.new.out.items short appended) c.unsettled.ensures

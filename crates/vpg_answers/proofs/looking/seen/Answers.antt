@@ -1,4 +1,4 @@
-use Rattle.std.proofs.Common.{codes, refl, sym, ◌∙◌}
+use Rattle.std.proofs.Common.{[], codes, refl, sym, ◌∙◌}
 use Rattle.std.specs.Arc.{arc_value}
 use Rattle.vpg_script.specs.View.{lookup_shown}
 use Rattle.vpg_script.proofs.Given.{if_ok}
@@ -12,13 +12,13 @@ pub returns-then-not-asserts_verdicts : goal.returns-then-not-asserts_verdicts
 returns-then-not-asserts_verdicts c =
     let page = c.args.page.now in
     let lookup = lookup_shown c.args.lookup.now in
-    let scene = scene_of (arc_value c.args.game.now) (arc_value c.args.diagram.now) in
+    let scene = scene_of c.args.labels.now.names (arc_value c.args.game.now) (arc_value c.args.diagram.now) in
     if_ok c.look_over.result _ _
     (λ tone gives. (
       gives.0,
       (
         looks_other scene c.args.limits lookup page.entries page.decisions page.hopeful page.dual (sym c.asserts_verdicts.ensures ∙ c.if-not-asserts_verdicts.true) gives.0
-            (seen_here scene c.args.limits lookup page.entries page.decisions page.hopeful page.dual (arc_value c.args.game.now) _ (arc_value c.args.diagram.now) _
+            (seen_here scene c.args.limits lookup page.entries page.decisions page.hopeful page.dual c.args.labels.now.names (arc_value c.args.game.now) _ (arc_value c.args.diagram.now) _
             c.deref-then-not-asserts_verdicts.ensures c.deref-then-not-asserts_verdicts-2.ensures refl gives.0 gives.1.0),
         gives.1.1,
       ),
@@ -28,13 +28,13 @@ pub returns-in-Nothing : goal.returns-in-Nothing
 returns-in-Nothing c =
     let page = c.args.page.now in
     let lookup = lookup_shown c.args.lookup.now in
-    let scene = scene_of (arc_value c.args.game.now) (arc_value c.args.diagram.now) in
+    let scene = scene_of c.args.labels.now.names (arc_value c.args.game.now) (arc_value c.args.diagram.now) in
     if_ok c.failing.result _ _
     (λ tone given. (
       failing (codes "empty"),
       (
         looks_nothing scene c.args.limits lookup page.entries page.decisions page.hopeful page.dual (sym c.asserts_verdicts.ensures ∙ c.if-not-asserts_verdicts.false)
-            (left_is scene c.args.limits page.decisions _ lefts.Nothing c.in_ok-left.left c.as_slice.ensures c.in-Nothing.is c.in_ok-left.ensures),
+            (left_is (scene_of [] (arc_value c.args.game.now) (arc_value c.args.diagram.now)) c.args.limits page.decisions _ lefts.Nothing c.in_ok-left.left c.as_slice.ensures c.in-Nothing.is c.in_ok-left.ensures),
         given,
       ),
     )) c.failing.ensures
@@ -43,13 +43,13 @@ pub returns-in-Unsettled : goal.returns-in-Unsettled
 returns-in-Unsettled c =
     let page = c.args.page.now in
     let lookup = lookup_shown c.args.lookup.now in
-    let scene = scene_of (arc_value c.args.game.now) (arc_value c.args.diagram.now) in
+    let scene = scene_of c.args.labels.now.names (arc_value c.args.game.now) (arc_value c.args.diagram.now) in
     if_ok c.failing-in-Unsettled.result _ _
     (λ tone given. (
       failing (codes "unsettled"),
       (
         looks_open scene c.args.limits lookup page.entries page.decisions page.hopeful page.dual (sym c.asserts_verdicts.ensures ∙ c.if-not-asserts_verdicts.false)
-            (left_is scene c.args.limits page.decisions _ lefts.Unsettled c.in_ok-left.left c.as_slice.ensures c.in-Unsettled.is c.in_ok-left.ensures),
+            (left_is (scene_of [] (arc_value c.args.game.now) (arc_value c.args.diagram.now)) c.args.limits page.decisions _ lefts.Unsettled c.in_ok-left.left c.as_slice.ensures c.in-Unsettled.is c.in_ok-left.ensures),
         given,
       ),
     )) c.failing-in-Unsettled.ensures

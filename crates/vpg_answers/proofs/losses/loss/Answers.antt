@@ -17,7 +17,7 @@ returns-in-Because c =
     let explains = because_explains order c.args.aim c.in_ok-found.field-0 c.in-Because.found c.deref.result.now c.in-Because.is c.deref.ensures.value c.in_ok-found.ensures.why in
     let settled = because_settled c.in_ok-found.field-0 c.in-Because.found (EachIsSettled order.game order.diagram c.args.limits (asks.Lost c.args.aim) (choices order.decisions)) c.in-Because.is c.in_ok-found.ensures.exact in
     on_ok c.tell.result _ _
-    (λ appended. told_lost order c.names-names.result.now c.names-names.ensures.names c.args.limits c.args.aim c.args.out.now.items c.tell.new.out.items
+    (λ appended. told_lost c.args.labels.now.names order c.names-names.result.now c.names-names.ensures.names c.args.limits c.args.aim c.args.out.now.items c.tell.new.out.items
     c.deref.result.now c.in-Because.found.exact settled explains appended) c.tell.ensures
 
 pub returns-in-Unless : goal.returns-in-Unless
@@ -26,7 +26,7 @@ returns-in-Unless c =
     let found = unless_product order c.args.aim c.in_ok-found.field-0 c.in-Unless.example c.deref-in-Unless.result.now c.in-Unless.is c.deref-in-Unless.ensures.value c.in_ok-found.ensures.why in
     let settled = unless_settled c.in_ok-found.field-0 c.in-Unless.example (IsSettled order.game order.diagram c.args.limits (asks.Lost c.args.aim) (choices order.decisions)) c.in-Unless.is c.in_ok-found.ensures.settled in
     on_ok c.product.result _ _
-    (λ appended. told_unless order c.names-names.result.now c.names-names.ensures.names c.args.limits c.args.aim c.args.out.now.items c.product.new.out.items c.deref-in-Unless.result.now
+    (λ appended. told_unless c.args.labels.now.names order c.names-names.result.now c.names-names.ensures.names c.args.limits c.args.aim c.args.out.now.items c.product.new.out.items c.deref-in-Unless.result.now
     c.in-Unless.example.first found settled appended) c.product.ensures
 
 pub returns-in-Unsettled : goal.returns-in-Unsettled
@@ -34,4 +34,4 @@ returns-in-Unsettled c =
     let order = c.args.order.now in
     let short = lost_short c.in_ok-found.field-0 (IsSettled order.game order.diagram c.args.limits (asks.Lost c.args.aim) (choices order.decisions)) c.in-Unsettled.is c.in_ok-found.ensures.settled in
     on_ok c.unsettled.result _ _
-    (λ appended. told_lost_unsettled order c.names-names.result.now c.names-names.ensures.names c.args.limits c.args.aim c.args.out.now.items c.unsettled.new.out.items short appended) c.unsettled.ensures
+    (λ appended. told_lost_unsettled c.args.labels.now.names order c.names-names.result.now c.names-names.ensures.names c.args.limits c.args.aim c.args.out.now.items c.unsettled.new.out.items short appended) c.unsettled.ensures

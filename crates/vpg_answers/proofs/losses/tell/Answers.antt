@@ -4,6 +4,3 @@ use Rattle.vpg_answers.proofs.losses.tell.Goals as goal
 
 pub reason-requires : goal.reason-requires
 reason-requires c = grind (arith, common_steps)
-
-pub returns : goal.returns
-returns c = grind (arith, common_steps)

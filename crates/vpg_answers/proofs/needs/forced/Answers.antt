@@ -1,3 +1,4 @@
+use Rattle.std.proofs.Common.{[]}
 use Rattle.vpg_texts.proofs.Shown.{on_ok}
 use Rattle.vpg_why.specs.Explained.{choices}
 use Rattle.vpg_why.specs.Suffices.{IsSettled}
@@ -18,7 +19,7 @@ returns-in-These c =
     let found = found_these order c.args.aim c.in_ok-found.field-0 c.in-These.found c.in-These.is c.in_ok-found.ensures.needs in
     let settled = needs_settled order c.in_ok-found.field-0 c.in-These.found (IsSettled order.game order.diagram c.args.limits (asks.Lost c.args.aim) (choices order.decisions)) c.in-These.is c.in_ok-found.ensures.settled in
     on_ok c.tell.result _ _
-    (λ appended. told_forced order c.names-names.result.now c.names-names.ensures.names c.args.limits c.args.aim c.args.out.now.items c.tell.new.out.items
+    (λ appended. told_forced [] order c.names-names.result.now c.names-names.ensures.names c.args.limits c.args.aim c.args.out.now.items c.tell.new.out.items
     c.in-These.found c.deref.result.now c.word_of.result.now c.deref.ensures.value c.word_of.ensures found settled appended) c.tell.ensures
 
 pub returns-in-Nothing : goal.returns-in-Nothing
@@ -26,11 +27,11 @@ returns-in-Nothing c =
     let order = c.args.order.now in
     let none = found_none order c.args.aim c.in_ok-found.field-0 c.in-Nothing.is c.in_ok-found.ensures.needs in
     on_ok c.none.result _ _
-    (λ appended. told_none_forced order c.names-names.result.now c.names-names.ensures.names c.args.limits c.args.aim c.args.out.now.items c.none.new.out.items none appended) c.none.ensures
+    (λ appended. told_none_forced [] order c.names-names.result.now c.names-names.ensures.names c.args.limits c.args.aim c.args.out.now.items c.none.new.out.items none appended) c.none.ensures
 
 pub returns-in-Unsettled : goal.returns-in-Unsettled
 returns-in-Unsettled c =
     let order = c.args.order.now in
     let short = needs_short order c.in_ok-found.field-0 (IsSettled order.game order.diagram c.args.limits (asks.Lost c.args.aim) (choices order.decisions)) c.in-Unsettled.is c.in_ok-found.ensures.settled in
     on_ok c.unsettled.result _ _
-    (λ appended. told_forced_unsettled order c.names-names.result.now c.names-names.ensures.names c.args.limits c.args.aim c.args.out.now.items c.unsettled.new.out.items short appended) c.unsettled.ensures
+    (λ appended. told_forced_unsettled [] order c.names-names.result.now c.names-names.ensures.names c.args.limits c.args.aim c.args.out.now.items c.unsettled.new.out.items short appended) c.unsettled.ensures

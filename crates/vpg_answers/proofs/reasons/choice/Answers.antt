@@ -1,5 +1,5 @@
 use Rattle.std.proofs.lemmas.Grind.{common_steps}
-use Rattle.std.proofs.Common.{arith, inl, inr, refl}
+use Rattle.std.proofs.Common.{[], arith, inl, inr, refl}
 use Rattle.vpg_script.proofs.Given.{done_gives, if_ok}
 use Rattle.vpg_texts.proofs.Shown.{on_ok}
 use Rattle.vpg_texts.specs.Scene.{scene_of}
@@ -20,9 +20,9 @@ returns-in-Some c =
     let order = c.args.order.now in
     let explains = found_explains order (asks.Conflict c.args.feature c.args.value) c.in_ok-found.field-0 c.in-Some.found c.deref.result.now c.in-Some.is c.deref.ensures.value c.in_ok-found.ensures.explains in
     let exact = found_exact c.in_ok-found.field-0 c.in-Some.found c.in-Some.is c.in_ok-found.ensures.exact in
-    done_gives (TellsConflict (scene_of order.game order.diagram) c.args.feature c.args.value order.decisions) (TellsChoice (scene_of order.game order.diagram) c.args.feature c.args.value order.decisions) (λ answer is. inl is) c.conflict.result c.done.result c.done.ensures c.args.out.now.items c.conflict.new.out.items
+    done_gives (TellsConflict (scene_of [] order.game order.diagram) c.args.feature c.args.value order.decisions) (TellsChoice (scene_of [] order.game order.diagram) c.args.feature c.args.value order.decisions) (λ answer is. inl is) c.conflict.result c.done.result c.done.ensures c.args.out.now.items c.conflict.new.out.items
     (on_ok c.conflict.result _ _
-    (λ appended. told_conflict order c.names-names.result.now c.names-names.ensures.names c.args.feature c.args.out.now.items c.conflict.new.out.items c.args.value
+    (λ appended. told_conflict [] order c.names-names.result.now c.names-names.ensures.names c.args.feature c.args.out.now.items c.conflict.new.out.items c.args.value
     c.deref.result.now c.in-Some.found.exact exact explains appended) c.conflict.ensures)
 
 pub returns-in-None : goal.returns-in-None

@@ -1,5 +1,5 @@
 use Rattle.std.proofs.lemmas.Grind.{common_steps}
-use Rattle.std.proofs.Common.{true, false, arith, inl, inr, refl}
+use Rattle.std.proofs.Common.{[], true, false, arith, inl, inr, refl}
 use Rattle.vpg_script.proofs.Given.{done_gives, if_ok}
 use Rattle.vpg_texts.proofs.Shown.{on_ok}
 use Rattle.vpg_texts.specs.Scene.{scene_of}
@@ -20,9 +20,9 @@ returns-in-Some c =
     let order = c.args.order.now in
     let explains = found_explains order (asks.Known c.args.feature true) c.in_ok-found.field-0 c.in-Some.found c.deref.result.now c.in-Some.is c.deref.ensures.value c.in_ok-found.ensures.explains in
     let exact = found_exact c.in_ok-found.field-0 c.in-Some.found c.in-Some.is c.in_ok-found.ensures.exact in
-    done_gives (TellsKnownBy (scene_of order.game order.diagram) c.args.feature true order.decisions) (TellsFeature (scene_of order.game order.diagram) c.args.feature order.decisions) (λ answer is. inl is) c.known.result c.done.result c.done.ensures c.args.out.now.items c.known.new.out.items
+    done_gives (TellsKnownBy (scene_of [] order.game order.diagram) c.args.feature true order.decisions) (TellsFeature (scene_of [] order.game order.diagram) c.args.feature order.decisions) (λ answer is. inl is) c.known.result c.done.result c.done.ensures c.args.out.now.items c.known.new.out.items
     (on_ok c.known.result _ _
-    (λ appended. known_so order c.names-names.result.now c.names-names.ensures.names c.args.feature c.args.out.now.items c.known.new.out.items true c.deref.result.now c.in-Some.found.exact exact explains appended)
+    (λ appended. known_so [] order c.names-names.result.now c.names-names.ensures.names c.args.feature c.args.out.now.items c.known.new.out.items true c.deref.result.now c.in-Some.found.exact exact explains appended)
     c.known.ensures)
 
 pub known-requires-in-Some-2-clause-listed : goal.known-requires-in-Some-2-clause-listed
@@ -37,9 +37,9 @@ returns-in-Some-2 c =
     let explains = found_explains order (asks.Known c.args.feature false) c.in_ok-found-2.field-0 c.in-Some-2.found c.deref-in-Some-2.result.now c.in-Some-2.is c.deref-in-Some-2.ensures.value c.in_ok-found-2.ensures.explains in
     let exact = found_exact c.in_ok-found-2.field-0 c.in-Some-2.found c.in-Some-2.is c.in_ok-found-2.ensures.exact in
     let not_in = none_is_not c.in_ok-found.field-0 _ c.in_default.is c.in_ok-found.ensures.told in
-    done_gives (TellsKnownBy (scene_of order.game order.diagram) c.args.feature false order.decisions) (TellsFeature (scene_of order.game order.diagram) c.args.feature order.decisions) (λ answer is. inr (inl (not_in, is))) c.known-in-Some-2.result c.done-in-Some-2.result c.done-in-Some-2.ensures c.args.out.now.items c.known-in-Some-2.new.out.items
+    done_gives (TellsKnownBy (scene_of [] order.game order.diagram) c.args.feature false order.decisions) (TellsFeature (scene_of [] order.game order.diagram) c.args.feature order.decisions) (λ answer is. inr (inl (not_in, is))) c.known-in-Some-2.result c.done-in-Some-2.result c.done-in-Some-2.ensures c.args.out.now.items c.known-in-Some-2.new.out.items
     (on_ok c.known-in-Some-2.result _ _
-    (λ appended. known_so order c.names-names.result.now c.names-names.ensures.names c.args.feature c.args.out.now.items c.known-in-Some-2.new.out.items false c.deref-in-Some-2.result.now c.in-Some-2.found.exact exact
+    (λ appended. known_so [] order c.names-names.result.now c.names-names.ensures.names c.args.feature c.args.out.now.items c.known-in-Some-2.new.out.items false c.deref-in-Some-2.result.now c.in-Some-2.found.exact exact
     explains appended) c.known-in-Some-2.ensures)
 
 pub returns-in-None : goal.returns-in-None

@@ -18,12 +18,12 @@ returns-in-Some c =
     let high = some_is c.in_ok-found.field-0 c.in-Some.found _ c.in-Some.is c.in_ok-found.ensures.told in
     let settled = found_settled c.in_ok-found.field-0 c.in-Some.found (EachIsSettled order.game order.diagram c.args.limits (asks.Verdict c.args.which c.args.vertex) (choices order.decisions)) c.in-Some.is c.in_ok-found.ensures.settled in
     on_ok c.verdict.result _ _
-    (λ appended. told_verdict order c.names-names.result.now c.names-names.ensures.names c.args.which c.args.vertex c.identifier-identifier.result c.identifier-identifier.ensures
+    (λ appended. told_verdict c.args.labels.now.names order c.names-names.result.now c.names-names.ensures.names c.args.which c.args.vertex c.identifier-identifier.result c.identifier-identifier.ensures c.name-label.result.now c.name-label.ensures
     c.args.out.now.items c.verdict.new.out.items c.args.limits c.deref.result.now c.in-Some.found.exact settled high explains appended) c.verdict.ensures
 
 pub returns-in-None : goal.returns-in-None
 returns-in-None c =
     let low = none_is_not c.in_ok-found.field-0 _ c.in-None.is c.in_ok-found.ensures.told in
     on_ok c.other.result _ _
-    (λ appended. told_other c.args.order.now c.names-names.result.now c.names-names.ensures.names c.args.which c.args.vertex c.identifier-identifier.result c.identifier-identifier.ensures
+    (λ appended. told_other c.args.labels.now.names c.args.order.now c.names-names.result.now c.names-names.ensures.names c.args.which c.args.vertex c.identifier-identifier.result c.identifier-identifier.ensures c.name-label.result.now c.name-label.ensures
     c.args.out.now.items c.other.new.out.items c.args.limits low appended) c.other.ensures

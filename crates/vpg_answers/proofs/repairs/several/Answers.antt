@@ -1,4 +1,4 @@
-use Rattle.std.proofs.Common.{refl}
+use Rattle.std.proofs.Common.{[], refl}
 use Rattle.vpg_texts.specs.Scene.{scene_of}
 use Rattle.vpg_texts.proofs.Shown.{on_ok}
 use Rattle.vpg_answers.specs.Repairs.{IsLostBy}
@@ -8,7 +8,7 @@ use Rattle.vpg_answers.proofs.repairs.several.Goals as goal
 pub tell_several-requires-clause-given : goal.tell_several-requires-clause-given
 tell_several-requires-clause-given c =
     let order = c.args.order.now in
-    given_below order c.names-names.result.now c.names-names.ensures.names c.names-names.ensures.order (IsLostBy (scene_of order.game order.diagram) c.args.vertex) c.in_ok-found.found.sure c.in_ok-found.found.kept.items c.deref.result.now
+    given_below order c.names-names.result.now c.names-names.ensures.names c.names-names.ensures.order (IsLostBy (scene_of [] order.game order.diagram) c.args.vertex) c.in_ok-found.found.sure c.in_ok-found.found.kept.items c.deref.result.now
     c.in_ok-found.found.given.items c.deref.ensures.value (rw c.decisions.ensures.decisions at c.in_ok-found.ensures.repair)
 
 pub tell_several-requires-clause-tried : goal.tell_several-requires-clause-tried

@@ -14,5 +14,5 @@ part_line-requires c =
 pub returns : goal.returns
 returns c =
     on_ok c.part_line.result _ _
-    (told_part c.args.order.now c.args.looks c.args.identifier c.names-names.result.now (view_of c.args.part.now) c.in_ok-count.count
-    c.args.out.now.items c.part_line.new.out.items c.names-names.ensures.names c.in_ok-count.ensures) c.part_line.ensures
+    (told_part c.args.order.now c.args.labels.now.names c.args.looks c.args.vertex c.identifier-identifier.result c.name-label.result.now c.names-names.result.now (view_of c.args.part.now) c.in_ok-count.count
+    c.args.out.now.items c.part_line.new.out.items c.names-names.ensures.names c.identifier-identifier.ensures c.name-label.ensures c.in_ok-count.ensures) c.part_line.ensures

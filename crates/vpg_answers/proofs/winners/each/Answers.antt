@@ -12,7 +12,7 @@ use Rattle.vpg_answers.proofs.winners.each.Goals as goal
 
 pub loop-part-init : goal.loop-part-init
 loop-part-init c =
-    told_no_lines (scene_of c.args.order.now.game c.args.order.now.diagram) c.args.looks c.args.identifier (choices c.args.order.now.decisions) c.args.out.now.items
+    told_no_lines (scene_of c.args.labels.now.names c.args.order.now.game c.args.order.now.diagram) c.args.looks c.args.vertex (choices c.args.order.now.decisions) c.args.out.now.items
 
 pub loop-part-preserved : goal.loop-part-preserved
 loop-part-preserved c =
@@ -21,7 +21,7 @@ loop-part-preserved c =
     let part = c.part-item.result in
     let all : take (i + 1) parts ≡ take i parts ++ part ∷ [] =
     take_more parts i part c.loop-part-test.true ∙ ap (λ (p : Part). take i parts ++ p ∷ []) (sym c.part-item.is) in
-    told_line (scene_of c.args.order.now.game c.args.order.now.diagram) c.args.looks c.args.identifier (choices c.args.order.now.decisions)
+    told_line (scene_of c.args.labels.now.names c.args.order.now.game c.args.order.now.diagram) c.args.looks c.args.vertex (choices c.args.order.now.decisions)
     (take i parts) (take (i + 1) parts) part c.args.out.now.items c.loop-part.out.items c.counted.new.out.items all c.loop-part.invariant c.in_ok-counted.ensures
 
 pub counted-requires-clause-named : goal.counted-requires-clause-named
@@ -39,5 +39,5 @@ returns c =
     let parts = c.args.parts.now in
     let order = c.args.order.now in
     subst
-    (λ (ps : List Part). Appends (TellsPartLines (scene_of order.game order.diagram) c.args.looks c.args.identifier (choices order.decisions) (views ps)) c.args.out.now.items c.loop-part.out.items)
+    (λ (ps : List Part). Appends (TellsPartLines (scene_of c.args.labels.now.names order.game order.diagram) c.args.looks c.args.vertex (choices order.decisions) (views ps)) c.args.out.now.items c.loop-part.out.items)
     (take_all c.loop-part.part-index parts (omega (arith, c.loop-part-test.false))) c.loop-part.invariant

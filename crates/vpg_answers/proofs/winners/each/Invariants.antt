@@ -7,4 +7,4 @@ use Rattle.vpg_answers.proofs.winners.each.Given as goal
 
 abbrev pub invariant-loop-part : goal.invariant-loop-part
 invariant-loop-part l =
-    Appends (TellsPartLines (scene_of l.order.game l.order.diagram) l.looks l.identifier (choices l.order.decisions) (views (take l.part-index l.parts))) l.fn.out.items l.out.items
+    Appends (TellsPartLines (scene_of l.labels.names l.order.game l.order.diagram) l.looks l.vertex (choices l.order.decisions) (views (take l.part-index l.parts))) l.fn.out.items l.out.items

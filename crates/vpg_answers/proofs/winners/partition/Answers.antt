@@ -22,10 +22,10 @@ returns c =
     let order = c.args.order.now in
     let found = c.in_ok-parts.ensures in
     let parts = c.in_ok-parts.parts.items in
-    let are = are_winners order c.args.limits c.args.vertex order.decisions refl (views parts) found.partition found.exact found.some found.«open» found.joined found.rule found.settled in
+    let are = are_winners c.args.labels.now.names order c.args.limits c.args.vertex order.decisions refl (views parts) found.partition found.exact found.some found.«open» found.joined found.rule found.settled in
     let number : c.len.result ≡ length parts = omega (arith, c.len.ensures, c.in_ok-parts.parts.ok.0) in
     on_ok c.totals.result _ _
-    (told_winners order c.args.limits c.args.vertex order.decisions refl
-    c.looks_each-looks.result c.len.result c.identifier-identifier.result parts c.deref.result.now c.deref-2.result.now
-    c.args.out.now.items c.each.new.out.items c.totals.new.out.items c.looks_each-looks.ensures number c.identifier-identifier.ensures
+    (told_winners c.args.labels.now.names order c.args.limits c.args.vertex order.decisions refl
+    c.looks_each-looks.result c.len.result c.identifier-identifier.result c.name.result.now parts c.deref.result.now c.deref-2.result.now
+    c.args.out.now.items c.each.new.out.items c.totals.new.out.items c.looks_each-looks.ensures number c.identifier-identifier.ensures c.name.ensures
     c.deref.ensures.value c.deref-2.ensures.value are c.in_ok-each.ensures) c.totals.ensures

@@ -20,7 +20,7 @@ pub returns-in-Winning : goal.returns-in-Winning
 returns-in-Winning c =
     let are = rw c.in-Winning.is at c.in_ok-moves.ensures.found in
     on_ok c.tell.result _ _
-    (λ appended. told_winning c.args.order.now c.args.limits c.args.mover c.args.vertex c.args.out.now.items c.tell.new.out.items
+    (λ appended. told_winning c.args.labels.now.names c.args.order.now c.args.limits c.args.mover c.args.vertex c.args.out.now.items c.tell.new.out.items
     c.deref.result.now c.in-Winning.moves.items c.word_of-word.result.now c.deref.ensures.value c.word_of-word.ensures are appended) c.tell.ensures
 
 pub unreachable-requires : goal.unreachable-requires
@@ -29,5 +29,5 @@ unreachable-requires c = c.in_ok-moves.ensures.verdict c.requires.verdict c.in-N
 pub returns-in-Unsettled : goal.returns-in-Unsettled
 returns-in-Unsettled c =
     on_ok c.unsettled.result _ _
-    (λ appended. told_short c.args.order.now c.args.limits c.args.mover c.args.vertex c.args.out.now.items c.unsettled.new.out.items
+    (λ appended. told_short c.args.labels.now.names c.args.order.now c.args.limits c.args.mover c.args.vertex c.args.out.now.items c.unsettled.new.out.items
     (λ settles. c.in_ok-moves.ensures.settled settles c.in-Unsettled.is) appended) c.unsettled.ensures

@@ -11,25 +11,25 @@ use Rattle.vpg_report.proofs.answering.ask.Goals as goal
 
 pub answer-requires : goal.answer-requires
 answer-requires g c =
-    within_order c.args.behaviour.now c.game.result.now c.diagram.result.now c.in-Ok-order.order c.in-Ok.query c.in-Ok-order.ensures.order
+    within_order c.args.context.now.behaviour c.game.result.now c.diagram.result.now c.in-Ok-order.order c.in-Ok.query c.in-Ok-order.ensures.order
     (c.game.ensures ∙ sym c.in-Ok-order.ensures.ours.0) (c.diagram.ensures ∙ sym c.in-Ok-order.ensures.ours.1) c.in-Ok.ensures.within
 
 pub returns-in-Err-clause-answer : goal.returns-in-Err-clause-answer
 returns-in-Err-clause-answer g c =
     if_ok c.put_missing.result _ _
-    (λ tone. missing_answers c.args.behaviour.now c.args.engine.now c.args.session c.game.result.now c.diagram.result.now c.game.ensures c.diagram.ensures (inquiry_shown c.args.inquiry)
+    (λ tone. missing_answers c.args.context.now.labels.names c.args.context.now.behaviour c.args.engine.now c.args.session c.game.result.now c.diagram.result.now c.game.ensures c.diagram.ensures (inquiry_shown c.args.inquiry)
     (own_of c.in-Err.what) c.args.out.now.items _ c.in-Err.ensures.query) c.put_missing.ensures.told
 
 pub returns-in-Err-order-clause-answer : goal.returns-in-Err-order-clause-answer
 returns-in-Err-order-clause-answer g c =
     if_ok c.put_unanswered.result _ _
-    (λ tone. full_answers c.args.behaviour.now c.args.engine.now c.args.session c.game.result.now c.diagram.result.now c.game.ensures c.diagram.ensures (inquiry_shown c.args.inquiry)
+    (λ tone. full_answers c.args.context.now.labels.names c.args.context.now.behaviour c.args.engine.now c.args.session c.game.result.now c.diagram.result.now c.game.ensures c.diagram.ensures (inquiry_shown c.args.inquiry)
     g.L.Terms.limit c.order.ensures.room c.order.new.self c.in-Ok.query c.args.out.now.items _ c.in-Ok.ensures.query never_refused c.in-Err-order.fault c.in-Err-order.ensures.fault c.order.ensures.held)
     (both_on c.put_unanswered.result _ _ c.put_unanswered.ensures.full c.put_unanswered.ensures.told)
 
 pub returns-clause-answer : goal.returns-clause-answer
 returns-clause-answer g c =
-    ask_answers c.args.behaviour.now c.args.engine.now c.args.session c.game.result.now c.diagram.result.now c.game.ensures c.diagram.ensures (inquiry_shown c.args.inquiry)
+    ask_answers c.args.context.now.labels.names c.args.context.now.behaviour c.args.engine.now c.args.session c.game.result.now c.diagram.result.now c.game.ensures c.diagram.ensures (inquiry_shown c.args.inquiry)
     g.L.Terms.limit c.order.ensures.room c.order.new.self c.in-Ok.query c.args.out.now.items _ c.in-Ok.ensures.query c.in-Ok-order.order c.in-Ok-order.ensures.accepted c.in-Ok-order.ensures.ours c.order.ensures.held c.in_ok-tone.ensures
 
 pub returns-in-Err-clause-strayed : goal.returns-in-Err-clause-strayed

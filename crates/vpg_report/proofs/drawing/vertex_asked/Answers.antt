@@ -1,3 +1,4 @@
+use Rattle.std.proofs.Common.{[]}
 use Rattle.std.specs.Prelude.{length}
 use Rattle.vpg_texts.specs.Scene.{scene_of}
 use Rattle.vpg_report.proofs.Draws.{trace_asked, trace_within}
@@ -5,7 +6,7 @@ use Rattle.vpg_report.proofs.drawing.vertex_asked.Goals as goal
 
 pub returns-in-Ok-OfVertex-Trace-default-clause-asked : goal.returns-in-Ok-OfVertex-Trace-default-clause-asked
 returns-in-Ok-OfVertex-Trace-default-clause-asked c =
-    trace_asked c.args.behaviour.now (scene_of c.args.game.now c.args.diagram.now) c.args.command.now c.in-Ask.inquiry c.in-Ok-OfVertex-Trace-default.field-0 c.in-Ok-OfVertex-Trace-default.field-0-0 c.in-Ok-OfVertex-Trace-default.vertex c.in-Ask.is c.in-Ok-OfVertex-Trace-default.ensures.query c.in-Ok-OfVertex-Trace-default.field-0-is c.in-Ok-OfVertex-Trace-default.field-0-0-is
+    trace_asked c.args.behaviour.now (scene_of [] c.args.game.now c.args.diagram.now) c.args.command.now c.in-Ask.inquiry c.in-Ok-OfVertex-Trace-default.field-0 c.in-Ok-OfVertex-Trace-default.field-0-0 c.in-Ok-OfVertex-Trace-default.vertex c.in-Ask.is c.in-Ok-OfVertex-Trace-default.ensures.query c.in-Ok-OfVertex-Trace-default.field-0-is c.in-Ok-OfVertex-Trace-default.field-0-0-is
 
 pub returns-in-Ok-OfVertex-Trace-default-clause-within : goal.returns-in-Ok-OfVertex-Trace-default-clause-within
 returns-in-Ok-OfVertex-Trace-default-clause-within c =

@@ -1,4 +1,4 @@
-use Rattle.std.proofs.Common.{ℕ, List, Option, ap, subst, ◌∙◌}
+use Rattle.std.proofs.Common.{ℕ, List, Option, ap, subst, ◌∙◌, []}
 use Rattle.std.specs.Prelude.{◌<◌, length, IfSome}
 use Rattle.vpg_diagram.specs.DiagramText.{NamedDiagram}
 use Rattle.vpg_answers.specs.Answers.{IsOver}
@@ -12,7 +12,7 @@ pub returns-in-Ok-Some-clause-asked : goal.returns-in-Ok-Some-clause-asked
 returns-in-Ok-Some-clause-asked c =
     let same_diagram = c.deref-3.ensures ∙ c.diagram-diagram.ensures.diagram in
     let names = c.names.ensures.names ∙ ap (λ (d : NamedDiagram). d.names) (c.deref.ensures ∙ c.diagram-diagram.ensures.diagram) in
-    let asks = subst (λ (o : Option ℕ). IfSome o (AsksTrace c.args.context.now.behaviour (scene_of c.deref-2.result.now c.deref-3.result.now) (command_shown c.in_ok-said.said.command))) c.in-Ok-Some.field-0-is c.in-Ok-Some.ensures.asked in
+    let asks = subst (λ (o : Option ℕ). IfSome o (AsksTrace c.args.context.now.behaviour (scene_of [] c.deref-2.result.now c.deref-3.result.now) (command_shown c.in_ok-said.said.command))) c.in-Ok-Some.field-0-is c.in-Ok-Some.ensures.asked in
     request_asks c.args.context.now c.args.order.now.game c.deref-2.result.now c.args.order.now.diagram c.deref-3.result.now c.names.result.now (request_shown c.args.request.now) (request_shown c.in_ok-said.said) c.in-Ok-Some.vertex
     (c.deref-2.ensures ∙ c.game.ensures.game) same_diagram names c.in_ok-said.ensures asks
 

@@ -3,9 +3,9 @@ use Rattle.std.specs.Arc.{arc_value}
 use Rattle.std.specs.Io.KnownBytes.{prepend_known}
 use Rattle.vpg_script.specs.Manners.{MannerOutcome}
 use Rattle.vpg_script.proofs.MannerLemmas.{went_nothing}
-use Rattle.vpg_report.specs.Engine.{EngineState, between_of, scene_at}
+use Rattle.vpg_report.specs.Engine.{EngineState, between_of}
 use Rattle.vpg_report.specs.Server.{IsOpenRefusal}
-use Rattle.vpg_report.specs.Run.{answering_called, begun, called_at, called_in}
+use Rattle.vpg_report.specs.Run.{answering_called, begun, called_by, called_in}
 use Rattle.vpg_report.proofs.Results.{outcome_as}
 use Rattle.vpg_report.proofs.runs.run_there.Goals as goal
 
@@ -22,4 +22,4 @@ returns-clause-output g c =
     let after = g.W.Sink.contents c.answer_script_as-result.new.writer in
     outcome_as c.args.manner (answering_called (called_in (arc_value c.args.game) (arc_value c.args.diagram) c.args.context.now) c.args.lifters) (IsOpenRefusal (arc_value c.args.game) (arc_value c.args.diagram)) begun input left before after
     c.answer_script_as-result.result
-    (subst (λ (e : EngineState). MannerOutcome c.args.manner (answering_called (called_at (scene_at e) c.args.context.now) c.args.lifters) (between_of e) input left before after c.answer_script_as-result.result) c.in-Ok.ensures.opened c.answer_script_as-result.ensures.output)
+    (subst (λ (e : EngineState). MannerOutcome c.args.manner (answering_called (called_by e c.args.context.now) c.args.lifters) (between_of e) input left before after c.answer_script_as-result.result) c.in-Ok.ensures.opened c.answer_script_as-result.ensures.output)

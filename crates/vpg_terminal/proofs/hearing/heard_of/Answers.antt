@@ -1,7 +1,6 @@
 use Rattle.std.proofs.Common.{◌≡◌, ◌||◌, ◌∙◌, ℕ, List, Bool, true, false, refl, sym, ap}
 use Rattle.std.specs.Prelude.{codes, if◌then◌else◌}
-use Rattle.vpg_terminal.specs.Following.{begins}
-use Rattle.vpg_terminal.specs.Naming.{behind_word}
+use Rattle.vpg_terminal.specs.Following.{begins, behind_word}
 use Rattle.vpg_terminal.specs.declared.hearing.Heard.{Heard}
 use Rattle.vpg_terminal.specs.declared.hearing.Heard.TheVariants as hears
 use Rattle.vpg_terminal.proofs.hearing.heard_of.Goals.{then-starts_with, else-starts_with, then-starts_with-6, else-starts_with-6}

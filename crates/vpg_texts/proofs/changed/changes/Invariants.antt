@@ -7,5 +7,5 @@ abbrev pub invariant-loop-v : goal.invariant-loop-v
 invariant-loop-v l = record {
   count : l.changed ≡ change_count l.seen l.present l.v;
   few : l.changed ≤ l.v;
-  lines : l.out.items ≡ l.fn.out.items ++ change_lines (vertex_ids l.game.vertices) l.seen l.present l.v;
+  lines : l.out.items ≡ l.fn.out.items ++ change_lines (vertex_ids l.game.vertices) l.labels.names l.seen l.present l.v;
 }

@@ -22,7 +22,7 @@ pub returns : goal.returns
 returns c =
     let ids = vertex_ids c.args.game.now.vertices in
     let choices = choices_text c.args.names.now (map literal_of c.args.ds.now) in
-    let lines : ℕ → List ℕ = λ n. vertex_lines (top_of c.args.games.now.hopeful_levels) (top_of c.args.games.now.dual_levels) ids c.args.hopeful.now c.args.dual.now n in
+    let lines : ℕ → List ℕ = λ n. vertex_lines (top_of c.args.games.now.hopeful_levels) (top_of c.args.games.now.dual_levels) ids c.args.labels.now.names c.args.hopeful.now c.args.dual.now n in
     let full = answer_line c.args.full in
     let settled = answer_line c.args.settled in
     let old = c.args.out.now.items in

@@ -12,7 +12,7 @@ loop-v-preserved c =
     let ids = vertex_ids c.args.game.now.vertices in
     let chosen = c.args.chosen.now in
     let v = c.loop-v.v in
-    line_more (λ (n : ℕ). plan_lines ids chosen n) v (plan_line ids v (slice_index_or chosen v None)) refl c.args.out.now.items c.loop-v.out.items c.plan_line.new.out.items c.loop-v.invariant c.in_ok-plan_line.ensures
+    line_more (λ (n : ℕ). plan_lines ids c.args.labels.now.names chosen n) v (plan_line ids c.args.labels.now.names v (slice_index_or chosen v None)) refl c.args.out.now.items c.loop-v.out.items c.plan_line.new.out.items c.loop-v.invariant c.in_ok-plan_line.ensures
 
 pub returns : goal.returns
 returns c =
@@ -20,7 +20,7 @@ returns c =
     let chosen = c.args.chosen.now in
     let number = c.blank_number.new.out.items in
     let word = c.extend_from_slice.new.self.items in
-    let lines : ℕ → List ℕ = λ n. plan_lines ids chosen n in
+    let lines : ℕ → List ℕ = λ n. plan_lines ids c.args.labels.now.names chosen n in
     let numbered : number ≡ word ++ blank_number (count_by is_some chosen) = c.in_ok-blank_number.ensures ∙ ap (λ (n : ℕ). word ++ blank_number n) (search rules) in
     behind c.args.out.now.items number c.push.new.self.items (lines (length ids) ++ codes "plans" ++ blank_number (count_by is_some chosen)) (10 ∷ [])
     (three_parts c.args.out.now.items c.loop-v.out.items word number (lines (length ids)) (codes "plans") (blank_number (count_by is_some chosen))

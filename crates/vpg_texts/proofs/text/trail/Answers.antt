@@ -16,14 +16,14 @@ entry-requires c =
 
 pub loop-e-preserved : goal.loop-e-preserved
 loop-e-preserved c =
-    let line = entry_line c.args.names.now (vertex_ids c.args.game.now.vertices) in
+    let line = entry_line c.args.names.now (vertex_ids c.args.game.now.vertices) c.args.labels.now.names in
     piece_more (λ (es : List Entry). flat_map line (map entry_of es)) (λ (e : Entry). line (entry_of e)) refl (λ e es. refl) c.args.entries.now c.loop-e.e-index c.e-item.result
     c.args.out.now.items c.loop-e.out.items c.entry.new.out.items c.loop-e-test.true c.loop-e.invariant
     (c.in_ok-entry.ensures ∙ ap (λ (e : Entry). c.loop-e.out.items ++ line (entry_of e)) c.e-item.is)
 
 pub returns : goal.returns
 returns c =
-    let line = entry_line c.args.names.now (vertex_ids c.args.game.now.vertices) in
+    let line = entry_line c.args.names.now (vertex_ids c.args.game.now.vertices) c.args.labels.now.names in
     let entries = c.args.entries.now in
     let text : List Entry → List ℕ = λ es. flat_map line (map entry_of es) in
     let word = c.extend_from_slice.new.self.items in

@@ -6,4 +6,4 @@ use Rattle.vpg_texts.specs.Text.{entry_line}
 use Rattle.vpg_texts.proofs.text.trail.Given as goal
 
 abbrev pub invariant-loop-e : goal.invariant-loop-e
-invariant-loop-e l = l.out.items ≡ l.fn.out.items ++ flat_map (entry_line l.names (vertex_ids l.game.vertices)) (map entry_of (take l.e-index l.entries))
+invariant-loop-e l = l.out.items ≡ l.fn.out.items ++ flat_map (entry_line l.names (vertex_ids l.game.vertices) l.labels.names) (map entry_of (take l.e-index l.entries))

@@ -4,7 +4,7 @@ use Rattle.vpg_faults.specs.Refusals.{never_refused}
 use Rattle.vpg_desk.specs.Book.{Page}
 use Rattle.vpg_script.specs.Script as script
 use Rattle.vpg_report.specs.EngineFields.{engine_in}
-use Rattle.vpg_report.proofs.Asked.{on_view, on_view_told, both_on, log_full}
+use Rattle.vpg_report.proofs.Asked.{on_view, on_view_told, both_on, log_full_with}
 use Rattle.vpg_report.proofs.Enduring.{endures, stays, unless_stray_any}
 use Rattle.vpg_report.proofs.Paged.{games_are, table_length, changed_answers}
 use Rattle.vpg_report.proofs.Strays.{never_stray, on_seen}
@@ -51,7 +51,7 @@ returns-clause-answer g c =
     let e = c.self.inside in
     let old = engine_in e.client e.undos.items e.redos.items e.harvests.items e.seen.items in
     on_view_told old _ _ _ _ _ c.self.view_is
-    (changed_answers g.L.Terms.limit c.self.invariant.room_is old _ c.args.session c.deref-2.result.now c.deref-3.result.now c.args.out.now.items _ (c.deref-2.ensures ∙ c.self.invariant.game) (c.deref-3.ensures ∙ c.self.invariant.game)
+    (changed_answers c.args.labels.now.names g.L.Terms.limit c.self.invariant.room_is old _ c.args.session c.deref-2.result.now c.deref-3.result.now c.args.out.now.items _ (c.deref-2.ensures ∙ c.self.invariant.game) (c.deref-3.ensures ∙ c.self.invariant.game)
     c.in-Ok.both.0.entries c.in-Ok.ensures.accepted c.in-Ok.both.0.hopeful c.in-Ok.both.0.dual c.in-Ok.ensures.hopeful c.in-Ok.ensures.dual _ c.in_ok-verdicts.ensures refl _ _ c.deref-4.ensures.value c.deref-5.ensures.value c.in_ok-put_changed.ensures.changed)
 
 pub returns-in-Err-clause-answer : goal.returns-in-Err-clause-answer
@@ -59,7 +59,7 @@ returns-in-Err-clause-answer g c =
     let e = c.self.inside in
     let old = engine_in e.client e.undos.items e.redos.items e.harvests.items e.seen.items in
     on_view c.put_unanswered.result _ old _ _ _ _ _ c.self.view_is
-    (λ tone told. log_full g.L.Terms.limit c.self.invariant.room_is c.args.session never_refused old _ script.Changed Page c.in-Err.fault c.args.out.now.items _ refl c.in-Err.ensures.fault (unless_stray_any c.in-Err.fault _ refl) told.0 told.1)
+    (λ tone told. log_full_with g.L.Terms.limit c.self.invariant.room_is c.args.session c.args.labels.now.names never_refused old _ script.Changed Page c.in-Err.fault c.args.out.now.items _ refl c.in-Err.ensures.fault (unless_stray_any c.in-Err.fault _ refl) told.0 told.1)
     (both_on c.put_unanswered.result _ _ c.put_unanswered.ensures.full c.put_unanswered.ensures.told)
 
 pub returns-in-Err-clause-strayed : goal.returns-in-Err-clause-strayed

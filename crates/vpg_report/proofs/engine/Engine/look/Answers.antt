@@ -6,7 +6,7 @@ use Rattle.vpg_faults.specs.Refusals.{never_refused}
 use Rattle.vpg_desk.specs.Book.{Page}
 use Rattle.vpg_script.specs.Script as script
 use Rattle.vpg_report.specs.EngineFields.{engine_in}
-use Rattle.vpg_report.proofs.Asked.{on_view, on_view_told, on_same_view, both_on, log_full}
+use Rattle.vpg_report.proofs.Asked.{on_view, on_view_told, on_same_view, both_on, log_full_with}
 use Rattle.vpg_report.proofs.Enduring.{endures, stays, unless_stray_any}
 use Rattle.vpg_report.proofs.Paged.{games_are, has_there, named, table_length, table_within, entries_are_within, looks, look_answers, missing_vertex}
 use Rattle.vpg_diagram.specs.DiagramText.{NamedDiagram}
@@ -69,7 +69,7 @@ returns-then-not-has_vertices-clause-answer g c =
     let e = c.self.inside in
     let old = engine_in e.client e.undos.items e.redos.items e.harvests.items e.seen.items in
     on_same_view c.put_missing.result _ old _ _ _ _ c.self.view_is
-    (λ tone told. missing_vertex old c.args.session (lookup_shown c.args.lookup.now) c.deref.result.now c.args.out.now.items _ (c.deref.ensures ∙ c.self.invariant.game)
+    (λ tone told. missing_vertex c.args.labels.now.names old c.args.session (lookup_shown c.args.lookup.now) c.deref.result.now c.args.out.now.items _ (c.deref.ensures ∙ c.self.invariant.game)
     (sym c.has_vertices.ensures ∙ c.if-not-has_vertices.true) told) c.put_missing.ensures.told
 
 pub returns-clause-answer : goal.returns-clause-answer
@@ -78,7 +78,7 @@ returns-clause-answer g c =
     let old = engine_in e.client e.undos.items e.redos.items e.harvests.items e.seen.items in
     on_view_told old _ _ _ _ _ c.self.view_is
     (look_answers g.L.Terms.limit c.self.invariant.room_is old _ c.args.session (arc_value c.self.inside.game) (arc_value c.self.inside.diagram) c.args.out.now.items _ c.self.invariant.game c.self.invariant.diagram
-    c.in-Ok.both.0.entries c.in-Ok.ensures.accepted refl c.in-Ok.both.0.decisions c.in-Ok.ensures.decisions c.in-Ok.both.0.hopeful c.in-Ok.both.0.dual c.in-Ok.ensures.hopeful c.in-Ok.ensures.dual (lookup_shown c.args.lookup.now)
+    c.in-Ok.both.0.entries c.in-Ok.ensures.accepted refl c.in-Ok.both.0.decisions c.in-Ok.ensures.decisions c.in-Ok.both.0.hopeful c.in-Ok.both.0.dual c.in-Ok.ensures.hopeful c.in-Ok.ensures.dual c.args.labels.now.names (lookup_shown c.args.lookup.now)
     (has_there (lookup_shown c.args.lookup.now) _ (arc_value c.self.inside.game) _ c.deref.ensures refl (sym c.has_vertices.ensures ∙ c.if-not-has_vertices.false)) c.in_ok-tone.ensures)
 
 pub returns-in-Err-clause-answer : goal.returns-in-Err-clause-answer
@@ -87,7 +87,7 @@ returns-in-Err-clause-answer g c =
     let old = engine_in e.client e.undos.items e.redos.items e.harvests.items e.seen.items in
     let first = looks old (lookup_shown c.args.lookup.now) c.deref.result.now (c.deref.ensures ∙ c.self.invariant.game) (sym c.has_vertices.ensures ∙ c.if-not-has_vertices.false) in
     on_view c.put_unanswered.result _ old _ _ _ _ _ c.self.view_is
-    (λ tone told. log_full g.L.Terms.limit c.self.invariant.room_is c.args.session never_refused old _ (script.Look (lookup_shown c.args.lookup.now)) Page c.in-Err.fault c.args.out.now.items _ first c.in-Err.ensures.fault (unless_stray_any c.in-Err.fault _ refl) told.0 told.1)
+    (λ tone told. log_full_with g.L.Terms.limit c.self.invariant.room_is c.args.session c.args.labels.now.names never_refused old _ (script.Look (lookup_shown c.args.lookup.now)) Page c.in-Err.fault c.args.out.now.items _ first c.in-Err.ensures.fault (unless_stray_any c.in-Err.fault _ refl) told.0 told.1)
     (both_on c.put_unanswered.result _ _ c.put_unanswered.ensures.full c.put_unanswered.ensures.told)
 
 pub look-requires-clause-features : goal.look-requires-clause-features

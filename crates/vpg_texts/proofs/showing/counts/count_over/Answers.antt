@@ -1,4 +1,4 @@
-use Rattle.std.proofs.Common.{◌++◌, ℕ, List, refl, ap, ◌∙◌, map}
+use Rattle.std.proofs.Common.{◌++◌, ℕ, List, [], refl, ap, ◌∙◌, map}
 use Rattle.vpg_sides.specs.declared.which.Which.TheVariants.{Hopeful, Dual}
 use Rattle.vpg_partial.specs.Known.{literal_of}
 use Rattle.vpg_texts.specs.Scene.{IsCounted, scene_of}
@@ -20,7 +20,7 @@ pub returns-clause-counted : goal.returns-clause-counted
 returns-clause-counted c =
     let page = c.args.page.now in
     let text = c.count.new.out.items in
-    let counted : IsCounted (scene_of c.args.game.now c.args.diagram.now) page.decisions page.hopeful page.dual c.args.mark.now text =
+    let counted : IsCounted (scene_of [] c.args.game.now c.args.diagram.now) page.decisions page.hopeful page.dual c.args.mark.now text =
     counts c.args.game.now c.args.diagram.now page.decisions c.args.games.now c.requires.games page.hopeful page.dual c.args.mark.now text
     c.requires.hopeful c.requires.dual c.requires.hopeful_within c.requires.dual_within c.is_full-full.result c.is_settled-settled.result
     (rw c.known.ensures at c.is_full-full.ensures.known) c.is_settled-settled.ensures (written text text c.new-text.result.items _ refl c.in_ok-count.ensures c.new-text.ensures.items) in

@@ -1,4 +1,4 @@
-use Rattle.std.proofs.Common.{◌++◌, ℕ, List, refl, ap, ◌∙◌, map}
+use Rattle.std.proofs.Common.{◌++◌, ℕ, List, [], refl, ap, ◌∙◌, map}
 use Rattle.vpg_sides.specs.declared.which.Which.TheVariants.{Hopeful, Dual}
 use Rattle.vpg_partial.specs.Known.{literal_of}
 use Rattle.vpg_script.specs.View.{assertion_shown}
@@ -26,7 +26,7 @@ returns-clause-asserted c =
     let page = c.args.page.now in
     let said = assertion_shown c.args.assertion.now in
     let answer : Answer = assertion_answer (top_of c.args.games.now.hopeful_levels) (top_of c.args.games.now.dual_levels) (vertex_ids c.args.game.now.vertices) page.hopeful page.dual said c.is_full-full.result c.is_settled-settled.result in
-    let asserted : IsAsserted (scene_of c.args.game.now c.args.diagram.now) said page.decisions page.hopeful page.dual answer =
+    let asserted : IsAsserted (scene_of [] c.args.game.now c.args.diagram.now) said page.decisions page.hopeful page.dual answer =
     asserts c.args.game.now c.args.diagram.now page.decisions c.args.games.now c.requires.games page.hopeful page.dual answer
     c.requires.hopeful c.requires.dual c.requires.hopeful_within c.requires.dual_within said c.is_full-full.result c.is_settled-settled.result
     (rw c.known.ensures at c.is_full-full.ensures.known) c.is_settled-settled.ensures refl in

@@ -16,7 +16,7 @@ pub returns-in-Err-NotFull-clause-planned : goal.returns-in-Err-NotFull-clause-p
 returns-in-Err-NotFull-clause-planned c =
     let page = c.args.page.now in
     let text = codes "refused NotFull\n" in
-    let fault = subst (λ (f : PlanFault). IsPlanFault (scene_of c.args.game.now c.args.diagram.now) page.decisions page.hopeful page.dual f) c.in-Err-NotFull.field-0-is c.in-Err-NotFull.ensures.refused in
+    let fault = subst (λ (f : PlanFault). IsPlanFault (scene_of c.args.labels.now.names c.args.game.now c.args.diagram.now) page.decisions page.hopeful page.dual f) c.in-Err-NotFull.field-0-is c.in-Err-NotFull.ensures.refused in
     if_ok c.refused.result _ _
     (λ tone so. (refused (codes "NotFull"), (inr (inl (fault, refl)), (so.0, so.1 ∙ ap (λ (before : List ℕ). before ++ text) c.in-Err-NotFull.ensures.unchanged))))
     c.refused.ensures.given
@@ -25,7 +25,7 @@ pub returns-in-Err-NotSettled-clause-planned : goal.returns-in-Err-NotSettled-cl
 returns-in-Err-NotSettled-clause-planned c =
     let page = c.args.page.now in
     let text = codes "refused NotSettled\n" in
-    let fault = subst (λ (f : PlanFault). IsPlanFault (scene_of c.args.game.now c.args.diagram.now) page.decisions page.hopeful page.dual f) c.in-Err-NotSettled.field-0-is c.in-Err-NotSettled.ensures.refused in
+    let fault = subst (λ (f : PlanFault). IsPlanFault (scene_of c.args.labels.now.names c.args.game.now c.args.diagram.now) page.decisions page.hopeful page.dual f) c.in-Err-NotSettled.field-0-is c.in-Err-NotSettled.ensures.refused in
     if_ok c.refused-in-Err-NotSettled.result _ _
     (λ tone so. (refused (codes "NotSettled"), (inr (inr (fault, refl)), (so.0, so.1 ∙ ap (λ (before : List ℕ). before ++ text) c.in-Err-NotSettled.ensures.unchanged))))
     c.refused-in-Err-NotSettled.ensures.given

@@ -8,7 +8,7 @@ pub returns-clause-shown : goal.returns-clause-shown
 returns-clause-shown c =
     let page = c.args.page.now in
     let text = c.in_ok-text.text.items in
-    let shown : IsShown (scene_of c.args.game.now c.args.diagram.now) page.decisions page.hopeful page.dual text =
+    let shown : IsShown (scene_of c.args.labels.now.names c.args.game.now c.args.diagram.now) page.decisions page.hopeful page.dual text =
     (c.args.games.now.known, (c.requires.games.known, rw c.as_slice.ensures at c.in_ok-text.ensures)) in
     on_ok c.extend_from_slice.result _ _ (λ items. (text, (shown, items ∙ ap (λ (bytes : List ℕ). c.args.out.now.items ++ bytes) c.deref.ensures.value))) (appended c.extend_from_slice.result _ _ _ c.extend_from_slice.ensures.items)
 

@@ -20,7 +20,7 @@ page-requires-clause-decisions c =
 pub returns : goal.returns
 returns c =
     shows c.args.game.now c.args.diagram.now c.args.decisions.now c.args.games.now c.requires.games c.is_full-full.result c.is_settled-settled.result c.args.hopeful.now c.args.dual.now
-    c.new-text.result.items c.page.new.out.items c.names.result.now c.names.ensures.names c.new-text.ensures.items
+    c.new-text.result.items c.page.new.out.items c.names.result.now c.args.labels.now.names c.names.ensures.names c.new-text.ensures.items
     (rw c.known.ensures at c.is_full-full.ensures.known)
     (settled_tells c.args.game.now c.args.diagram.now (map literal_of c.args.decisions.now) c.args.games.now c.requires.games c.args.hopeful.now c.args.dual.now
     c.requires.hopeful c.requires.dual c.requires.hopeful_within c.requires.dual_within c.is_settled-settled.result c.is_settled-settled.ensures)

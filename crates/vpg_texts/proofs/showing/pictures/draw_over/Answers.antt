@@ -1,4 +1,4 @@
-use Rattle.std.proofs.Common.{List, ◌<◌, sym, ◌∙◌, subst, ℕ, length, ap}
+use Rattle.std.proofs.Common.{refl, List, ◌<◌, sym, ◌∙◌, subst, ℕ, length, ap}
 use Rattle.std.specs.Prelude.{All}
 use Rattle.vpg_partial.specs.declared.decision.Decision.{Decision}
 use Rattle.vpg_texts.proofs.Pictured.{draws, verdict_each}
@@ -18,12 +18,12 @@ draw_game-requires-clause-verdicts c =
 pub returns-clause-drawn : goal.returns-clause-drawn
 returns-clause-drawn c =
     let page = c.args.page.now in
-    draws c.args.game.now c.args.diagram.now page.decisions c.args.games.now c.requires.games c.requires.features page.hopeful page.dual
-    c.draw_game.result c.args.out.now.items c.draw_game.new.out.items c.names-2.result.now c.known.result.now c.as_slice.result.now c.none-names.result.names c.deref.result.now
-    c.names-2.ensures.names c.known.ensures c.as_slice.ensures c.none-names.ensures.names (c.deref.ensures.value ∙ c.in_ok-verdicts.ensures) c.draw_game.ensures.drawn
+    draws c.args.labels.now.names c.args.game.now c.args.diagram.now page.decisions c.args.games.now c.requires.games c.requires.features page.hopeful page.dual
+    c.draw_game.result c.args.out.now.items c.draw_game.new.out.items c.names.result.now c.known.result.now c.as_slice.result.now c.args.labels.now.names c.deref.result.now
+    c.names.ensures.names c.known.ensures c.as_slice.ensures refl (c.deref.ensures.value ∙ c.in_ok-verdicts.ensures) c.draw_game.ensures.drawn
 
 pub draw_game-requires-clause-features : goal.draw_game-requires-clause-features
-draw_game-requires-clause-features c = ap (λ (names : List (List ℕ)). length names) c.names-2.ensures.names ∙ c.names-2.ensures.diagram.each_named ∙ sym c.requires.features
+draw_game-requires-clause-features c = ap (λ (names : List (List ℕ)). length names) c.names.ensures.names ∙ c.names.ensures.diagram.each_named ∙ sym c.requires.features
 
 pub draw_game-requires-clause-known : goal.draw_game-requires-clause-known
 draw_game-requires-clause-known c = ap (λ (known : List Tri). length known) c.known.ensures ∙ c.requires.games.known.length_is ∙ sym c.requires.features

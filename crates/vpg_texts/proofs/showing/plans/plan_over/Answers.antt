@@ -20,7 +20,7 @@ plan-requires-clause-len c =
     let hopeful = c.args.page.now.hopeful in
     let chosen = c.in-Some.chosen.items in
     rw c.deref.ensures.value (chosen_count c.args.game.now c.args.games.now.known hopeful chosen
-    (chosen_are c.args.game.now c.args.diagram.now c.args.page.now.decisions c.args.games.now c.requires.games hopeful chosen (rw c.in-Some.is at c.in_ok-chosen.ensures.chosen)))
+    (chosen_are c.args.labels.now.names c.args.game.now c.args.diagram.now c.args.page.now.decisions c.args.games.now c.requires.games hopeful chosen (rw c.in-Some.is at c.in_ok-chosen.ensures.chosen)))
 
 pub plan-requires-clause-below : goal.plan-requires-clause-below
 plan-requires-clause-below c =
@@ -28,7 +28,7 @@ plan-requires-clause-below c =
     let hopeful = c.args.page.now.hopeful in
     let chosen = c.in-Some.chosen.items in
     subst (λ (ws : List (Option ℕ)). All (λ w. IfSome w (λ v. v < length game.vertices)) ws) (sym c.deref.ensures.value)
-    (chosen_within game c.args.games.now.known hopeful chosen (chosen_are game c.args.diagram.now c.args.page.now.decisions c.args.games.now c.requires.games hopeful chosen (rw c.in-Some.is at c.in_ok-chosen.ensures.chosen))
+    (chosen_within game c.args.games.now.known hopeful chosen (chosen_are c.args.labels.now.names game c.args.diagram.now c.args.page.now.decisions c.args.games.now c.requires.games hopeful chosen (rw c.in-Some.is at c.in_ok-chosen.ensures.chosen))
     (games_have_graphs game c.requires.games.is_game).closed)
 
 pub returns-clause-planned : goal.returns-clause-planned
@@ -36,7 +36,7 @@ returns-clause-planned c =
     let page = c.args.page.now in (
       c.plan.new.out.items,
       (
-        planned c.args.game.now c.args.diagram.now page.decisions c.args.games.now c.requires.games page.hopeful page.dual c.requires.hopeful c.requires.dual c.requires.hopeful_within c.requires.dual_within
+        planned c.args.labels.now.names c.args.game.now c.args.diagram.now page.decisions c.args.games.now c.requires.games page.hopeful page.dual c.requires.hopeful c.requires.dual c.requires.hopeful_within c.requires.dual_within
             (rw c.known.ensures at (c.is_full.ensures.known.0 c.if-not-is_full.false)) (rw c.in-Some.is at c.in_ok-chosen.ensures.settled) c.in-Some.chosen.items c.plan.new.out.items
             (rw c.in-Some.is at c.in_ok-chosen.ensures.chosen) (rw (c.new-text.ensures.items, c.deref.ensures.value) at c.in_ok-plan.ensures),
         rw c.deref-2.ensures.value at c.in_ok-extend_from_slice.ensures.items,
@@ -46,5 +46,5 @@ returns-clause-planned c =
 pub returns-clause-wins : goal.returns-clause-wins
 returns-clause-wins c =
     let page = c.args.page.now in
-    planned_wins c.args.game.now c.args.diagram.now page.decisions c.args.games.now c.requires.games page.hopeful page.dual c.requires.hopeful c.requires.dual c.requires.hopeful_within c.requires.dual_within
+    planned_wins c.args.labels.now.names c.args.game.now c.args.diagram.now page.decisions c.args.games.now c.requires.games page.hopeful page.dual c.requires.hopeful c.requires.dual c.requires.hopeful_within c.requires.dual_within
     (rw c.known.ensures at (c.is_full.ensures.known.0 c.if-not-is_full.false)) (rw c.in-Some.is at c.in_ok-chosen.ensures.settled) c.requires.features c.requires.named

@@ -1,3 +1,0 @@
-pub mod Failing
-pub mod Names
-pub mod Growing

@@ -1,6 +1,0 @@
-use Rattle.std.proofs.Common.{◌≡◌, take, min}
-use Rattle.std.specs.Str.Parse.{digits_value}
-use Rattle.vpg_terminal.proofs.naming.bounded_value.Given as goal
-
-abbrev pub invariant-loop-b : goal.invariant-loop-b
-invariant-loop-b l = l.value ≡ min 4294967296 (digits_value 10 (take l.b-index l.digits))
