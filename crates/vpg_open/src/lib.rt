@@ -18,7 +18,9 @@
 mod cutting;
 mod looking;
 mod opening;
+mod reaching;
 
 pub use cutting::settled;
 pub use looking::{is_open, verdicts};
 pub use opening::open_game;
+pub use reaching::{Reached, reached_game};
