@@ -9,7 +9,7 @@ ghost use Rattle.vpg_winners.specs.Finding.{IsFirstFound, IsSetOfMet};
 ghost use Rattle.vpg_winners.specs.OpenParts.{IsPartOf};
 
 use crate::dividing::Effort;
-use crate::part::{order_on, part_of};
+use crate::part::{on_part, order_on, part_of};
 use crate::two_sets::{TwoSets, two_sets};
 use std::alloc::{AllocError, Global};
 use vpg_measure::Order;
@@ -146,7 +146,7 @@ fn search_part(
         which,
         vertex: part.vertex,
     };
-    let found = vpg_why::find(alloc, &part.order, aim, limits)?;
+    let found = vpg_why::find(alloc, &part.order, aim, on_part(limits))?;
     if is_exact(&found) {
         return Ok(Some(found));
     }
@@ -229,7 +229,8 @@ pub fn find(alloc: Global, order: &Order, aim: Aim, limits: Limits) -> Result<Fo
 /// page is. In such a product Even wins from the vertex, for the hopeful table, or Odd, for the dual one. With
 /// `Aim::Any` they are the decisions that leave no product at all.
 ///
-/// If there is such a product, it is found as by `find`. The only error is a lack of memory.
+/// If there is such a product, it is found as by `find`. The search for decisions has half of the looks: it begins many
+/// tables, and a look at a large game takes longer. The only error is a lack of memory.
 pub fn why_lost(
     alloc: Global,
     order: &Order,
@@ -250,6 +251,11 @@ pub fn why_lost(
         Some(Found::Unsettled) => return Ok(WhyLost::Unsettled),
         _ => {}
     }
-    let found = vpg_why::why_lost(alloc, order, aim, limits)?;
+    let half = Limits {
+        budget: limits.budget / 2,
+        rounds: limits.rounds,
+        trials: limits.trials,
+    };
+    let found = vpg_why::why_lost(alloc, order, aim, half)?;
     Ok(found)
 }

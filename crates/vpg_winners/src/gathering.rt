@@ -20,7 +20,7 @@ ghost use Rattle.vpg_winners.specs.Gathering.{IsGathered};
 ghost use Rattle.vpg_winners.specs.OpenParts.{IsPartOf};
 
 use crate::finding::{met_at, open_part, sets_at};
-use crate::part::order_on;
+use crate::part::{on_part, order_on};
 use crate::two_sets::TwoSets;
 use std::alloc::{AllocError, Global};
 use vpg_diagram::Literal;
@@ -320,7 +320,7 @@ fn needs_on_part(
         which,
         vertex: part.vertex,
     };
-    let found = vpg_why::needs(alloc, &part.order, aim, limits)?;
+    let found = vpg_why::needs(alloc, &part.order, aim, on_part(limits))?;
     if are_exact(&found) {
         return Ok(Some(found));
     }

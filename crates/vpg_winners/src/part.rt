@@ -9,6 +9,7 @@ use vpg_guess::{Groundwork, harvest_by_bounds};
 use vpg_measure::laws::orders::zeros_are_opening;
 use vpg_measure::{Order, OrderFault, Shape, Table};
 use vpg_open::{Reached, is_open, open_game, reached_game};
+use vpg_why::Limits;
 
 /// An order on a part of a game, and the place of a vertex there.
 #[derive(Drop)]
@@ -19,6 +20,15 @@ pub(crate) struct PartOrder {
 
 // The edges and vertices that bounds may look at for the tables of a part.
 const LOOKS: u64 = 33_554_432;
+
+/// Returns the limits of a search on a part: it has a quarter of the looks, since the whole game may come after it.
+pub(crate) fn on_part(limits: Limits) -> Limits {
+    Limits {
+        budget: limits.budget / 4,
+        rounds: limits.rounds,
+        trials: limits.trials,
+    }
+}
 
 // Whether some vertex has a verdict.
 fn has_verdicts(order: &Order) -> bool {
