@@ -21,10 +21,10 @@ pub(crate) struct PartOrder {
 // The edges and vertices that bounds may look at for the tables of a part.
 const LOOKS: u64 = 33_554_432;
 
-/// Returns the limits of a search on a part: it has a quarter of the looks, since the whole game may come after it.
+/// Returns the limits of a search on a part: it has half of the looks, since the whole game may come after it.
 pub(crate) fn on_part(limits: Limits) -> Limits {
     Limits {
-        budget: limits.budget / 4,
+        budget: limits.budget / 2,
         rounds: limits.rounds,
         trials: limits.trials,
     }
