@@ -107,6 +107,8 @@ fn placed(game: &GuardedGame, vertex: u32, part: GuardedGame) -> Option<Reached>
 /// Returns the part of the game that plays from the vertex can come to, in whatever product, and the vertex's place
 /// there. Its vertices keep identifiers, owners, priorities, edges and their order. In each product the same player
 /// wins from the vertex. Returns nothing if it could not make the part a game.
+///
+/// What is left out is speed alone: no clause says how small the part is, or that there is one.
 pub fn reached_game(
     alloc: Global,
     game: &GuardedGame,
