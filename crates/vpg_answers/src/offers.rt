@@ -76,7 +76,7 @@ fn line_of(alloc: Global, order: &Order, vertex: u32, limits: Limits) -> Result<
     ensures { IfOk result
         (IsShared order.now.game order.now.diagram vertex (choices order.now.decisions)) }
 {
-    let (won, lost) = both_findings(alloc, order, vertex)?;
+    let (won, lost) = both_findings(alloc, order, vertex, limits)?;
     Ok(Shared {
         looks: limits.budget,
         trials: limits.trials,

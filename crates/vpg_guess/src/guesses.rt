@@ -19,8 +19,11 @@ use vpg_values::{
     value_in,
 };
 
-/// The number of times that lifts may look at all edges and vertices in a turn; and the number of turns.
-const LOOKS: u64 = 4;
+/// The number of times that lifts may look at all edges and vertices in a turn, and in a turn of a part; and the number
+/// of turns.
+const LOOKS: u64 = 8;
+
+const PART_LOOKS: u64 = 4;
 
 const TURNS: u32 = 24;
 
@@ -30,11 +33,15 @@ const LAST_TURNS: u32 = 12;
 /// The number of turns that guess the moving vertices alone.
 const PART_TURNS: u32 = 8;
 
-/// A turn of lifts ends if as many vertices wait as before, after looks at one in this many of all edges and vertices.
-/// A guess of the moving vertices alone costs less than one of all.
+/// A turn of lifts ends if as many vertices wait as before, after looks at one in this many of all edges and vertices,
+/// or after this many for each vertex that waits. A guess of the moving vertices alone costs less than one of all.
 const PATIENCE: u64 = 2;
 
 const PART_PATIENCE: u64 = 8;
+
+const LOOKS_EACH: u64 = 1024;
+
+const PART_LOOKS_EACH: u64 = 128;
 
 // The vertices at which bounds exceed a table.
 fn rising_to(alloc: Global, table: &[u64], bounds: &[u64]) -> Result<Vec<u32>, AllocError> {
@@ -190,7 +197,7 @@ impl Raising<'_> {
         let lifts = ground.lifts();
         let patience = Patience {
             most: lifts.looks(1) / PATIENCE,
-            is_hurried: false,
+            each: LOOKS_EACH,
         };
         let looks = lifts.looks(LOOKS);
         for turn in 0..TURNS {
@@ -201,7 +208,7 @@ impl Raising<'_> {
             if LAST_TURNS <= turn {
                 waiting.wake_the_rest(lifts, self.table.values());
             }
-            let moving = waiting.moving(self.alloc, lifts)?;
+            let moving = waiting.whole(self.alloc, lifts, self.table.values())?;
             if moving.is_empty() || budget.is_spent() {
                 break;
             }
@@ -265,9 +272,9 @@ impl Raising<'_> {
         }
         let patience = Patience {
             most: ground.looks(1) / PART_PATIENCE,
-            is_hurried: true,
+            each: PART_LOOKS_EACH,
         };
-        let looks = ground.looks(LOOKS);
+        let looks = ground.looks(PART_LOOKS);
         let mut last = 0;
         for _ in 0..PART_TURNS {
             self.lift_remaining(ground, waiting, looks, patience, budget);

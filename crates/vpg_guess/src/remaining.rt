@@ -29,9 +29,7 @@ const MOST: u32 = 8;
 /// The number of times that a vertex rises in the first turn before it is guessed to climb.
 const CLIMBS: u8 = 2;
 
-/// A hurried turn ends after this many looks for each vertex that waits, and for a few more.
-const LOOKS_EACH: u64 = 128;
-
+/// A turn's looks for each vertex that waits are also for a few more.
 const FEW: u64 = 16;
 
 /// The vertices that go round are guessed at alone if they are less than one in this many of those that move; and again
@@ -42,18 +40,15 @@ const LOCAL: usize = 16;
 #[derive(Clone, Copy)]
 pub(crate) struct Patience {
     pub(crate) most: u64,
-    /// Whether it is less if few wait, since they go round soon.
-    pub(crate) is_hurried: bool,
+    /// The number for each vertex that waits: where few do, they go round soon.
+    pub(crate) each: u64,
 }
 
 impl Patience {
     // The number while this many wait.
     fn at(self, count: usize) -> u64 {
-        if !self.is_hurried {
-            return self.most;
-        }
         let waiting = (count as u64).saturating_add(FEW);
-        self.most.min(waiting.saturating_mul(LOOKS_EACH))
+        self.most.min(waiting.saturating_mul(self.each))
     }
 }
 
@@ -162,7 +157,7 @@ impl Waiting {
 
     /// Whether most vertices wait.
     pub(crate) fn are_most(&self, ground: LiftGround<'_>) -> bool {
-        ground.vertices() as usize / 2 < self.waits.size()
+        ground.are_most(self.waits.size())
     }
 
     /// Begins with rounds of lifts: all wait that are below the top.
@@ -264,11 +259,44 @@ impl Waiting {
         ground: LiftGround<'_>,
     ) -> Result<Vec<u32>, AllocError> {
         let moving = self.moving(alloc, ground)?;
+        if ground.is_small_part(moving.len()) {
+            self.local(alloc, moving)
+        } else {
+            Ok(moving)
+        }
+    }
+
+    /// Returns the vertices for a guess at the whole: those that move, or those of them that go round, if these are far
+    /// fewer; but all below the top, if most move.
+    pub(crate) fn whole(
+        &mut self,
+        alloc: Global,
+        ground: LiftGround<'_>,
+        table: &[u64],
+    ) -> Result<Vec<u32>, AllocError> {
+        if self.are_most(ground) {
+            self.move_all();
+            return below_top(alloc, ground, table);
+        }
+        let moving = self.moving(alloc, ground)?;
+        if ground.are_most(moving.len()) {
+            below_top(alloc, ground, table)
+        } else {
+            self.local(alloc, moving)
+        }
+    }
+
+    // Ends a turn in which all are guessed to move.
+    fn move_all(&mut self) {
+        self.is_climbing = false;
+        self.climbs = 1;
+        self.moved.fill(self.turn);
+    }
+
+    // Those that move, or those of them that go round, if these are far fewer.
+    fn local(&mut self, alloc: Global, moving: Vec<u32>) -> Result<Vec<u32>, AllocError> {
         let round = self.round_of(alloc, &moving)?;
-        if ground.is_small_part(moving.len())
-            && round.len() < moving.len() / LOCAL
-            && round.len() <= self.round / 2
-        {
+        if round.len() < moving.len() / LOCAL && round.len() <= self.round / 2 {
             self.round = round.len();
             Ok(round)
         } else {
@@ -297,6 +325,17 @@ impl Waiting {
             }
         }
     }
+}
+
+// The vertices below the top.
+fn below_top(alloc: Global, ground: LiftGround<'_>, table: &[u64]) -> Result<Vec<u32>, AllocError> {
+    let mut below = Found::none(alloc);
+    for v in 0..ground.vertices() {
+        if value_in(table, v) < ground.even.top {
+            below.add(v);
+        }
+    }
+    below.list()
 }
 
 /// The number of asked vertices that would rise.

@@ -1,5 +1,5 @@
 -- The entries of a game with some vertices won at once are within the limits, and make it.
-use Rattle.std.proofs.Common.{◌≡◌, ℕ, zero, suc, ◌+◌, ◌<◌, ◌≤◌, List, [], ◌∷◌, ◌++◌, length, take, get_or, Option, Some, None, All, refl, sym, ap, ap₂, subst, ◌∙◌, arith}
+use Rattle.std.proofs.Common.{◌≡◌, ℕ, zero, suc, ◌+◌, ◌<◌, ◌≤◌, List, [], ◌∷◌, ◌++◌, length, take, get_or, Option, Some, None, All, Contains, refl, sym, ap, ap₂, subst, ◌∙◌, arith}
 use Rattle.std.proofs.lemmas.List.{length-map, get_or-map, take_all, take_more}
 use Rattle.vpg_sides.specs.declared.player.Player.{Player}
 use Rattle.vpg_guards.specs.Formula.{Formula}
@@ -174,3 +174,8 @@ pub same_graph_length : (game : NamedGame) (winners : Winners) →
     length (graph_of (settled_game game winners)) ≡ length (graph_of game)
 same_graph_length game winners =
     same_count (settled_game game winners) ∙ same_length game.vertices winners ∙ sym (same_count game)
+
+pub settled_low : (game : NamedGame) (winners : Winners) → (IsAtLimit game → ⊥) →
+    IsAtLimit (settled_game game winners) → ⊥
+settled_low game winners low h =
+    low (subst (λ (ps : List ℕ). Contains ps 65536) (priorities_stay game.vertices winners) h)

@@ -22,7 +22,7 @@ one_winner game Even v h k = not_both game h.0 k.0 v h.1 k.1
 one_winner game Odd v h k = not_both game k.0 h.0 v k.1 h.1
 
 -- a strategy that wins from a vertex wins from each one that its plays reach
-wins_there : (game : Game) (player : Player) (strategy : Strategy) (v u : ℕ) → Wins game player strategy v →
+pub wins_there : (game : Game) (player : Player) (strategy : Strategy) (v u : ℕ) → Wins game player strategy v →
     Reaches game player strategy v u → Wins game player strategy u
 wins_there game player strategy v u wins r = record {
   can_move = λ x q. wins.can_move x (reaches_trans game player strategy r q);

@@ -1,2 +1,3 @@
 pub mod SettledGames
 pub mod OpenVertices
+pub mod ReachedGames

@@ -37,7 +37,7 @@ fn successors(
 }
 
 // The entry of a vertex. With a winner it belongs to the other player, and has no successor.
-fn entry(
+pub(crate) fn entry(
     alloc: Global,
     game: &GuardedGame,
     v: u32,
@@ -96,6 +96,7 @@ pub fn settled(
     ensures made { IfOk result (λ made. made ≡ settled_game game.now winners.now) }
     ensures features { IfOk result (λ made. made.features ≡ game.now.features) }
     ensures vertices { IfOk result (λ made. length (graph_of made) ≡ length (graph_of game.now)) }
+    ensures limit { IfOk result (λ made. ¬ (IsAtLimit made)) }
     // In each product in which the winners win, it has the winners of the game.
     ensures wins { IfOk result (λ made. (p : List Bool) → AreWinnersIn (graph_of game.now) winners.now p →
         HasSameWinners (graph_of game.now) (graph_of made) p) }

@@ -1,6 +1,6 @@
 //! The game of an order with all verdicts won at once.
 ghost use Rattle.std.specs.Prelude.{◌≡◌, ◌<◌, ℕ, List, [], Bool, length, IfOk};
-ghost use Rattle.vpg_game.specs.Game.{graph_of, vertex_in};
+ghost use Rattle.vpg_game.specs.Game.{IsAtLimit, graph_of, vertex_in};
 ghost use Rattle.vpg_open.specs.OpenVertices.{IsOpenVertex, IsLeft};
 ghost use Rattle.vpg_open.specs.SettledGames.{HasSameWinners};
 
@@ -16,6 +16,7 @@ use vpg_measure::Order;
 pub fn open_game(alloc: Global, order: &Order) -> Result<GuardedGame, AllocError>
     ensures features { IfOk result (λ made. made.features ≡ order.now.game.features) }
     ensures vertices { IfOk result (λ made. length (graph_of made) ≡ length (graph_of order.now.game)) }
+    ensures limit { IfOk result (λ made. ¬ (IsAtLimit made)) }
     ensures open { IfOk result (λ made. (v : ℕ) → v < length (graph_of made) → IsOpenVertex order.now v →
         vertex_in (graph_of made) v ≡ vertex_in (graph_of order.now.game) v) }
     ensures others { IfOk result (λ made. (v : ℕ) → v < length (graph_of made) → (IsOpenVertex order.now v → ⊥) →

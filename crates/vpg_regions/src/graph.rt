@@ -420,6 +420,22 @@ impl Graph {
         predecessors
     }
 
+    /// Returns some vertices in another order: those of greater priorities come first.
+    pub fn by_priority(&self, alloc: Global, vertices: &[u32]) -> Result<Vec<u32>, AllocError> {
+        let greatest = self.greatest_priority(vertices);
+        let mut counts = vec![in alloc; 0u32; (greatest as usize).saturating_add(1)]?;
+        for v in vertices {
+            count_each(&[greatest.saturating_sub(self.priority(*v))], &mut counts);
+        }
+        places_before(&mut counts);
+        let mut sorted = vec![in alloc; 0u32; vertices.len()]?;
+        for v in vertices {
+            let below = greatest.saturating_sub(self.priority(*v));
+            put_back(*v, &[below], &mut counts, &mut sorted);
+        }
+        Ok(sorted)
+    }
+
     /// Returns the greatest priority of some vertices.
     pub fn greatest_priority(&self, vertices: &[u32]) -> u32 {
         let mut greatest = 0;

@@ -103,13 +103,15 @@ impl Choices {
     }
 }
 
-/// The number of vertices in a word of a set.
+/// The number of bits in a word of a set.
 const WORD: u32 = 64;
 
 /// Some of the vertices, a bit for each, so that a sparse set reads few words. It has no vertex past the last one;
 /// adding one there has no effect.
 pub struct VertexSet {
     words: Vec<u64>,
+    // a bit for each word that has a vertex
+    used: Vec<u64>,
     // the number of its vertices
     size: usize,
 }
@@ -117,20 +119,45 @@ pub struct VertexSet {
 // Not derived: a derived `drop` would be proved again at each exit that owns such a value.
 impl Drop for VertexSet {
     fn drop(self) {
-        let VertexSet { words: _, size: _ } = self;
+        let VertexSet {
+            words: _,
+            used: _,
+            size: _,
+        } = self;
     }
 }
 
-// Its bit in its word.
+// A number's bit in its word.
 fn bit_of(v: u32) -> u64 {
     1u64 << (v % WORD)
+}
+
+// The first bit of these words from this one on.
+fn first_bit(words: &[u64], from: u32) -> Option<u32> {
+    let mut at = from / WORD;
+    let mut word = words.get(at as usize)? & (u64::MAX << (from % WORD));
+    for _ in 0..words.len() {
+        if word != 0 {
+            break;
+        }
+        at = at.saturating_add(1);
+        word = *words.get(at as usize)?;
+    }
+    Some(
+        at.saturating_mul(WORD)
+            .saturating_add(word.trailing_zeros()),
+    )
 }
 
 impl VertexSet {
     /// Returns the empty set, for this many vertices.
     pub fn none(alloc: Global, vertices: u32) -> Result<VertexSet, AllocError> {
-        let words = vec![in alloc; 0u64; vertices.div_ceil(WORD) as usize]?;
-        Ok(VertexSet { words, size: 0 })
+        let count = vertices.div_ceil(WORD);
+        Ok(VertexSet {
+            words: vec![in alloc; 0u64; count as usize]?,
+            used: vec![in alloc; 0u64; count.div_ceil(WORD) as usize]?,
+            size: 0,
+        })
     }
 
     /// Returns the number of its vertices.
@@ -151,6 +178,15 @@ impl VertexSet {
         if at < self.words.len() && self.words[at] & bit_of(v) == 0 {
             self.words[at] |= bit_of(v);
             self.size = self.size.saturating_add(1);
+            self.note_used(v / WORD);
+        }
+    }
+
+    // Notes that a word has a vertex.
+    fn note_used(&mut self, word: u32) {
+        let at = (word / WORD) as usize;
+        if at < self.used.len() {
+            self.used[at] |= bit_of(word);
         }
     }
 
@@ -160,6 +196,17 @@ impl VertexSet {
         if at < self.words.len() && self.words[at] & bit_of(v) != 0 {
             self.words[at] ^= bit_of(v);
             self.size = self.size.saturating_sub(1);
+            if self.words[at] == 0 {
+                self.note_unused(v / WORD);
+            }
+        }
+    }
+
+    // Notes that a word, which had a vertex, has none.
+    fn note_unused(&mut self, word: u32) {
+        let at = (word / WORD) as usize;
+        if at < self.used.len() {
+            self.used[at] ^= bit_of(word);
         }
     }
 
@@ -167,11 +214,8 @@ impl VertexSet {
     pub fn first_from(&self, v: u32) -> Option<u32> {
         let mut at = v / WORD;
         let mut word = self.words.get(at as usize)? & (u64::MAX << (v % WORD));
-        for _ in 0..self.words.len() {
-            if word != 0 {
-                break;
-            }
-            at = at.saturating_add(1);
+        if word == 0 {
+            at = first_bit(&self.used, at.saturating_add(1))?;
             word = *self.words.get(at as usize)?;
         }
         Some(

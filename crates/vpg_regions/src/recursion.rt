@@ -5,7 +5,8 @@ use crate::solution::{Solution, player_of};
 use std::alloc::{AllocError, Global};
 use vpg_sides::Player;
 
-// A game on the stack: its vertices, and those found to be won by the player against whom its greatest priority is.
+// A game on the stack: its vertices, those of greater priorities first, and those found to be won by the player against
+// whom its greatest priority is.
 struct Game {
     all: Vec<u32>,
     gone: Vec<u32>,
@@ -43,7 +44,7 @@ enum Frame {
 }
 
 impl Game {
-    // The vertices of the greatest priority, which lose their choices with all others.
+    // The vertices of the greatest priority, which come first. They lose their choices.
     fn begin(
         &self,
         alloc: Global,
@@ -52,10 +53,11 @@ impl Game {
     ) -> Result<Vec<u32>, AllocError> {
         let mut seed = Found::none(alloc);
         for v in &self.all {
-            solution.choice.set(*v, None);
-            if solution.graph.priority(*v) == greatest {
-                seed.add(*v);
+            if solution.graph.priority(*v) != greatest {
+                break;
             }
+            solution.choice.set(*v, None);
+            seed.add(*v);
         }
         seed.list()
     }
@@ -145,12 +147,12 @@ fn descend(
     game: Game,
     budget: &mut Budget,
 ) -> Result<(), AllocError> {
-    if game.all.is_empty() {
+    let Some(first) = game.all.first() else {
         solution.revive(&game.gone);
         return Ok(());
-    }
+    };
+    let greatest = solution.graph.priority(*first);
     budget.spend(game.all.len());
-    let greatest = solution.graph.greatest_priority(&game.all);
     let player = player_of(greatest);
     let attracted = game.attracted(alloc, solution, greatest, player, budget)?;
     let inner = solution.living(alloc, &game.all)?;
@@ -220,8 +222,12 @@ pub fn solve_by_recursion(
     budget: &mut Budget,
 ) -> Result<bool, AllocError> {
     let mut stack = Vec::new(alloc);
-    let all = solution.living(alloc, vertices)?;
-    open(alloc, &mut stack, all)?;
+    let living = solution.living(alloc, vertices)?;
+    open(
+        alloc,
+        &mut stack,
+        solution.graph.by_priority(alloc, &living)?,
+    )?;
     run(alloc, solution, &mut stack, budget)?;
     forget(solution, &stack);
     Ok(stack.is_empty())

@@ -210,7 +210,7 @@ impl<'a> Solution<'a> {
 
     /// Returns those of some vertices that are in the present game.
     pub fn living(&self, alloc: Global, vertices: &[u32]) -> Result<Vec<u32>, AllocError> {
-        let mut living = Found::none(alloc);
+        let mut living = Found::with(Vec::with_capacity(alloc, vertices.len())?);
         for v in vertices {
             if self.alive.get(*v) {
                 living.add(*v);

@@ -424,6 +424,19 @@ impl Learning {
         Ok(true)
     }
 
+    // The number of those closed vertices that are of the region's priority. They come first, and all lead there.
+    fn heads_of(&self, graph: &Graph, closed: &[u32]) -> usize {
+        let priority = graph.greatest_priority(closed.get(..1).unwrap_or(&[]));
+        let mut count = 0usize;
+        for v in closed {
+            if graph.priority(*v) != priority {
+                break;
+            }
+            count = count.saturating_add(1);
+        }
+        count
+    }
+
     // Learns the tangles among the closed vertices of a region.
     fn learn_all(
         &mut self,
@@ -438,7 +451,9 @@ impl Learning {
             player: Some(player),
             choice: &solution.choice,
         };
-        self.components.search(&moves, closed, budget)?;
+        let heads = self.heads_of(solution.graph, closed);
+        self.components
+            .search_from_first(&moves, closed, heads, budget)?;
         let mut from = 0;
         for at in 0..self.components.ends.len() {
             let Some(to) = self.components.ends.get(at) else {

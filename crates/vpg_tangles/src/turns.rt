@@ -3,7 +3,8 @@
 use crate::learning::solve_by_tangles;
 use std::alloc::{AllocError, Global};
 use vpg_regions::{
-    Budget, Components, Graph, Moves, Regions, Solution, solve_by_recursion, solve_by_weights,
+    Budget, Components, Found, Graph, Moves, Regions, Solution, solve_by_recursion,
+    solve_by_weights,
 };
 use vpg_sides::Player;
 
@@ -21,6 +22,11 @@ const GRAPH_PASSES: u64 = 5;
 const FIRST_TURN: u64 = 32;
 
 const LEAST_TURN: u64 = 1 << 20;
+
+/// Components of more than one vertex and of at most this many are solved together, up to so many vertices.
+const SMALL: usize = 8;
+
+const TOGETHER: usize = 4096;
 
 // How a game is solved.
 #[derive(Clone, Copy, PartialEq, Eq)]
@@ -137,7 +143,29 @@ fn solve_between(
     solve_component(alloc, solution, first, &members, budget)
 }
 
-// Solves the present game component by component, until one is not solved. The solved ones are easier than the rest.
+// The ends of groups of components. Small ones that follow one another are a group, which ends before it would have too
+// many vertices; each other component is a group.
+fn grouped(alloc: Global, ends: &[usize]) -> Result<Vec<usize>, AllocError> {
+    let mut groups = Found::none(alloc);
+    let mut from = 0;
+    let mut last = 0;
+    let mut was_small = false;
+    for end in ends {
+        let count = end.saturating_sub(last);
+        let is_small = 1 < count && count <= SMALL;
+        if from < last && !(was_small && is_small && end.saturating_sub(from) <= TOGETHER) {
+            groups.add(last);
+            from = last;
+        }
+        last = *end;
+        was_small = is_small;
+    }
+    groups.add(last);
+    groups.list()
+}
+
+// Solves the present game component by component, small ones together, until one is not solved. The solved ones are
+// easier than the rest.
 fn solve_apart(
     alloc: Global,
     solution: &mut Solution<'_>,
@@ -148,7 +176,7 @@ fn solve_apart(
     let components = components_of(alloc, solution, &living, budget)?;
     solution.leave(&living);
     let mut from = 0;
-    for to in components.ends.items() {
+    for to in &grouped(alloc, components.ends.items())? {
         if !solve_between(alloc, solution, &components, from, *to, budget)? {
             break;
         }

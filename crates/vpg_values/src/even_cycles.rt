@@ -15,27 +15,11 @@ pub struct Level<'a> {
     pub values: &'a PerVertex<u64>,
 }
 
-// One vertex for each even priority that occurs among some vertices, greatest first.
-fn one_of_each_even(
-    alloc: Global,
-    graph: &Graph,
-    vertices: &[u32],
-) -> Result<Vec<u32>, AllocError> {
-    let greatest = graph.greatest_priority(vertices);
-    let mut of_priority = PerVertex::of(alloc, greatest.saturating_add(1), None)?;
-    for v in vertices {
-        of_priority.set(graph.priority(*v), Some(*v));
-    }
-    let mut each = Found::none(alloc);
-    for below in 0..=greatest {
-        let priority = greatest.saturating_sub(below);
-        if let Some(v) = of_priority.get(priority)
-            && priority % 2 == 0
-        {
-            each.add(v);
-        }
-    }
-    each.list()
+// A vertex, and the greatest even priority at which it may fall.
+#[derive(Clone, Copy)]
+struct Fall {
+    v: u32,
+    greatest: u32,
 }
 
 impl<'a> Level<'a> {
@@ -45,17 +29,62 @@ impl<'a> Level<'a> {
             && self.scale.cut(value_in(self.table, v), weight) < self.scale.cut(value, weight)
     }
 
-    // The vertices of the region up to this vertex's priority that exceed the table above it; none if no vertex of that
-    // priority does.
-    fn falling(&self, alloc: Global, region: &[u32], even: u32) -> Result<Vec<u32>, AllocError> {
+    // The even priorities that occur among some vertices, greatest first, each with one such vertex.
+    fn evens(&self, alloc: Global, region: &[u32]) -> Result<Vec<u32>, AllocError> {
+        let greatest = self.graph.greatest_priority(region);
+        let mut of_priority = PerVertex::of(alloc, greatest.saturating_add(1), None)?;
+        for v in region {
+            of_priority.set(self.graph.priority(*v), Some(*v));
+        }
+        let mut each = Found::none(alloc);
+        for below in 0..=greatest {
+            let priority = greatest.saturating_sub(below);
+            if priority % 2 == 0
+                && let Some(v) = of_priority.get(priority)
+            {
+                each.add(v);
+            }
+        }
+        each.list()
+    }
+
+    // The greatest even priority at which v may fall, if it is not below that of v.
+    fn greatest_fall(&self, v: u32, evens: &[u32]) -> Option<u32> {
+        let mut greatest = None;
+        for even in evens.iter().rev() {
+            let priority = self.graph.priority(*even);
+            if self.graph.priority(v) <= priority {
+                if !self.may_fall(v, self.scale.weight(*even)) {
+                    break;
+                }
+                greatest = Some(priority);
+            }
+        }
+        greatest
+    }
+
+    // The vertices of the region that may fall at some even priority, and the greatest such priority of each.
+    fn falls(&self, alloc: Global, region: &[u32], evens: &[u32]) -> Result<Vec<Fall>, AllocError> {
+        let mut falls = Found::none(alloc);
+        for v in region {
+            if let Some(greatest) = self.greatest_fall(*v, evens) {
+                falls.add(Fall { v: *v, greatest });
+            }
+        }
+        falls.list()
+    }
+
+    // Those up to this vertex's priority that may fall there; none if no vertex of that priority does. Where one may
+    // fall, it may at each lesser even priority.
+    fn falling(&self, alloc: Global, falls: &[Fall], even: u32) -> Result<Vec<u32>, AllocError> {
         let limit = self.graph.priority(even);
-        let weight = self.scale.weight(even);
         let mut falling = Found::none(alloc);
         let mut attained = false;
-        for v in region {
-            if self.graph.priority(*v) <= limit && self.may_fall(*v, weight) {
-                attained = attained || self.graph.priority(*v) == limit;
-                falling.add(*v);
+        for fall in falls {
+            let priority = self.graph.priority(fall.v);
+            if priority <= limit && limit <= fall.greatest {
+                attained = attained || priority == limit;
+                falling.add(fall.v);
             }
         }
         if !attained {
@@ -125,15 +154,15 @@ impl<'a> Level<'a> {
         Ok(Some(choices.list()?))
     }
 
-    // Choices of Even in a region that go round cycles of one even priority, if it wins by some.
+    // Choices of Even that go round cycles of one even priority, if it wins by some.
     fn choices_at(
         &self,
         alloc: Global,
-        region: &[u32],
+        falls: &[Fall],
         even: u32,
         budget: &mut Budget,
     ) -> Result<Option<Vec<(u32, u32)>>, AllocError> {
-        let falling = self.falling(alloc, region, even)?;
+        let falling = self.falling(alloc, falls, even)?;
         if falling.is_empty() {
             return Ok(None);
         }
@@ -148,12 +177,14 @@ impl<'a> Level<'a> {
         region: &[u32],
         budget: &mut Budget,
     ) -> Result<Vec<(u32, u32)>, AllocError> {
-        for even in &one_of_each_even(alloc, self.graph, region)? {
+        let evens = self.evens(alloc, region)?;
+        let falls = self.falls(alloc, region, &evens)?;
+        for even in &evens {
             if budget.is_spent() {
                 break;
             }
-            budget.spend(region.len());
-            if let Some(choices) = self.choices_at(alloc, region, *even, budget)? {
+            budget.spend(falls.len());
+            if let Some(choices) = self.choices_at(alloc, &falls, *even, budget)? {
                 return Ok(choices);
             }
         }

@@ -23,6 +23,11 @@ impl LiftGround<'_> {
         self.predecessors.size().saturating_mul(each)
     }
 
+    /// Whether this many vertices are most of all.
+    pub fn are_most(self, count: usize) -> bool {
+        self.vertices() as usize / 2 < count
+    }
+
     /// Whether this many vertices are a small part of all.
     pub fn is_small_part(self, count: usize) -> bool {
         count < self.vertices() as usize / SMALL_PART

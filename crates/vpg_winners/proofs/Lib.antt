@@ -20,3 +20,4 @@ pub mod Marking
 pub mod Shares
 pub mod MetSets
 pub mod Learned
+pub mod PartLaws

@@ -10,3 +10,4 @@ pub mod Numbered
 pub mod Pairs
 pub mod Finding
 pub mod Gathering
+pub mod OpenParts

@@ -1,20 +1,22 @@
 //! Products that meet an aim, by the set of all that do.
-ghost use Rattle.std.specs.Prelude.{◌≡◌, ◌<◌, length, IfOk, IfSome};
+ghost use Rattle.std.specs.Prelude.{◌≡◌, ◌<◌, length, IfOk, IfSome, IsTrue};
 ghost use Rattle.vpg_diagram.specs.FeatureDiagram.{feature_count};
 ghost use Rattle.vpg_sets.specs.Sets.{IsInside};
 ghost use Rattle.vpg_why.specs.Explained.{choices};
 ghost use Rattle.vpg_why.specs.Found.{IsFound, IsFoundExact, IsWhyLost, IsWhyLostExact, IsWhyLostShown};
 ghost use Rattle.vpg_why.specs.Suffices.{EachIsSettled, IsAim, IsSettled};
 ghost use Rattle.vpg_winners.specs.Finding.{IsFirstFound, IsSetOfMet};
+ghost use Rattle.vpg_winners.specs.OpenParts.{IsPartOf};
 
 use crate::dividing::Effort;
+use crate::part::{on_part, order_on, part_of};
 use crate::two_sets::{TwoSets, two_sets};
 use std::alloc::{AllocError, Global};
 use vpg_measure::Order;
-use vpg_open::is_open;
+use vpg_open::{Reached, is_open};
 use vpg_sets::{Set, Sets};
 use vpg_sides::Which;
-use vpg_why::{Aim, Example, Found, Limits, Question, WhyLost};
+use vpg_why::{Aim, Example, Found, Limits, Question, WhyLost, is_small};
 
 /// The products that meet an aim, as a set, and its arena.
 #[derive(Drop)]
@@ -50,14 +52,30 @@ fn side(two: TwoSets, which: Which) -> Met
     }
 }
 
-/// Returns the products that are left as two sets, by the winner at the vertex. Returns nothing if the vertex is not
-/// open on the page, or if a limit is met.
+/// Returns the part that decides the vertex, or nothing if it is not open on the page.
+pub(crate) fn open_part(
+    alloc: Global,
+    order: &Order,
+    vertex: u32,
+) -> Result<Option<Reached>, AllocError>
+    requires { vertex < length order.now.game.vertices }
+    ensures { IfOk result (λ found. IfSome found (λ part. IsPartOf order.now vertex part.game part.vertex)) }
+{
+    if !is_open(order, vertex) {
+        return Ok(None);
+    }
+    let found = part_of(alloc, order, vertex)?;
+    Ok(found)
+}
+
+/// Returns the products that are left as two sets, by the winner at the vertex. Returns nothing if a limit is met.
 pub(crate) fn sets_at(
     alloc: Global,
     order: &Order,
     vertex: u32,
+    part: &Reached,
 ) -> Result<Option<TwoSets>, AllocError>
-    requires { vertex < length order.now.game.vertices }
+    requires { IsPartOf order.now vertex part.now.game part.now.vertex }
     ensures features { IfOk result
         (λ found. IfSome found (λ two. feature_count order.now.diagram.lines ≡ two.sets.features)) }
     ensures won_inside { IfOk result (λ found. IfSome found (λ two. IsInside two.sets two.won)) }
@@ -67,65 +85,132 @@ pub(crate) fn sets_at(
     ensures lost { IfOk result (λ found. IfSome found (λ two. IsSetOfMet order.now.game order.now.diagram
         (Aim.Won Which.Dual vertex) (choices order.now.decisions) two.sets two.lost)) }
 {
-    if !is_open(order, vertex) {
-        return Ok(None);
-    }
-    let found = two_sets(alloc, order, vertex, Effort::First)?;
+    let found = two_sets(alloc, order, vertex, part, Effort::First)?;
     Ok(found)
 }
 
-// The products that are left and are won at an open vertex, as a set; nothing if a limit is met or it is not open.
-fn met_at(
+/// Returns the products that are left and are won at the vertex, as a set. Returns nothing if a limit is met.
+pub(crate) fn met_at(
     alloc: Global,
     order: &Order,
     which: Which,
     vertex: u32,
+    part: &Reached,
 ) -> Result<Option<Met>, AllocError>
-    requires { vertex < length order.now.game.vertices }
+    requires { IsPartOf order.now vertex part.now.game part.now.vertex }
     ensures inside { IfOk result (λ found. IfSome found (λ met. IsInside met.sets met.set)) }
     ensures met { IfOk result (λ found. IfSome found (λ met. IsSetOfMet order.now.game order.now.diagram
         (Aim.Won which vertex) (choices order.now.decisions) met.sets met.set)) }
 {
-    match sets_at(alloc, order, vertex)? {
+    match sets_at(alloc, order, vertex, part)? {
         Some(two) => Ok(Some(side(two, which))),
         None => Ok(None),
     }
 }
 
-/// Returns the products that are left and meet the aim, as a set. Returns nothing if the aim is any product, if the
-/// vertex is not open on the page, or if a limit is met.
-pub(crate) fn met_set(alloc: Global, order: &Order, aim: Aim) -> Result<Option<Met>, AllocError>
-    requires { IsAim order.now.game aim }
-    ensures inside { IfOk result (λ found. IfSome found (λ met. IsInside met.sets met.set)) }
-    ensures met { IfOk result (λ found. IfSome found (λ met. IsSetOfMet order.now.game order.now.diagram aim
-        (choices order.now.decisions) met.sets met.set)) }
+// Whether a result met no limit.
+fn is_exact(found: &Found) -> bool
+    ensures { IsTrue result → IsFoundExact found.now }
 {
-    match aim {
-        Aim::Any => Ok(None),
-        Aim::Won { which, vertex } => met_at(alloc, order, which, vertex),
+    match found {
+        Found::Product(example) => example.first,
+        Found::Nothing => true,
+        Found::Unsettled => false,
     }
 }
 
-// A product that is left and meets the aim, or that there is none, by the set of all that do.
-fn find_by_sets(alloc: Global, order: &Order, aim: Aim) -> Result<Option<Found>, AllocError>
+// A product that is won at the vertex, by a search on the part. Returns nothing if a search on the whole game has to
+// show more.
+fn search_part(
+    alloc: Global,
+    order: &Order,
+    which: Which,
+    vertex: u32,
+    part: Reached,
+    limits: Limits,
+) -> Result<Option<Found>, AllocError>
+    requires { IsPartOf order.now vertex part.game part.vertex }
+    ensures found { IfOk result (λ found. IfSome found
+        (IsFound order.now.game order.now.diagram (Aim.Won which vertex) (choices order.now.decisions))) }
+    ensures settled { IfOk result (λ found. IfSome found (λ found.
+        IsSettled order.now.game order.now.diagram limits (Question.Lost (Aim.Won which vertex))
+        (choices order.now.decisions) → IsFoundExact found)) }
+{
+    // Properties of every order, for the proof.
+    let _order = order.game();
+    let part = match order_on(alloc, order, vertex, part)? {
+        Some(part) => part,
+        None => return Ok(None),
+    };
+    let aim = Aim::Won {
+        which,
+        vertex: part.vertex,
+    };
+    let found = vpg_why::find(alloc, &part.order, aim, on_part(limits))?;
+    if is_exact(&found) {
+        return Ok(Some(found));
+    }
+    if is_small(alloc, order, order.decisions(), limits)? {
+        return Ok(None);
+    }
+    Ok(Some(found))
+}
+
+// A product that is left and won at the vertex, or that there is none. Returns nothing if the vertex is not open, or a
+// search on the whole game has to show more.
+fn find_at(
+    alloc: Global,
+    order: &Order,
+    which: Which,
+    vertex: u32,
+    limits: Limits,
+) -> Result<Option<Found>, AllocError>
+    requires { vertex < length order.now.game.vertices }
+    ensures found { IfOk result (λ found. IfSome found
+        (IsFound order.now.game order.now.diagram (Aim.Won which vertex) (choices order.now.decisions))) }
+    ensures settled { IfOk result (λ found. IfSome found (λ found.
+        IsSettled order.now.game order.now.diagram limits (Question.Lost (Aim.Won which vertex))
+        (choices order.now.decisions) → IsFoundExact found)) }
+{
+    let part = match open_part(alloc, order, vertex)? {
+        Some(part) => part,
+        None => return Ok(None),
+    };
+    if let Some(met) = met_at(alloc, order, which, vertex, &part)? {
+        let found = first_found(alloc, &met.sets, met.set)?;
+        return Ok(Some(found));
+    }
+    let found = search_part(alloc, order, which, vertex, part, limits)?;
+    Ok(found)
+}
+
+// A product that is left and meets the aim, or that there is none. Returns nothing for any product, if the vertex is
+// not open, or if a search on the whole game has to show more.
+fn find_open(
+    alloc: Global,
+    order: &Order,
+    aim: Aim,
+    limits: Limits,
+) -> Result<Option<Found>, AllocError>
     requires { IsAim order.now.game aim }
     ensures found { IfOk result (λ found. IfSome found
         (IsFound order.now.game order.now.diagram aim (choices order.now.decisions))) }
-    ensures exact { IfOk result (λ found. IfSome found IsFoundExact) }
+    ensures settled { IfOk result (λ found. IfSome found (λ found.
+        IsSettled order.now.game order.now.diagram limits (Question.Lost aim) (choices order.now.decisions) →
+        IsFoundExact found)) }
 {
-    let met = match met_set(alloc, order, aim)? {
-        Some(met) => met,
-        None => return Ok(None),
-    };
-    let found = first_found(alloc, &met.sets, met.set)?;
-    Ok(Some(found))
+    match aim {
+        Aim::Any => Ok(None),
+        Aim::Won { which, vertex } => find_at(alloc, order, which, vertex, limits),
+    }
 }
 
 /// Returns a product that is left and meets the aim. For the hopeful table Even wins from the vertex in it, for the
 /// dual one Odd does; or it is just any. Returns nothing if there is none, however cautious the page's verdict is.
 ///
-/// For a vertex that is open on the page the call solves the game for all products at once. If a limit is met, or the
-/// page's verdict decides, it searches as `vpg_why::find` does. The only error is a lack of memory.
+/// For a vertex that is open on the page the call solves the part of the game that decides it, for all products at
+/// once. If a limit is met it searches on that part. If the page's verdict decides, it searches as `vpg_why::find`
+/// does. The only error is a lack of memory.
 pub fn find(alloc: Global, order: &Order, aim: Aim, limits: Limits) -> Result<Found, AllocError>
     requires { IsAim order.now.game aim }
     ensures found { IfOk result (IsFound order.now.game order.now.diagram aim (choices order.now.decisions)) }
@@ -133,7 +218,7 @@ pub fn find(alloc: Global, order: &Order, aim: Aim, limits: Limits) -> Result<Fo
         IsSettled order.now.game order.now.diagram limits (Question.Lost aim) (choices order.now.decisions) →
         IsFoundExact found) }
 {
-    if let Some(found) = find_by_sets(alloc, order, aim)? {
+    if let Some(found) = find_open(alloc, order, aim, limits)? {
         return Ok(found);
     }
     let found = vpg_why::find(alloc, order, aim, limits)?;
@@ -144,7 +229,8 @@ pub fn find(alloc: Global, order: &Order, aim: Aim, limits: Limits) -> Result<Fo
 /// page is. In such a product Even wins from the vertex, for the hopeful table, or Odd, for the dual one. With
 /// `Aim::Any` they are the decisions that leave no product at all.
 ///
-/// If there is such a product, it is found as by `find`. The only error is a lack of memory.
+/// If there is such a product, it is found as by `find`. The search for decisions has half of the looks: it begins many
+/// tables, and a look at a large game takes longer. The only error is a lack of memory.
 pub fn why_lost(
     alloc: Global,
     order: &Order,
@@ -160,9 +246,16 @@ pub fn why_lost(
         EachIsSettled order.now.game order.now.diagram limits (Question.Lost aim) (choices order.now.decisions) →
         IsWhyLostExact found) }
 {
-    if let Some(Found::Product(example)) = find_by_sets(alloc, order, aim)? {
-        return Ok(WhyLost::Unless(example));
+    match find_open(alloc, order, aim, limits)? {
+        Some(Found::Product(example)) => return Ok(WhyLost::Unless(example)),
+        Some(Found::Unsettled) => return Ok(WhyLost::Unsettled),
+        _ => {}
     }
-    let found = vpg_why::why_lost(alloc, order, aim, limits)?;
+    let half = Limits {
+        budget: limits.budget / 2,
+        rounds: limits.rounds,
+        trials: limits.trials,
+    };
+    let found = vpg_why::why_lost(alloc, order, aim, half)?;
     Ok(found)
 }

@@ -1,6 +1,6 @@
 //! Findings and needs, by the set of all products that meet an aim.
 ghost use Rattle.std.specs.Prelude.{◌≡◌, ◌<◌, ◌++◌, ◌∷◌, [], List, true, false, not, length, slice_index_or};
-ghost use Rattle.std.specs.Prelude.{IfOk, IfSome, IsNone, OnOk};
+ghost use Rattle.std.specs.Prelude.{IfOk, IfSome, IsNone, IsTrue, OnOk};
 ghost use Rattle.std.specs.List.{list_any};
 ghost use Rattle.vpg_diagram.specs.Clauses.{is_true_in};
 ghost use Rattle.vpg_diagram.specs.DiagramText.{NamedDiagram};
@@ -17,15 +17,21 @@ ghost use Rattle.vpg_why.specs.Suffices.{IsAim, IsSettled, choice};
 ghost use Rattle.vpg_why.specs.declared.question.Aim.{Aim};
 ghost use Rattle.vpg_winners.specs.Finding.{IsSetOfMet};
 ghost use Rattle.vpg_winners.specs.Gathering.{IsGathered};
+ghost use Rattle.vpg_winners.specs.OpenParts.{IsPartOf};
 
-use crate::finding::{met_set, sets_at};
+use crate::finding::{met_at, open_part, sets_at};
+use crate::part::{on_part, order_on};
+use crate::two_sets::TwoSets;
 use std::alloc::{AllocError, Global};
 use vpg_diagram::Literal;
 use vpg_guards::Tri;
 use vpg_measure::Order;
+use vpg_open::Reached;
 use vpg_sets::{Set, Sets, SetsFault};
 use vpg_sides::Which;
-use vpg_why::{Aim, Demand, Example, Findings, Forced, Limits, Question, no_findings};
+use vpg_why::{
+    Aim, Demand, Example, Findings, Forced, Limits, Question, foresee, is_small, no_findings,
+};
 
 // Whether a product has a feature.
 fn chosen(product: &[bool], feature: u16) -> bool
@@ -253,14 +259,20 @@ fn needs_of(alloc: Global, order: &Order, sets: &mut Sets, set: Set) -> Result<D
     }))
 }
 
-// The needs of an aim, by the set of all products that meet it; nothing if there is no such set, or a limit is met.
-fn needs_by_sets(alloc: Global, order: &Order, aim: Aim) -> Result<Option<Demand>, AllocError>
-    requires { IsAim order.now.game aim }
+// The needs by a set of all products that are won at the vertex; nothing if a limit is met.
+fn needs_by_sets(
+    alloc: Global,
+    order: &Order,
+    which: Which,
+    vertex: u32,
+    part: &Reached,
+) -> Result<Option<Demand>, AllocError>
+    requires { IsPartOf order.now vertex part.now.game part.now.vertex }
     ensures needs { IfOk result (λ found. IfSome found
-        (AreFoundNeeds order.now.game order.now.diagram aim (choices order.now.decisions))) }
+        (AreFoundNeeds order.now.game order.now.diagram (Aim.Won which vertex) (choices order.now.decisions))) }
     ensures exact { IfOk result (λ found. IfSome found AreNeedsExact) }
 {
-    let mut met = match met_set(alloc, order, aim)? {
+    let mut met = match met_at(alloc, order, which, vertex, part)? {
         Some(met) => met,
         None => return Ok(None),
     };
@@ -271,13 +283,109 @@ fn needs_by_sets(alloc: Global, order: &Order, aim: Aim) -> Result<Option<Demand
     }
 }
 
+// Whether a list of needs met no limit.
+fn are_exact(found: &Demand) -> bool
+    ensures { IsTrue result → AreNeedsExact found.now }
+{
+    match found {
+        Demand::These(found) => found.exact,
+        Demand::Nothing => true,
+        Demand::Unsettled => false,
+    }
+}
+
+// The needs by searches on the part. Returns nothing if searches on the whole game have to show more.
+fn needs_on_part(
+    alloc: Global,
+    order: &Order,
+    which: Which,
+    vertex: u32,
+    part: Reached,
+    limits: Limits,
+) -> Result<Option<Demand>, AllocError>
+    requires { IsPartOf order.now vertex part.game part.vertex }
+    ensures needs { IfOk result (λ found. IfSome found
+        (AreFoundNeeds order.now.game order.now.diagram (Aim.Won which vertex) (choices order.now.decisions))) }
+    ensures settled { IfOk result (λ found. IfSome found (λ found.
+        IsSettled order.now.game order.now.diagram limits (Question.Lost (Aim.Won which vertex))
+        (choices order.now.decisions) → AreNeedsExact found)) }
+{
+    // Properties of every order, for the proof.
+    let _order = order.game();
+    let part = match order_on(alloc, order, vertex, part)? {
+        Some(part) => part,
+        None => return Ok(None),
+    };
+    let aim = Aim::Won {
+        which,
+        vertex: part.vertex,
+    };
+    let found = vpg_why::needs(alloc, &part.order, aim, on_part(limits))?;
+    if are_exact(&found) {
+        return Ok(Some(found));
+    }
+    if is_small(alloc, order, order.decisions(), limits)? {
+        return Ok(None);
+    }
+    Ok(Some(found))
+}
+
+// The needs of the products that are won at the vertex. Returns nothing if the vertex is not open, or searches on the
+// whole game have to show more.
+fn needs_at(
+    alloc: Global,
+    order: &Order,
+    which: Which,
+    vertex: u32,
+    limits: Limits,
+) -> Result<Option<Demand>, AllocError>
+    requires { vertex < length order.now.game.vertices }
+    ensures needs { IfOk result (λ found. IfSome found
+        (AreFoundNeeds order.now.game order.now.diagram (Aim.Won which vertex) (choices order.now.decisions))) }
+    ensures settled { IfOk result (λ found. IfSome found (λ found.
+        IsSettled order.now.game order.now.diagram limits (Question.Lost (Aim.Won which vertex))
+        (choices order.now.decisions) → AreNeedsExact found)) }
+{
+    let part = match open_part(alloc, order, vertex)? {
+        Some(part) => part,
+        None => return Ok(None),
+    };
+    if let Some(found) = needs_by_sets(alloc, order, which, vertex, &part)? {
+        return Ok(Some(found));
+    }
+    let found = needs_on_part(alloc, order, which, vertex, part, limits)?;
+    Ok(found)
+}
+
+// The needs of the aim. Returns nothing for any product, if the vertex is not open, or if searches on the whole game
+// have to show more.
+fn needs_open(
+    alloc: Global,
+    order: &Order,
+    aim: Aim,
+    limits: Limits,
+) -> Result<Option<Demand>, AllocError>
+    requires { IsAim order.now.game aim }
+    ensures needs { IfOk result (λ found. IfSome found
+        (AreFoundNeeds order.now.game order.now.diagram aim (choices order.now.decisions))) }
+    ensures settled { IfOk result (λ found. IfSome found (λ found.
+        IsSettled order.now.game order.now.diagram limits (Question.Lost aim) (choices order.now.decisions) →
+        AreNeedsExact found)) }
+{
+    match aim {
+        Aim::Any => Ok(None),
+        Aim::Won { which, vertex } => needs_at(alloc, order, which, vertex, limits),
+    }
+}
+
 /// Returns the needs of the aim beyond what is known: features that each product that is left and meets it has, or
 /// lacks. Returns nothing if there is no such product. With `Aim::Any` the call finds what the diagram forces though
 /// propagation does not show it, and whether a product is left at all.
 ///
-/// For a vertex that is open on the page the call solves the game for all products at once. For each feature that is
-/// not known it takes a product of the set that differs from the first one there, if there is one. If a limit is met,
-/// or the page's verdict decides, it searches as `vpg_why::needs` does. The only error is a lack of memory.
+/// For a vertex that is open on the page the call solves the part of the game that decides it, for all products at
+/// once. For each feature that is not known it takes a product of the set that differs from the first one there, if
+/// there is one. If a limit is met it searches on that part. If the page's verdict decides, it searches as
+/// `vpg_why::needs` does. The only error is a lack of memory.
 pub fn needs(alloc: Global, order: &Order, aim: Aim, limits: Limits) -> Result<Demand, AllocError>
     requires { IsAim order.now.game aim }
     ensures needs { IfOk result
@@ -286,7 +394,7 @@ pub fn needs(alloc: Global, order: &Order, aim: Aim, limits: Limits) -> Result<D
         IsSettled order.now.game order.now.diagram limits (Question.Lost aim) (choices order.now.decisions) →
         AreNeedsExact found) }
 {
-    if let Some(found) = needs_by_sets(alloc, order, aim)? {
+    if let Some(found) = needs_open(alloc, order, aim, limits)? {
         return Ok(found);
     }
     let found = vpg_why::needs(alloc, order, aim, limits)?;
@@ -296,9 +404,9 @@ pub fn needs(alloc: Global, order: &Order, aim: Aim, limits: Limits) -> Result<D
 /// Returns findings for the questions of a line on one vertex: products that are left and in which Even wins from it,
 /// for the hopeful table, or Odd does, for the dual one, and literals that each of these has.
 ///
-/// For a vertex that is open on the page the call solves the game for all products at once. Then for each feature that
-/// is not known there is a product with it and one without, or a literal. There are no findings if a limit is met, or
-/// the page's verdict decides. The only error is a lack of memory.
+/// For a vertex that is open on the page the call solves the part of the game that decides it, for all products at
+/// once. Then for each feature that is not known there is a product with it and one without, or a literal. There are no
+/// findings if a limit is met, or the page's verdict decides. The only error is a lack of memory.
 pub fn findings(
     alloc: Global,
     order: &Order,
@@ -309,7 +417,11 @@ pub fn findings(
     ensures { IfOk result (AreFindings order.now.game order.now.diagram (Aim.Won which vertex)
         (choices order.now.decisions)) }
 {
-    let mut met = match met_set(alloc, order, Aim::Won { which, vertex })? {
+    let part = match open_part(alloc, order, vertex)? {
+        Some(part) => part,
+        None => return Ok(no_findings(alloc)),
+    };
+    let mut met = match met_at(alloc, order, which, vertex, &part)? {
         Some(met) => met,
         None => return Ok(no_findings(alloc)),
     };
@@ -320,12 +432,48 @@ pub fn findings(
     }
 }
 
-/// Returns the findings of both players, as `findings` does, and solves the game once: those of products in which Even
-/// wins from the vertex, and those of products in which Odd does.
-pub fn both_findings(
+// Adds the findings of both choices of a feature that is not known.
+fn learn_open(
+    alloc: Global,
+    order: &Order,
+    feature: u16,
+    vertex: u32,
+    limits: Limits,
+    looks: &mut u64,
+    trials: &mut u64,
+    won: &mut Findings,
+    lost: &mut Findings,
+) -> Result<(), AllocError>
+    requires feature { feature < feature_count order.now.diagram.lines }
+    requires vertex { vertex < length order.now.game.vertices }
+    requires won { AreFindings order.now.game order.now.diagram (Aim.Won Which.Hopeful vertex)
+        (choices order.now.decisions) won.old }
+    requires lost { AreFindings order.now.game order.now.diagram (Aim.Won Which.Dual vertex)
+        (choices order.now.decisions) lost.old }
+    ensures won { OnOk result (AreFindings order.now.game order.now.diagram (Aim.Won Which.Hopeful vertex)
+        (choices order.now.decisions) won.new) }
+    ensures lost { OnOk result (AreFindings order.now.game order.now.diagram (Aim.Won Which.Dual vertex)
+        (choices order.now.decisions) lost.new) }
+{
+    let value = true;
+    let choice = Literal { feature, value };
+    let _ = foresee(
+        alloc, order, choice, vertex, limits, looks, trials, won, lost,
+    )?;
+    let value = false;
+    let choice = Literal { feature, value };
+    let _ = foresee(
+        alloc, order, choice, vertex, limits, looks, trials, won, lost,
+    )?;
+    Ok(())
+}
+
+// The findings of both players by searches for each choice of a feature that is not known.
+fn search_findings(
     alloc: Global,
     order: &Order,
     vertex: u32,
+    limits: Limits,
 ) -> Result<(Findings, Findings), AllocError>
     requires { vertex < length order.now.game.vertices }
     ensures won { IfOk result (λ two. AreFindings order.now.game order.now.diagram (Aim.Won Which.Hopeful vertex)
@@ -333,13 +481,122 @@ pub fn both_findings(
     ensures lost { IfOk result (λ two. AreFindings order.now.game order.now.diagram (Aim.Won Which.Dual vertex)
         (choices order.now.decisions) two.1) }
 {
-    let mut two = match sets_at(alloc, order, vertex)? {
-        Some(two) => two,
-        None => return Ok((no_findings(alloc), no_findings(alloc))),
-    };
-    match findings_of_both(alloc, order, &mut two.sets, two.won, two.lost) {
+    let known = order.games().known();
+    let features = order.diagram().features() as u16;
+    let mut won = no_findings(alloc);
+    let mut lost = no_findings(alloc);
+    let mut looks = limits.budget;
+    let mut trials = limits.trials;
+    for feature in 0..features {
+        if known.value(feature) == Tri::Unknown {
+            learn_open(
+                alloc,
+                order,
+                feature,
+                vertex,
+                limits,
+                &mut looks,
+                &mut trials,
+                &mut won,
+                &mut lost,
+            )?;
+        }
+    }
+    Ok((won, lost))
+}
+
+// The findings of both players by two sets of products; none if a limit is met.
+fn findings_by_sets(
+    alloc: Global,
+    order: &Order,
+    vertex: u32,
+    two: TwoSets,
+) -> Result<(Findings, Findings), AllocError>
+    requires features { feature_count order.now.diagram.lines ≡ two.sets.features }
+    requires won_inside { IsInside two.sets two.won }
+    requires lost_inside { IsInside two.sets two.lost }
+    requires won { IsSetOfMet order.now.game order.now.diagram (Aim.Won Which.Hopeful vertex)
+        (choices order.now.decisions) two.sets two.won }
+    requires lost { IsSetOfMet order.now.game order.now.diagram (Aim.Won Which.Dual vertex)
+        (choices order.now.decisions) two.sets two.lost }
+    ensures won { IfOk result (λ two. AreFindings order.now.game order.now.diagram (Aim.Won Which.Hopeful vertex)
+        (choices order.now.decisions) two.0) }
+    ensures lost { IfOk result (λ two. AreFindings order.now.game order.now.diagram (Aim.Won Which.Dual vertex)
+        (choices order.now.decisions) two.1) }
+{
+    let TwoSets { sets, won, lost } = two;
+    let mut sets = sets;
+    match findings_of_both(alloc, order, &mut sets, won, lost) {
         Ok(found) => Ok(found),
         Err(SetsFault::Full) => Ok((no_findings(alloc), no_findings(alloc))),
         Err(SetsFault::Memory) => Err(AllocError),
+    }
+}
+
+// The findings of both players by searches on the part.
+fn findings_on_part(
+    alloc: Global,
+    order: &Order,
+    vertex: u32,
+    part: Reached,
+    limits: Limits,
+) -> Result<(Findings, Findings), AllocError>
+    requires { IsPartOf order.now vertex part.game part.vertex }
+    ensures won { IfOk result (λ two. AreFindings order.now.game order.now.diagram (Aim.Won Which.Hopeful vertex)
+        (choices order.now.decisions) two.0) }
+    ensures lost { IfOk result (λ two. AreFindings order.now.game order.now.diagram (Aim.Won Which.Dual vertex)
+        (choices order.now.decisions) two.1) }
+{
+    let part = match order_on(alloc, order, vertex, part)? {
+        Some(part) => part,
+        None => return Ok((no_findings(alloc), no_findings(alloc))),
+    };
+    let found = search_findings(alloc, &part.order, part.vertex, limits)?;
+    Ok(found)
+}
+
+// The findings of both players by the part that decides the vertex.
+fn findings_at(
+    alloc: Global,
+    order: &Order,
+    vertex: u32,
+    part: Reached,
+    limits: Limits,
+) -> Result<(Findings, Findings), AllocError>
+    requires { IsPartOf order.now vertex part.game part.vertex }
+    ensures won { IfOk result (λ two. AreFindings order.now.game order.now.diagram (Aim.Won Which.Hopeful vertex)
+        (choices order.now.decisions) two.0) }
+    ensures lost { IfOk result (λ two. AreFindings order.now.game order.now.diagram (Aim.Won Which.Dual vertex)
+        (choices order.now.decisions) two.1) }
+{
+    if let Some(two) = sets_at(alloc, order, vertex, &part)? {
+        let found = findings_by_sets(alloc, order, vertex, two)?;
+        return Ok(found);
+    }
+    let found = findings_on_part(alloc, order, vertex, part, limits)?;
+    Ok(found)
+}
+
+/// Returns the findings of both players, as `findings` does, and solves the game once: those of products in which Even
+/// wins from the vertex, and those of products in which Odd does. If a limit of the sets is met, it searches on the
+/// part of the game that decides the vertex.
+pub fn both_findings(
+    alloc: Global,
+    order: &Order,
+    vertex: u32,
+    limits: Limits,
+) -> Result<(Findings, Findings), AllocError>
+    requires { vertex < length order.now.game.vertices }
+    ensures won { IfOk result (λ two. AreFindings order.now.game order.now.diagram (Aim.Won Which.Hopeful vertex)
+        (choices order.now.decisions) two.0) }
+    ensures lost { IfOk result (λ two. AreFindings order.now.game order.now.diagram (Aim.Won Which.Dual vertex)
+        (choices order.now.decisions) two.1) }
+{
+    match open_part(alloc, order, vertex)? {
+        Some(part) => {
+            let found = findings_at(alloc, order, vertex, part, limits)?;
+            Ok(found)
+        }
+        None => Ok((no_findings(alloc), no_findings(alloc))),
     }
 }

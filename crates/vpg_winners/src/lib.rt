@@ -7,22 +7,23 @@
 //! variability parity game, all products at once, for a page.
 //!
 //! All answers go by two sets of products, those that Even wins and those that Odd does. Vertices that have a verdict
-//! on the page are won at once (`vpg_open`), and the rest of the game is solved for all products (`vpg_zielonka`), by
-//! diagrams with few new nodes. `winners` goes on if these do not suffice: it solves a list of the products, if they
-//! are few, or uses more nodes. It cuts the two sets into parts, each with the number of its products. `decide` takes
-//! the first product of each. Answers on one player's products go by one of the sets, if the vertex is open on the
-//! page: `find` and `why_lost` (its first product), `needs` (the literals that its products share), `findings` and
-//! `both_findings` (products and literals for `foresee` of `vpg_why`).
+//! on the page are won at once, and the part of that game which the vertex reaches (`vpg_open`) is solved for all
+//! products (`vpg_zielonka`), by diagrams with few new nodes. `winners` goes on if these do not suffice: it solves a
+//! list of the products, if they are few, or uses more nodes. It cuts the two sets into parts, each with the number of
+//! its products. `decide` takes the first product of each. Answers on one player's products go by one of the sets, if
+//! the vertex is open on the page: `find` and `why_lost` (its first product), `needs` (the literals that its products
+//! share), `findings` and `both_findings` (products and literals for `foresee` of `vpg_why`).
 //!
-//! If a limit is met, or there are no sets, each call searches; but there are no findings then, and `winners` counts no
-//! products. A search goes over features that are not known, cut off by the verdicts of each trial (`vpg_why`). Parity
-//! games are determined (`vpg_determined`): so a product in which Even has no strategy is won by Odd. A search that met
-//! a limit is reported as unsettled, and never wrong.
+//! If a limit is met, or there are no sets, each call searches, and on that part where it can; there are no findings of
+//! one player then, and `winners` counts no products. A search goes over features that are not known, cut off by the
+//! verdicts of each trial (`vpg_why`). Parity games are determined (`vpg_determined`): so a product in which Even has
+//! no strategy is won by Odd. A search that met a limit is reported as unsettled, and never wrong.
 //!
 //! Definitions: `specs/Decided` (the winners in the products that are left), `specs/Winners` (the parts, and the rule
 //! by which they are made), `specs/Joined` (how parts are joined), `specs/Numbered` (the numbers of their products),
-//! `specs/Divided` and `specs/Cutting` (the two sets), `specs/Finding` (the products that meet an aim, as a set). For
-//! the search: `specs/Searched`, `specs/Standing`.
+//! `specs/OpenParts` (the part that decides a vertex), `specs/Divided`, `specs/Cutting` and `specs/Pairs` (the two
+//! sets), `specs/Finding` and `specs/Gathering` (the products that meet an aim, as a set). For the search:
+//! `specs/Searched`, `specs/Standing`.
 #![tactic(auto)]
 
 mod cutting;
@@ -34,6 +35,7 @@ mod joining;
 pub mod laws;
 mod listing;
 mod pairing;
+mod part;
 mod parts;
 mod solving;
 mod splitting;

@@ -1,8 +1,8 @@
 use Rattle.std.proofs.Common.{length, sym, ap, ◌∙◌, subst}
-use Rattle.vpg_game.specs.Game.{NamedGame, AreSound, graph_of}
+use Rattle.vpg_game.specs.Game.{NamedGame, AreSound, IsAtLimit, graph_of}
 use Rattle.vpg_game.proofs.Graphs.{same_count}
 use Rattle.vpg_open.specs.SettledGames.{HasSameWinners}
-use Rattle.vpg_open.proofs.Entries.{settled_limited, settled_sound, is_settled, same_graph_length}
+use Rattle.vpg_open.proofs.Entries.{settled_limited, settled_sound, is_settled, same_graph_length, settled_low}
 use Rattle.vpg_open.proofs.SameWinners.{same_winners}
 use Rattle.vpg_open.proofs.cutting.settled.Goals as goal
 
@@ -35,3 +35,8 @@ returns-in-Ok-clause-wins c p right =
     (sym (returns-in-Ok-clause-made c))
     (same_winners c.args.game.now c.args.winners.now p c.vertices-count.ensures.game
     (c.requires.length ∙ same_count c.args.game.now) right)
+
+pub returns-in-Ok-clause-limit : goal.returns-in-Ok-clause-limit
+returns-in-Ok-clause-limit c =
+    subst (λ (g : NamedGame). IsAtLimit g → ⊥) (sym (returns-in-Ok-clause-made c))
+    (settled_low c.args.game.now c.args.winners.now c.requires.limit)

@@ -10,4 +10,4 @@ returns-clause-decided c =
     let stand = rw c.in-Some.is at c.in_ok-two.ensures.stand in
     rw c.both.ensures (firsts_decide order.game order.diagram c.args.vertex (choices order.decisions) two.sets two.won
     two.lost c.in_ok-won.won c.in_ok-lost.lost c.in_ok-won.ensures c.in_ok-lost.ensures c.game-order.ensures.order.game
-    c.requires count stand)
+    c.requires.vertex count stand)

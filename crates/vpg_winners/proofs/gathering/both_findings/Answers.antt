@@ -12,21 +12,3 @@ pub returns-in-None-clause-lost : goal.returns-in-None-clause-lost
 returns-in-None-clause-lost c =
     let order = c.args.order.now in
     c.no_findings-in-None.ensures order.game order.diagram (aims.Won Dual c.args.vertex) (choices order.decisions)
-
-pub returns-in-Ok-clause-won : goal.returns-in-Ok-clause-won
-returns-in-Ok-clause-won c =
-    c.in-Ok.ensures.won (aims.Won Hopeful c.args.vertex) (rw c.in-Some.is at c.in_ok-two.ensures.won)
-
-pub returns-in-Ok-clause-lost : goal.returns-in-Ok-clause-lost
-returns-in-Ok-clause-lost c =
-    c.in-Ok.ensures.lost (aims.Won Dual c.args.vertex) (rw c.in-Some.is at c.in_ok-two.ensures.lost)
-
-pub returns-in-Err-Full-clause-won : goal.returns-in-Err-Full-clause-won
-returns-in-Err-Full-clause-won c =
-    let order = c.args.order.now in
-    c.no_findings-in-Err-Full.ensures order.game order.diagram (aims.Won Hopeful c.args.vertex) (choices order.decisions)
-
-pub returns-in-Err-Full-clause-lost : goal.returns-in-Err-Full-clause-lost
-returns-in-Err-Full-clause-lost c =
-    let order = c.args.order.now in
-    c.no_findings-in-Err-Full-2.ensures order.game order.diagram (aims.Won Dual c.args.vertex) (choices order.decisions)
