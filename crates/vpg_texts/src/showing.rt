@@ -10,11 +10,11 @@ mod pictures;
 mod plans;
 
 pub use changes::{put_changed, verdicts_by, verdicts_over};
-pub use counts::count_over;
+pub use counts::count;
 pub use entries::trail;
-pub use feature::put_known_over;
-pub use known::products_over;
+pub use feature::put_known;
+pub use known::products;
 pub use lookups::look_over;
-pub use page::show_over;
+pub use page::show;
 pub use pictures::draw_over;
-pub use plans::{PlanFault, plan_over};
+pub use plans::{PlanFault, plan};

@@ -22,7 +22,7 @@ use vpg_measure::{OrderFault, PageGames, Shape, Table};
 use vpg_partial::{Partial, PartialFault};
 use vpg_scarce::{End, Finding, Heap, MOST_TRIES, Report, more};
 use vpg_sides::Which;
-use vpg_texts::{PlanFault, count_over, plan_over, products_over, show_over, trail};
+use vpg_texts::{PlanFault, count, plan, products, show, trail};
 use vpg_trail::{Assumed, Decisions, Entries, Entry, Page};
 
 /// A text of a page.
@@ -95,11 +95,11 @@ fn put(
     };
     let labels = VertexNames::none(alloc);
     match text {
-        Text::Show => end_of(show_over(alloc, &games, page, game, diagram, &labels, out)),
+        Text::Show => end_of(show(alloc, &games, page, game, diagram, &labels, out)),
         Text::Trail => end_of(trail(alloc, page, game, diagram, &labels, out)),
-        Text::Products => end_of(products_over(alloc, &games, diagram, out)),
-        Text::Count => end_of(count_over(alloc, &games, page, game, diagram, b"", out)),
-        Text::Plan => match plan_over(alloc, &games, page, game, diagram, &labels, out) {
+        Text::Products => end_of(products(alloc, &games, diagram, out)),
+        Text::Count => end_of(count(alloc, &games, page, game, diagram, b"", out)),
+        Text::Plan => match plan(alloc, &games, page, game, diagram, &labels, out) {
             Ok(()) => End::Done,
             Err(PlanFault::Memory) => End::Memory,
             Err(_) => End::Otherwise,

@@ -18,7 +18,7 @@ use vpg_trail::Page;
 /// Appends counts of a page: how many vertices are hopeless and how many possible, how many are sure and how many
 /// unsure. Then whether both tables are progress tables, and whether each feature is known. The mark ends the last
 /// line. The tables have one number up to the top for each vertex.
-pub fn count_over(
+pub fn count(
     alloc: Global,
     games: &PageGames,
     page: &Page,

@@ -10,7 +10,7 @@ use vpg_measure::PageGames;
 
 /// Appends whether a feature of the diagram is known in, known out or not known, by the games that a page's decisions
 /// leave. No edge is looked at.
-pub fn put_known_over(
+pub fn put_known(
     alloc: Global,
     games: &PageGames,
     diagram: &Diagram,

@@ -10,7 +10,7 @@ use vpg_measure::PageGames;
 
 /// Appends the features that are known in, those known out, and those not known, by the games that a page's decisions
 /// leave. No edge is looked at.
-pub fn products_over(
+pub fn products(
     alloc: Global,
     games: &PageGames,
     diagram: &Diagram,

@@ -80,7 +80,7 @@ fn shown(
 /// Appends the text of a page: its decisions in their order, whether each feature is known, and whether both tables are
 /// progress tables. Then each vertex with its two measures, its verdict and its name. The tables have one number up to
 /// the top for each vertex.
-pub fn show_over(
+pub fn show(
     alloc: Global,
     games: &PageGames,
     page: &Page,

@@ -76,7 +76,7 @@ fn choices(
 ///
 /// Errors, in this order: `NotFull` if some feature isn't known, `NotSettled` if some table is no progress table,
 /// `Memory`. Neither of the first two takes memory.
-pub fn plan_over(
+pub fn plan(
     alloc: Global,
     games: &PageGames,
     page: &Page,

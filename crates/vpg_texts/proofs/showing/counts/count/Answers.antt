@@ -6,7 +6,7 @@ use Rattle.vpg_texts.proofs.Counted.{counts}
 use Rattle.vpg_texts.proofs.Settled.{table_of_games}
 use Rattle.vpg_texts.proofs.Shown.{on_ok, appended, written}
 use Rattle.vpg_texts.proofs.Pieces.{unwritten}
-use Rattle.vpg_texts.proofs.showing.counts.count_over.Goals as goal
+use Rattle.vpg_texts.proofs.showing.counts.count.Goals as goal
 
 pub is_settled-settled-requires-clause-hopeful : goal.is_settled-settled-requires-clause-hopeful
 is_settled-settled-requires-clause-hopeful c =

@@ -5,7 +5,7 @@ use Rattle.vpg_sides.specs.declared.which.Which.TheVariants.{Hopeful, Dual}
 use Rattle.vpg_partial.specs.Known.{literal_of}
 use Rattle.vpg_texts.proofs.Planned.{chosen_count, chosen_within, chosen_are, planned, planned_wins}
 use Rattle.vpg_texts.proofs.Settled.{table_of_games}
-use Rattle.vpg_texts.proofs.showing.plans.plan_over.Goals as goal
+use Rattle.vpg_texts.proofs.showing.plans.plan.Goals as goal
 
 pub choices-requires-clause-hopeful : goal.choices-requires-clause-hopeful
 choices-requires-clause-hopeful c =

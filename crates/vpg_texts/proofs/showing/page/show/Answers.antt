@@ -2,7 +2,7 @@ use Rattle.std.proofs.Common.{◌++◌, ℕ, List, ap, ◌∙◌, refl}
 use Rattle.vpg_texts.specs.Scene.{IsShown, scene_of}
 use Rattle.vpg_texts.proofs.Shown.{on_ok, appended}
 use Rattle.vpg_texts.proofs.Pieces.{unwritten}
-use Rattle.vpg_texts.proofs.showing.page.show_over.Goals as goal
+use Rattle.vpg_texts.proofs.showing.page.show.Goals as goal
 
 pub returns-clause-shown : goal.returns-clause-shown
 returns-clause-shown c =
