@@ -23,7 +23,7 @@ use vpg_measure::{Order, PageGames, Table};
 use vpg_partial::Decision;
 use vpg_script::{Assertion, Lookup, Tone, done};
 use vpg_sides::Which;
-use vpg_texts::{count_over, look_over};
+use vpg_texts::{count, look_over};
 use vpg_trail::Page;
 use vpg_why::{Aim, Found, Limits, find};
 
@@ -183,7 +183,7 @@ fn counted(
     let decisions = page.decisions.as_slice();
     let left = left_on(alloc, games, game, diagram, decisions, limits)?;
     let mark = mark_of(left);
-    done(count_over(alloc, games, page, game, diagram, mark, out))
+    done(count(alloc, games, page, game, diagram, mark, out))
 }
 
 /// Whether a lookup is `count`.

@@ -42,7 +42,7 @@ use vpg_office::{NotOpened, Redo, Site, Terms, Undo};
 use vpg_script::{Command, Lookup, Request, ServeFault, Tone, Vertex};
 use vpg_settle::swept;
 use vpg_sides::{Verdict, Which};
-use vpg_texts::{has_vertices, put_changed, put_known_over, verdicts_over, vertex_at};
+use vpg_texts::{has_vertices, put_changed, put_known, verdicts_over, vertex_at};
 
 /// The number of calls that the log of a run's office takes.
 pub(crate) const ROOM: u32 = 1_048_576;
@@ -473,7 +473,7 @@ impl<L: Terms> Engine<L> {
             Ok(both) => both,
             Err(fault) => return lines::put_unanswered(fault, out),
         };
-        put_known_over(alloc, &games, &self.diagram, feature, out)?;
+        put_known(alloc, &games, &self.diagram, feature, out)?;
         Ok(Tone::Done)
     }
 

@@ -1,19 +1,16 @@
 //! Texts of pages.
 //!
 //! `show` writes a page's decisions, its tables and its verdicts, `count` how many vertices have which verdict, and
-//! `trail` its entries. `products` writes what is known of each feature, `put_known` what is known of one, and `plan`
-//! Even's moves if everything is known and settled. They take a page with its game and its diagram, and know no desk. A
-//! line about a vertex ends with the vertex's name, and one about a move with two, if the names given have one
+//! `trail` its entries. `products` writes what is known of each feature, `put_known` what is known of one, `plan`
+//! Even's moves if everything is known and settled, and `draw_over` the picture of the game. They take a page with its
+//! game and its diagram, over the games that its decisions leave: so they look at no guard. They know no desk. A line
+//! about a vertex ends with the vertex's name, and one about a move with two, if the names given have one
 //! (`put_beside`, `put_beside_both`). The crates of answers and runs above answer lines by these texts, and take
 //! `blank_number` and `blank_name` for their own answers.
 //!
-//! They make the games that the page's decisions leave once, as `PageGames`. A caller who holds these already, as a
-//! desk does, takes `show_over`, `products_over`, `put_known_over`, `plan_over` and `count_over`, which write the same
-//! texts and look at no guard. `draw_over` writes the picture of the game. A game with a priority of 65,536 has no dual
-//! and so no page: that it has none is a condition. `look_over` answers a `Lookup` of a script by each of these except
-//! `put_known_over`; it also writes the lines of some vertices, and whether an assertion holds. `verdicts_over` returns
-//! the verdicts of a page, `verdicts_by` those of two tables, and `put_changed` writes which of them differ from some
-//! that were seen earlier.
+//! `look_over` answers a `Lookup` of a script by each of these except `put_known`; it also writes the lines of some
+//! vertices, and whether an assertion holds. `verdicts_over` returns the verdicts of a page, `verdicts_by` those of
+//! two tables, and `put_changed` writes which of them differ from some that were seen earlier.
 //!
 //! The texts are defined in `specs/Text`, `specs/Labels`, `specs/Sights` and `specs/Changed`, and their meaning for a
 //! page in `specs/Scene`, `specs/Picture` and `specs/Plan`. All are this project's own.
@@ -27,8 +24,8 @@ mod text;
 
 pub use labels::{put_beside, put_beside_both};
 pub use showing::{
-    PlanFault, count, count_over, draw_over, look_over, plan, plan_over, products, products_over,
-    put_changed, put_known, put_known_over, show, show_over, trail, verdicts_by, verdicts_over,
+    PlanFault, count, draw_over, look_over, plan, products, put_changed, put_known, show, trail,
+    verdicts_by, verdicts_over,
 };
 pub use sights::{has_vertices, vertex_at};
 pub use text::{blank_name, blank_number};

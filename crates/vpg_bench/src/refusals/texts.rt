@@ -18,7 +18,7 @@ use std::alloc::{AllocError, Global};
 use std::sync::Arc;
 use vpg_diagram::{Diagram, Literal};
 use vpg_game::{GuardedGame, VertexNames};
-use vpg_measure::{Shape, Table};
+use vpg_measure::{OrderFault, PageGames, Shape, Table};
 use vpg_partial::{Partial, PartialFault};
 use vpg_scarce::{End, Finding, Heap, MOST_TRIES, Report, more};
 use vpg_sides::Which;
@@ -68,7 +68,7 @@ fn end_of(put: Result<(), AllocError>) -> End {
     }
 }
 
-/// Appends a text of a page.
+/// Appends a text of a page, for which it makes the games that the page's decisions leave.
 fn put(
     alloc: Global,
     text: Text,
@@ -88,13 +88,18 @@ fn put(
     requires entries { All (EntryIsWithin (feature_count diagram.now.lines)
         (length game.now.vertices)) page.now.entries }
 {
+    let games = match PageGames::under(alloc, game, diagram, page.decisions.as_slice()) {
+        Ok(games) => games,
+        Err(OrderFault::Memory) => return End::Memory,
+        Err(_) => return End::Otherwise,
+    };
     let labels = VertexNames::none(alloc);
     match text {
-        Text::Show => end_of(show(alloc, page, game, diagram, &labels, out)),
+        Text::Show => end_of(show(alloc, &games, page, game, diagram, &labels, out)),
         Text::Trail => end_of(trail(alloc, page, game, diagram, &labels, out)),
-        Text::Products => end_of(products(alloc, page, game, diagram, out)),
-        Text::Count => end_of(count(alloc, page, game, diagram, out)),
-        Text::Plan => match plan(alloc, page, game, diagram, &labels, out) {
+        Text::Products => end_of(products(alloc, &games, diagram, out)),
+        Text::Count => end_of(count(alloc, &games, page, game, diagram, b"", out)),
+        Text::Plan => match plan(alloc, &games, page, game, diagram, &labels, out) {
             Ok(()) => End::Done,
             Err(PlanFault::Memory) => End::Memory,
             Err(_) => End::Otherwise,

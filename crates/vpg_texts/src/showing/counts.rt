@@ -1,15 +1,11 @@
 //! The text of the numbers of vertices with each verdict.
 ghost use Rattle.std.specs.Prelude.{[], ◌≡◌, ◌≤◌, ◌++◌, ℕ, List, length, map, All, OnOk, OnErr};
-ghost use Rattle.vpg_diagram.specs.FeatureDiagram.{feature_count};
-ghost use Rattle.vpg_game.specs.Game.{IsAtLimit, graph_of};
+ghost use Rattle.vpg_game.specs.Game.{graph_of};
 ghost use Rattle.vpg_measure.specs.Games.{ArePageGames};
 ghost use Rattle.vpg_measure.specs.TwoGames.{top_for};
 ghost use Rattle.vpg_partial.specs.Known.{literal_of};
-ghost use Rattle.vpg_partial.specs.KnownLaws.{HasConflictOf};
-ghost use Rattle.vpg_partial.specs.TableLaws.{AreChoicesOf};
 ghost use Rattle.vpg_texts.specs.Scene.{IsCounted, scene_of};
 
-use crate::showing::games_of;
 use crate::showing::page::is_settled;
 use crate::text;
 use std::alloc::{AllocError, Global};
@@ -19,9 +15,10 @@ use vpg_measure::PageGames;
 use vpg_sides::Which;
 use vpg_trail::Page;
 
-/// Appends the counts of a page as `count` does, over the games that its decisions leave: no guard is looked at. The
-/// mark ends the last line.
-pub fn count_over(
+/// Appends counts of a page: how many vertices are hopeless and how many possible, how many are sure and how many
+/// unsure. Then whether both tables are progress tables, and whether each feature is known. The mark ends the last
+/// line. The tables have one number up to the top for each vertex.
+pub fn count(
     alloc: Global,
     games: &PageGames,
     page: &Page,
@@ -54,32 +51,4 @@ pub fn count_over(
         &mut text,
     )?;
     out.extend_from_slice(&text)
-}
-
-/// Appends counts of a page: how many vertices are hopeless and how many possible, how many are sure and how many
-/// unsure. Then whether both tables are progress tables, and whether each feature is known. The page's decisions have
-/// no conflict, and its tables have one number up to the top for each vertex.
-pub fn count(
-    alloc: Global,
-    page: &Page,
-    game: &GuardedGame,
-    diagram: &Diagram,
-    out: &mut Vec<u8>,
-) -> Result<(), AllocError>
-    requires not_at_limit { ¬ IsAtLimit game.now }
-    requires features { game.now.features ≡ feature_count diagram.now.lines }
-    requires named { AreChoicesOf diagram.now.lines (map literal_of page.now.decisions) }
-    requires consistent { ¬ (HasConflictOf diagram.now.lines (map literal_of page.now.decisions)) }
-    requires hopeful { length page.now.hopeful ≡ length game.now.vertices }
-    requires dual { length page.now.dual ≡ length game.now.vertices }
-    requires hopeful_within { All (λ n. n ≤ top_for Which.Hopeful (graph_of game.now)) page.now.hopeful }
-    requires dual_within { All (λ n. n ≤ top_for Which.Dual (graph_of game.now)) page.now.dual }
-    ensures counted { OnOk result
-        ((text : List ℕ) ×
-        (IsCounted (scene_of [] game.now diagram.now) page.now.decisions page.now.hopeful page.now.dual [] text ×
-        (out.new.items ≡ out.old.items ++ text))) }
-    ensures unchanged { OnErr result (out.new.items ≡ out.old.items) }
-{
-    let games = games_of(alloc, game, diagram, page.decisions.as_slice())?;
-    count_over(alloc, &games, page, game, diagram, b"", out)
 }

@@ -13,12 +13,12 @@ ghost use Rattle.vpg_script.specs.Answer.{Gives};
 ghost use Rattle.vpg_texts.specs.Scene.{EntryIsWithin, scene_of};
 ghost use Rattle.vpg_texts.specs.Sights.{IsAsserted, IsPlanAnswer, IsSeen, has_asserted, has_vertices, is_vertex, named_lines};
 
-use crate::showing::counts::count_over;
+use crate::showing::counts::count;
 use crate::showing::entries::trail;
-use crate::showing::known::products_over;
-use crate::showing::page::{is_settled, show_over};
+use crate::showing::known::products;
+use crate::showing::page::{is_settled, show};
 use crate::showing::pictures::draw_over;
-use crate::showing::plans::{PlanFault, plan_over};
+use crate::showing::plans::{PlanFault, plan};
 use crate::sights;
 use std::alloc::{AllocError, Global};
 use vpg_diagram::Diagram;
@@ -93,7 +93,7 @@ fn plan_answer(
         page.now.dual) tone out.old.items out.new.items) }
     ensures unchanged { OnErr result (out.new.items ≡ out.old.items) }
 {
-    match plan_over(alloc, games, page, game, diagram, labels, out) {
+    match plan(alloc, games, page, game, diagram, labels, out) {
         Ok(()) => Ok(Tone::Done),
         Err(PlanFault::NotFull) => refused(b"refused NotFull\n", out),
         Err(PlanFault::NotSettled) => refused(b"refused NotSettled\n", out),
@@ -170,14 +170,14 @@ pub fn look_over(
     ensures unchanged { OnErr result (out.new.items ≡ out.old.items) }
 {
     match lookup {
-        Lookup::Show => done(show_over(alloc, games, page, game, diagram, labels, out)),
+        Lookup::Show => done(show(alloc, games, page, game, diagram, labels, out)),
         Lookup::Vertices(vertices) => {
             done(vertices_over(alloc, games, page, game, labels, vertices, out))
         }
         Lookup::Trail => done(trail(alloc, page, game, diagram, labels, out)),
-        Lookup::Products => done(products_over(alloc, games, diagram, out)),
+        Lookup::Products => done(products(alloc, games, diagram, out)),
         Lookup::Plan => plan_answer(alloc, games, page, game, diagram, labels, out),
-        Lookup::Count => done(count_over(alloc, games, page, game, diagram, b"", out)),
+        Lookup::Count => done(count(alloc, games, page, game, diagram, b"", out)),
         Lookup::Draw => done(draw_over(alloc, games, page, game, diagram, labels, out)),
         Lookup::Assert(assertion) => {
             assertion_over(alloc, games, page, game, diagram, assertion, out)

@@ -1,17 +1,14 @@
 //! The text of a page's decisions, tables and verdicts.
 ghost use Rattle.std.specs.Prelude.{◌≡◌, ◌≤◌, ◌↔◌, ◌++◌, ℕ, List, length, map, All, IfOk, IsTrue, OnOk, OnErr};
 ghost use Rattle.std.specs.Bool.{Decides};
-ghost use Rattle.vpg_diagram.specs.FeatureDiagram.{feature_count};
-ghost use Rattle.vpg_game.specs.Game.{IsAtLimit, graph_of};
+ghost use Rattle.vpg_game.specs.Game.{graph_of};
 ghost use Rattle.vpg_measure.specs.Games.{ArePageGames, games_levels, games_arena};
 ghost use Rattle.vpg_measure.specs.Lifts.{IsTableOf, IsProgressTable};
 ghost use Rattle.vpg_measure.specs.TwoGames.{top_for};
 ghost use Rattle.vpg_partial.specs.Known.{literal_of};
-ghost use Rattle.vpg_partial.specs.KnownLaws.{HasConflictOf};
 ghost use Rattle.vpg_partial.specs.TableLaws.{AreChoicesOf};
 ghost use Rattle.vpg_texts.specs.Scene.{AreSettledTables, IsShown, TellsUnder, scene_of, shown_lines};
 
-use crate::showing::games_of;
 use crate::text;
 use std::alloc::{AllocError, Global};
 use vpg_diagram::Diagram;
@@ -80,8 +77,10 @@ fn shown(
     Ok(text)
 }
 
-/// Appends the text of a page as `show` does, over the games that its decisions leave: no guard is looked at.
-pub fn show_over(
+/// Appends the text of a page: its decisions in their order, whether each feature is known, and whether both tables are
+/// progress tables. Then each vertex with its two measures, its verdict and its name. The tables have one number up to
+/// the top for each vertex.
+pub fn show(
     alloc: Global,
     games: &PageGames,
     page: &Page,
@@ -114,34 +113,4 @@ pub fn show_over(
         &page.dual,
     )?;
     out.extend_from_slice(&text)
-}
-
-/// Appends the text of a page: its decisions in their order, whether each feature is known, and whether both tables are
-/// progress tables. Then each vertex with its two measures, its verdict and its name. The page's decisions have no
-/// conflict, and its tables have one number up to the top for each vertex.
-pub fn show(
-    alloc: Global,
-    page: &Page,
-    game: &GuardedGame,
-    diagram: &Diagram,
-    labels: &VertexNames,
-    out: &mut Vec<u8>,
-) -> Result<(), AllocError>
-    requires not_at_limit { ¬ IsAtLimit game.now }
-    requires features { game.now.features ≡ feature_count diagram.now.lines }
-    requires named { AreChoicesOf diagram.now.lines (map literal_of page.now.decisions) }
-    requires consistent { ¬ (HasConflictOf diagram.now.lines (map literal_of page.now.decisions)) }
-    requires hopeful { length page.now.hopeful ≡ length game.now.vertices }
-    requires dual { length page.now.dual ≡ length game.now.vertices }
-    requires hopeful_within { All (λ n. n ≤ top_for Which.Hopeful (graph_of game.now)) page.now.hopeful }
-    requires dual_within { All (λ n. n ≤ top_for Which.Dual (graph_of game.now)) page.now.dual }
-    ensures shown { OnOk result
-        ((text : List ℕ) ×
-        (IsShown (scene_of labels.now.names game.now diagram.now) page.now.decisions page.now.hopeful page.now.dual
-        text ×
-        (out.new.items ≡ out.old.items ++ text))) }
-    ensures unchanged { OnErr result (out.new.items ≡ out.old.items) }
-{
-    let games = games_of(alloc, game, diagram, page.decisions.as_slice())?;
-    show_over(alloc, &games, page, game, diagram, labels, out)
 }

@@ -3,16 +3,14 @@ ghost use Rattle.std.specs.Prelude.{◌≡◌, ◌≤◌, ◌↔◌, ◌++◌, �
 ghost use Rattle.vpg_guards.specs.Known.{AreAllKnown};
 ghost use Rattle.vpg_diagram.specs.FeatureDiagram.{feature_count};
 ghost use Rattle.vpg_partial.specs.Known.{literal_of};
-ghost use Rattle.vpg_partial.specs.KnownLaws.{HasConflictOf};
 ghost use Rattle.vpg_partial.specs.TableLaws.{AreChoicesOf};
-ghost use Rattle.vpg_game.specs.Game.{IsAtLimit, graph_of};
+ghost use Rattle.vpg_game.specs.Game.{graph_of};
 ghost use Rattle.vpg_measure.specs.Games.{ArePageGames};
 ghost use Rattle.vpg_measure.specs.Lifts.{IsTableOf, AreChoices};
 ghost use Rattle.vpg_measure.specs.TwoGames.{top_for};
 ghost use Rattle.vpg_texts.specs.Plan.{IsPlanned, IsPlanFault, PlanWins};
 ghost use Rattle.vpg_texts.specs.Scene.{AreSettledTables, scene_of};
 
-use crate::showing::games_of;
 use crate::showing::page::is_settled_table;
 use crate::text;
 use std::alloc::{AllocError, Global};
@@ -73,11 +71,12 @@ fn choices(
     }
 }
 
-/// Appends a plan as `plan` does, over the games that the page's decisions leave: no guard is looked at.
+/// Appends a plan: for each vertex of Even that isn't hopeless, in file order, the first kept successor of least
+/// `prog`; then how many there are. The tables have one number up to the top for each vertex.
 ///
 /// Errors, in this order: `NotFull` if some feature isn't known, `NotSettled` if some table is no progress table,
 /// `Memory`. Neither of the first two takes memory.
-pub fn plan_over(
+pub fn plan(
     alloc: Global,
     games: &PageGames,
     page: &Page,
@@ -124,44 +123,4 @@ pub fn plan_over(
     text::plan(game, labels, &chosen, &mut text)?;
     out.extend_from_slice(&text)?;
     Ok(())
-}
-
-/// Appends a plan: for each vertex of Even that isn't hopeless, in file order, the first kept successor of least
-/// `prog`; then how many there are. The page's decisions have no conflict, and its tables have one number up to the top
-/// for each vertex.
-///
-/// Errors, in this order: `NotFull` if some feature isn't known, `NotSettled` if some table is no progress table,
-/// `Memory`. Closing the decisions takes memory, so `Memory` may come in place of the first two.
-pub fn plan(
-    alloc: Global,
-    page: &Page,
-    game: &GuardedGame,
-    diagram: &Diagram,
-    labels: &VertexNames,
-    out: &mut Vec<u8>,
-) -> Result<(), PlanFault>
-    requires not_at_limit { ¬ IsAtLimit game.now }
-    requires features { game.now.features ≡ feature_count diagram.now.lines }
-    requires named { AreChoicesOf diagram.now.lines (map literal_of page.now.decisions) }
-    requires consistent { ¬ (HasConflictOf diagram.now.lines (map literal_of page.now.decisions)) }
-    requires hopeful { length page.now.hopeful ≡ length game.now.vertices }
-    requires dual { length page.now.dual ≡ length game.now.vertices }
-    requires hopeful_within { All (λ n. n ≤ top_for Which.Hopeful (graph_of game.now)) page.now.hopeful }
-    requires dual_within { All (λ n. n ≤ top_for Which.Dual (graph_of game.now)) page.now.dual }
-    ensures planned { OnOk result
-        ((text : List ℕ) ×
-        (IsPlanned (scene_of labels.now.names game.now diagram.now) page.now.decisions page.now.hopeful page.now.dual
-        text ×
-        (out.new.items ≡ out.old.items ++ text))) }
-    ensures refused { IfErr result
-        (IsPlanFault (scene_of labels.now.names game.now diagram.now) page.now.decisions page.now.hopeful
-        page.now.dual) }
-
-    // Even wins by the choices, in the one product that remains.
-    ensures wins { OnOk result
-        (PlanWins (scene_of labels.now.names game.now diagram.now) page.now.decisions page.now.hopeful) }
-    ensures unchanged { OnErr result (out.new.items ≡ out.old.items) }
-{
-    let games = games_of(alloc, game, diagram, page.decisions.as_slice())?;
-    plan_over(alloc, &games, page, game, diagram, labels, out)
 }

@@ -15,4 +15,4 @@ returns c =
     (IsCountAnswer (scene_of [] game diagram) c.args.limits page.decisions page.hopeful page.dual)
     (counts_left game c.deref-2.result.now diagram c.deref-3.result.now c.args.limits page.decisions c.as_slice-decisions.result.now page.hopeful page.dual c.mark_of-mark.result.now c.in_ok-left.left
     c.deref-2.ensures c.deref-3.ensures c.as_slice-decisions.ensures c.mark_of-mark.ensures c.in_ok-left.ensures)
-    c.count_over.result c.done.result c.done.ensures c.args.out.now.items c.count_over.new.out.items c.count_over.ensures.counted
+    c.count.result c.done.result c.done.ensures c.args.out.now.items c.count.new.out.items c.count.ensures.counted

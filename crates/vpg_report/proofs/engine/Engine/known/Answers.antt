@@ -23,8 +23,8 @@ invariant_of-self g c =
     let same = stays g.L.Terms.limit never_refused e.client c.args.session Page _ _ c.in-Err.ensures.fault in
     endures g.L.Terms.limit _ _ e.client.desk e.harvests.items c.self.invariant _ e.harvests.items same.0 same.1 c.self.invariant.harvests
 
-pub invariant_of-self-in_err-put_known_over : goal.invariant_of-self-in_err-put_known_over
-invariant_of-self-in_err-put_known_over g c =
+pub invariant_of-self-in_err-put_known : goal.invariant_of-self-in_err-put_known
+invariant_of-self-in_err-put_known g c =
     let e = c.self.inside in
     let step = c.in-Ok.ensures.accepted.step in
     endures g.L.Terms.limit _ _ e.client.desk e.harvests.items c.self.invariant _ e.harvests.items step.game step.diagram c.self.invariant.harvests
@@ -44,12 +44,12 @@ returns-in_default-clause-answer g c =
     on_same_view c.refused.result _ old _ _ _ _ c.self.view_is
     (λ tone told. unasked old c.args.session (script.Known c.args.name.now) NoFeature c.args.out.now.items _ (ap page_or none) told) c.refused.ensures.told
 
-pub put_known_over-requires-clause-known : goal.put_known_over-requires-clause-known
-put_known_over-requires-clause-known g c =
+pub put_known-requires-clause-known : goal.put_known-requires-clause-known
+put_known-requires-clause-known g c =
     (games_are c.self.inside.client.desk _ c.deref.result.now c.in-Ok.ensures.games c.deref.ensures c.self.inside.client.desk.game c.deref-2.result.now c.in-Ok.both.0.decisions refl (c.deref-2.ensures ∙ c.self.invariant.diagram) c.in-Ok.ensures.decisions).known.length_is
 
-pub put_known_over-requires-clause-feature : goal.put_known_over-requires-clause-feature
-put_known_over-requires-clause-feature g c =
+pub put_known-requires-clause-feature : goal.put_known-requires-clause-feature
+put_known-requires-clause-feature g c =
     let e = c.self.inside in
     let names_are : c.names.result.now ≡ e.client.desk.diagram.names = c.names.ensures ∙ ap (λ (s : EngineState). s.client.desk.diagram.names) (sym c.self.view_is) in
     let within : c.in-Some.feature < length e.client.desk.diagram.names =
@@ -66,7 +66,7 @@ returns-clause-answer g c =
     let found : index_of desk.diagram.names c.args.name.now ≡ Some c.in-Some.feature =
     ap (λ (s : EngineState). index_of s.client.desk.diagram.names c.args.name.now) c.self.view_is ∙ ap (λ (ns : List (List ℕ)). index_of ns c.args.name.now) (sym c.names.ensures) ∙ sym c.get.ensures.index ∙ c.in-Some.is in
     on_view_told old _ _ _ _ _ c.self.view_is
-    (known_answers g.L.Terms.limit c.self.invariant.room_is old _ c.args.session desk.game c.deref-2.result.now c.args.out.now.items _ refl diagram_is c.in-Ok.both.0.entries c.in-Ok.ensures.accepted refl c.in-Ok.both.0.decisions c.in-Ok.ensures.decisions c.deref.result.now are c.args.name.now c.in-Some.feature found c.in_ok-put_known_over.ensures.known)
+    (known_answers g.L.Terms.limit c.self.invariant.room_is old _ c.args.session desk.game c.deref-2.result.now c.args.out.now.items _ refl diagram_is c.in-Ok.both.0.entries c.in-Ok.ensures.accepted refl c.in-Ok.both.0.decisions c.in-Ok.ensures.decisions c.deref.result.now are c.args.name.now c.in-Some.feature found c.in_ok-put_known.ensures.known)
 
 pub returns-in-Err-clause-answer : goal.returns-in-Err-clause-answer
 returns-in-Err-clause-answer g c =

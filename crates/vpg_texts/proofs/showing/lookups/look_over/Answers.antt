@@ -12,20 +12,20 @@ use Rattle.vpg_texts.proofs.showing.lookups.look_over.Goals as goal
 pub returns-in-Show-clause-seen : goal.returns-in-Show-clause-seen
 returns-in-Show-clause-seen c =
     let page = c.args.page.now in
-    shown_as (scene_of c.args.labels.now.names c.args.game.now c.args.diagram.now) page.entries page.decisions page.hopeful page.dual c.args.out.now.items c.show_over.new.out.items c.show_over.result c.done.result c.done.ensures
-    script.Show (lookup_shown c.args.lookup.now) (λ answer is. is) (ap lookup_shown (sym c.in-Show.is)) c.show_over.ensures.shown
+    shown_as (scene_of c.args.labels.now.names c.args.game.now c.args.diagram.now) page.entries page.decisions page.hopeful page.dual c.args.out.now.items c.show.new.out.items c.show.result c.done.result c.done.ensures
+    script.Show (lookup_shown c.args.lookup.now) (λ answer is. is) (ap lookup_shown (sym c.in-Show.is)) c.show.ensures.shown
 
 pub returns-in-Show-clause-unchanged : goal.returns-in-Show-clause-unchanged
-returns-in-Show-clause-unchanged c = not_done c.show_over.result c.done.result c.done.ensures _ c.show_over.ensures.unchanged
+returns-in-Show-clause-unchanged c = not_done c.show.result c.done.result c.done.ensures _ c.show.ensures.unchanged
 
 pub returns-in-Count-clause-seen : goal.returns-in-Count-clause-seen
 returns-in-Count-clause-seen c =
     let page = c.args.page.now in
-    shown_as (scene_of c.args.labels.now.names c.args.game.now c.args.diagram.now) page.entries page.decisions page.hopeful page.dual c.args.out.now.items c.count_over.new.out.items c.count_over.result c.done-in-Count.result c.done-in-Count.ensures
-    script.Count (lookup_shown c.args.lookup.now) (λ answer is. is) (ap lookup_shown (sym c.in-Count.is)) c.count_over.ensures.counted
+    shown_as (scene_of c.args.labels.now.names c.args.game.now c.args.diagram.now) page.entries page.decisions page.hopeful page.dual c.args.out.now.items c.count.new.out.items c.count.result c.done-in-Count.result c.done-in-Count.ensures
+    script.Count (lookup_shown c.args.lookup.now) (λ answer is. is) (ap lookup_shown (sym c.in-Count.is)) c.count.ensures.counted
 
 pub returns-in-Count-clause-unchanged : goal.returns-in-Count-clause-unchanged
-returns-in-Count-clause-unchanged c = not_done c.count_over.result c.done-in-Count.result c.done-in-Count.ensures _ c.count_over.ensures.unchanged
+returns-in-Count-clause-unchanged c = not_done c.count.result c.done-in-Count.result c.done-in-Count.ensures _ c.count.ensures.unchanged
 
 pub returns-in-Draw-clause-seen : goal.returns-in-Draw-clause-seen
 returns-in-Draw-clause-seen c =
@@ -49,12 +49,12 @@ returns-in-Trail-clause-unchanged c = not_done c.trail.result c.done-in-Trail.re
 pub returns-in-Products-clause-seen : goal.returns-in-Products-clause-seen
 returns-in-Products-clause-seen c =
     let page = c.args.page.now in
-    shown_as (scene_of c.args.labels.now.names c.args.game.now c.args.diagram.now) page.entries page.decisions page.hopeful page.dual c.args.out.now.items c.products_over.new.out.items c.products_over.result c.done-in-Products.result c.done-in-Products.ensures
+    shown_as (scene_of c.args.labels.now.names c.args.game.now c.args.diagram.now) page.entries page.decisions page.hopeful page.dual c.args.out.now.items c.products.new.out.items c.products.result c.done-in-Products.result c.done-in-Products.ensures
     script.Products (lookup_shown c.args.lookup.now) (λ answer is. is) (ap lookup_shown (sym c.in-Products.is))
-    (on_ok c.products_over.result _ _ (λ items. (products_text c.args.diagram.now.names c.args.games.now.known, ((c.args.games.now.known, (c.requires.games.known, refl)), items))) c.products_over.ensures.products)
+    (on_ok c.products.result _ _ (λ items. (products_text c.args.diagram.now.names c.args.games.now.known, ((c.args.games.now.known, (c.requires.games.known, refl)), items))) c.products.ensures.products)
 
 pub returns-in-Products-clause-unchanged : goal.returns-in-Products-clause-unchanged
-returns-in-Products-clause-unchanged c = not_done c.products_over.result c.done-in-Products.result c.done-in-Products.ensures _ c.products_over.ensures.unchanged
+returns-in-Products-clause-unchanged c = not_done c.products.result c.done-in-Products.result c.done-in-Products.ensures _ c.products.ensures.unchanged
 
 pub returns-in-Vertices-clause-seen : goal.returns-in-Vertices-clause-seen
 returns-in-Vertices-clause-seen c =

@@ -1,13 +1,16 @@
+use Rattle.std.proofs.Common.{◌++◌, ℕ, List, ap, ◌∙◌, refl}
+use Rattle.vpg_texts.specs.Scene.{IsShown, scene_of}
+use Rattle.vpg_texts.proofs.Shown.{on_ok, appended}
+use Rattle.vpg_texts.proofs.Pieces.{unwritten}
 use Rattle.vpg_texts.proofs.showing.page.show.Goals as goal
 
-pub games_of-requires-clause-consistent : goal.games_of-requires-clause-consistent
-games_of-requires-clause-consistent c = rw c.as_slice.ensures c.requires.consistent
+pub returns-clause-shown : goal.returns-clause-shown
+returns-clause-shown c =
+    let page = c.args.page.now in
+    let text = c.in_ok-text.text.items in
+    let shown : IsShown (scene_of c.args.labels.now.names c.args.game.now c.args.diagram.now) page.decisions page.hopeful page.dual text =
+    (c.args.games.now.known, (c.requires.games.known, rw c.as_slice.ensures at c.in_ok-text.ensures)) in
+    on_ok c.extend_from_slice.result _ _ (λ items. (text, (shown, items ∙ ap (λ (bytes : List ℕ). c.args.out.now.items ++ bytes) c.deref.ensures.value))) (appended c.extend_from_slice.result _ _ _ c.extend_from_slice.ensures.items)
 
-pub show_over-requires-clause-games : goal.show_over-requires-clause-games
-show_over-requires-clause-games c = rw c.as_slice.ensures at c.in_ok-games.ensures
-
-pub show_over-requires-clause-hopeful_within : goal.show_over-requires-clause-hopeful_within
-show_over-requires-clause-hopeful_within c = c.requires.hopeful_within
-
-pub show_over-requires-clause-dual_within : goal.show_over-requires-clause-dual_within
-show_over-requires-clause-dual_within c = c.requires.dual_within
+pub returns-clause-unchanged : goal.returns-clause-unchanged
+returns-clause-unchanged c = unwritten c.extend_from_slice.result _ _ _ _ c.extend_from_slice.ensures.items refl
