@@ -107,14 +107,21 @@ impl<L: Terms> Server for Answering<'_, L> {
             Command::Redo(serial) => self.engine.redo(rt, alloc, session, *serial, out),
             Command::Keep(serial) => self.engine.keep(rt, session, *serial, out),
             Command::Forget(serial) => self.engine.forget(rt, session, *serial, out),
-            Command::Lift(table, vertex) => { self.engine.lift(rt, alloc, session, *table, *vertex, out) }
+            Command::Lift(table, vertex) => {
+                self.engine.lift(rt, alloc, session, *table, *vertex, out)
+            }
             Command::Harvest => self.engine.harvest(rt, alloc, session, lifters, out),
             Command::Commit(number) => self.engine.commit(rt, alloc, session, *number, out),
-            Command::Settle(sweeps) => { self.engine.settle(rt, alloc, session, *sweeps, lifters, out) }
+            Command::Settle(sweeps) => {
+                self.engine
+                    .settle(rt, alloc, session, *sweeps, lifters, out)
+            }
             Command::Look(lookup) => self.engine.look(rt, alloc, session, labels, lookup, out),
             Command::Changed => self.engine.changed(rt, alloc, session, labels, out),
             Command::Known(name) => self.engine.known(rt, alloc, session, *name, out),
-            Command::Ask(inquiry) => { ask(&mut self.engine, rt, alloc, session, context, *inquiry, out) }
+            Command::Ask(inquiry) => {
+                ask(&mut self.engine, rt, alloc, session, context, *inquiry, out)
+            }
         }
     }
 }

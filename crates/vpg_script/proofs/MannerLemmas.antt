@@ -1,7 +1,7 @@
 -- A script in a manner, one line more; and where no manner is asked for, what it was.
 use Rattle.std.proofs.Common.{◌≡◌, ℕ, suc, ◌+◌, Bool, true, false, List, [], ◌∷◌, ◌++◌, length, Option, Some, None, Result, Ok, Err, refl, sym, ap, ap₂, ◌∙◌, inl, inr, append-nil, subst, arith, length-append, replicate, ◌<◌, append_assoc}
 use Rattle.std.proofs.lemmas.List.{length-replicate}
-use Rattle.std.specs.Prelude.{◌||◌, ◌&&◌}
+use Rattle.std.specs.Prelude.{◌||◌, ◌&&◌, OnOk}
 use Rattle.std.specs.List.{list_any}
 use Rattle.std.proofs.lemmas.List.Folds.{list_any-append}
 use Rattle.std.specs.Io.KnownBytes.{prepend_known, Appends, Keeps}
@@ -17,12 +17,10 @@ use Rattle.vpg_script.specs.declared.framing.Form.{Form}
 use Rattle.vpg_script.specs.declared.framing.Form.TheVariants as forms
 use Rattle.vpg_script.specs.Output.{Machine, Speaks, Answered, ReadKnown, Wrote, NextKnown, IsEmptyKnown, FaultyKnown, ScriptOutcome, text_of}
 use Rattle.vpg_script.specs.Manners.{fault_answer, Answers, AnsweredEach, WroteEach, Went, Leaves, MannerOutcome}
-use Rattle.vpg_script.specs.Results.{stop_of, ending_of, PutOutcome, FaultOutcome, TakenKnown, AskedBy, TakenSaying, AskedOutcome}
+use Rattle.vpg_script.specs.Results.{UnlessReaderFails, UnlessWriterFails, stop_of, ending_of, PutOutcome, FaultOutcome, TakenKnown, TakenSaying, AskedOutcome}
 use Rattle.vpg_script.specs.declared.command.LineFault.{LineFault}
 use Rattle.vpg_script.specs.declared.command.LineFault.TheVariants as faults
 use Rattle.vpg_script.specs.declared.lines.Next.TheVariants as next
-use Rattle.vpg_script.specs.declared.answering.Asked.{Asked}
-use Rattle.vpg_script.specs.declared.answering.Asked.TheVariants as asks
 use Rattle.vpg_script.specs.declared.tone.Tone.{Tone}
 use Rattle.vpg_script.specs.declared.tone.Tone.TheVariants as tones
 use Rattle.vpg_script.specs.declared.serving.Manner.{Manner}
@@ -101,29 +99,6 @@ passed_over goes_on a m b comes passed =
 pub left_there : (goes_on : Bool) (a m b : Option (List ℕ)) → ComesKnown next.TooLong a m → goes_on ≡ false →
     FaultyKnown faults.TooLong a × (goes_on ≡ true → TakenSaying a (Err faults.TooLong) b)
 left_there goes_on a m b comes off = (too_long_faulty a m comes, λ on. absurd (cc (on, off)))
-
--- or its end was not read
-pub held_known : (a m left : Option (List ℕ)) → ComesKnown next.TooLong a m → HeldKnown m left → HeldKnown a left
-held_known None m left comes (held, (unended, keeps)) = (held, (unended, tt))
-held_known (Some text) None left comes held = absurd comes
-held_known (Some text) (Some same) left comes (held, (unended, keeps)) =
-    (held, (unended, subst (λ (t : List ℕ). Keeps (Some t) (prepend_known held left)) comes.1 keeps))
-
-
--- any other line
-pub line_asked : (goes_on : Bool) (a b left : Option (List ℕ)) (line : Vec ℕ) (result : Result Asked RunFault)
-    → ComesKnown (next.Line line) a b → AskedBy (said line.items) result → AskedOutcome goes_on a b left result
-line_asked goes_on a b left line (Ok (asks.Request request)) comes so = (line.items, (line_taken a b line comes, so))
-line_asked goes_on a b left line (Ok asks.Nothing) comes so = (line.items, (line_taken a b line comes, so))
-line_asked goes_on a b left line (Ok (asks.Fault fault)) comes so =
-    (line_faulty a b line fault comes so, λ on. (line.items, (line_taken a b line comes, so)))
-line_asked goes_on a b left line (Ok asks.End) comes so = absurd so
-line_asked goes_on a b left line (Err stops.Memory) comes so = tt
-line_asked goes_on a b left line (Err stops.Read) comes so = absurd so
-line_asked goes_on a b left line (Err stops.Write) comes so = absurd so
-line_asked goes_on a b left line (Err stops.Stray) comes so = absurd so
-line_asked goes_on a b left line (Err (stops.Open why)) comes so = absurd so
-line_asked goes_on a b left line (Err (stops.Line m fault)) comes so = absurd so
 
 -- ---- the next line, answered
 
@@ -219,6 +194,42 @@ module _ {S : Type 0} (manner : Manner) (n : ℕ) (serves : Machine S) (s : S) (
   pub unserved_met : (new : S) (fault : ServeFault) → after ≡ before → LineMet manner n serves s new a b left before after (Err (stop_of fault))
   unserved_met new unserved.Memory same = same
   unserved_met new unserved.Stray same = same
+
+-- a line with a fault is answered if the script goes on
+pub goes_on_then : (manner : Manner) (n : ℕ) (fault : LineFault) (before after : Option (List ℕ)) (result : Result Tone RunFault) → FaultOutcome manner n fault before after result → OnOk result (manner.goes_on ≡ true)
+goes_on_then manner n fault before after (Ok given) so = so.0
+goes_on_then manner n fault before after (Err stop) so = tt
+
+pub on_ok : {A E P : Type 0} (r : Result A E) → P → OnOk r P
+on_ok (Ok a) p = p
+on_ok (Err e) p = tt
+
+-- the devices after a line
+pub reader_same : {A : Type 0} (r : Result A RunFault) (P : Type 0) → P → UnlessReaderFails r P
+reader_same (Ok a) P p = p
+reader_same (Err stops.Read) P p = tt
+reader_same (Err stops.Write) P p = p
+reader_same (Err stops.Memory) P p = p
+reader_same (Err stops.Stray) P p = p
+reader_same (Err (stops.Open fault)) P p = p
+reader_same (Err (stops.Line n fault)) P p = p
+
+pub writer_sound : {A : Type 0} (r : Result A RunFault) (x y z : Bool) → y ≡ z → UnlessWriterFails r (x ≡ y) → UnlessWriterFails r (x ≡ z)
+writer_sound (Ok a) x y z e p = p ∙ e
+writer_sound (Err stops.Write) x y z e p = tt
+writer_sound (Err stops.Read) x y z e p = p ∙ e
+writer_sound (Err stops.Memory) x y z e p = p ∙ e
+writer_sound (Err stops.Stray) x y z e p = p ∙ e
+writer_sound (Err (stops.Open fault)) x y z e p = p ∙ e
+writer_sound (Err (stops.Line n fault)) x y z e p = p ∙ e
+
+pub writer_same : (A B : Type 0) (stop : RunFault) (P : Type 0) → UnlessWriterFails {A = A} (Err stop) P → UnlessWriterFails {A = B} (Err stop) P
+writer_same A B stops.Write P p = tt
+writer_same A B stops.Read P p = p
+writer_same A B stops.Memory P p = p
+writer_same A B stops.Stray P p = p
+writer_same A B (stops.Open fault) P p = p
+writer_same A B (stops.Line n fault) P p = p
 
 -- ---- a script
 

@@ -158,16 +158,21 @@ pub fn answer_script_as<T: Threads + Wait + Sync, V: Server, R: Source, W: Sink>
     'lines: loop {
         let mut line = Vec::new(alloc);
         let asked = next_request(
-            alloc, manner.goes_on, &mut line, &mut held, &mut reads, reader,
+            alloc,
+            manner.goes_on,
+            &mut line,
+            &mut held,
+            &mut reads,
+            reader,
         )?;
-        let answered = match asked {
+        let answered = match &asked {
             Asked::Request(request) => {
                 let mut text = Vec::new(alloc);
-                let tone = server.serve(rt, alloc, lifters, &request, &mut text)?;
+                let tone = server.serve(rt, alloc, lifters, request, &mut text)?;
                 put_answer(alloc, manner.form, number, tone, &text, writer)
             }
             Asked::Nothing => Ok(Tone::Done),
-            Asked::Fault(fault) => answer_fault(alloc, manner, number, fault, writer),
+            Asked::Fault(fault) => answer_fault(alloc, manner, number, *fault, writer),
             Asked::End => return Ok(ending_of(failed)),
         };
         let tone = answered?;
