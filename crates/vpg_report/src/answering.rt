@@ -74,7 +74,7 @@ impl<L: Terms> Server for Answering<'_, L> {
 
     ghost state = { λ a. between_of a.engine };
 
-    /// Carries a request out, as it is meant in the context: by the calls of the engine, or as a question about the page.
+    /// Carries a request out, as it is meant in the context: by calls of the engine, or as a question about the page.
     fn serve<T: Threads + Wait + Sync>(
         &mut self,
         rt: &T,
