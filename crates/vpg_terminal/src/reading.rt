@@ -16,13 +16,6 @@ fn lifters<'a>(arg: Arg<'a>) -> Arg<'a> {
         .default_value("1")
 }
 
-/// Returns an option without a value, which goes without another one.
-fn apart<'a>(arg: Arg<'a>, name: &'a str, without: &'a str) -> Result<Arg<'a>, AllocError> {
-    arg.long(name)
-        .action(ArgAction::SetTrue)
-        .conflicts_with(without)
-}
-
 /// Returns an option without a value, which goes with another one, and without a third.
 fn choice<'a>(
     arg: Arg<'a>,
@@ -44,7 +37,6 @@ fn arg_of<'a>(alloc: Global, argument: Argument) -> Result<Arg<'a>, AllocError> 
         Kind::Words => Ok(arg.required(true).num_args(1..)),
         Kind::Optional => Ok(arg),
         Kind::Flag => Ok(arg.long(argument.name).action(ArgAction::SetTrue)),
-        Kind::Apart { without } => apart(arg, argument.name, without),
         Kind::Choice { with, without } => choice(arg, argument.name, with, without),
         Kind::Lifters => Ok(lifters(arg)),
         Kind::Value { value, with } => {

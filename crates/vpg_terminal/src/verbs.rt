@@ -20,10 +20,6 @@ pub(crate) enum Kind {
     Optional,
     /// An option without a value.
     Flag,
-    /// Such an option, which goes without another one.
-    Apart {
-        without: &'static str,
-    },
     /// Such an option, which goes with another one, and without a third.
     Choice {
         with: &'static str,
@@ -145,7 +141,7 @@ const CONFIG: Argument = Argument {
 };
 
 const JSON: Argument = Argument {
-    kind: Kind::Apart { without: "names" },
+    kind: Kind::Flag,
     name: "json",
     help: JSON_HELP,
 };
