@@ -83,6 +83,7 @@ impl<L: Terms> Server for Answering<'_, L> {
         request: &Request<'_>,
         out: &mut Vec<u8>,
     ) -> Result<Tone, ServeFault>
+        requires lifters { (1 ≤ lifters) × (lifters ≤ 64) }
         ensures answer { IfOk result
             (λ tone. Gives
             (λ answer. answering_called (called_by self.old.engine self.old.context.now) lifters
