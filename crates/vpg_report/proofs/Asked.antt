@@ -91,8 +91,8 @@ served_with labels (Err e) old new lifters request shown before after same own p
 pub served : {E : Type 0} (labels : List (List ℕ)) (r : Result Tone E) (old new : EngineState) (lifters : ℕ) (request shown : Request) (before after : List ℕ) → request ≡ shown → IsUnnamed request.command →
     ((calls : List Event) (held : Held) → AreMadeBy (setting_in (scene_at old)) lifters request.command calls held) → IfOk r (λ tone. AnswersTo old request tone before after new) →
     IfOk r (λ tone. IsOwn shown.command × SweepsWith labels old lifters shown tone before after new)
-served labels (Ok tone) old new lifters request shown before after same unnamed plain so =
-    served_with labels (Ok tone) old new lifters request shown before after same (unnamed_own request.command unnamed) plain (named_as labels old new request.label request.command before after unnamed so)
+served {E = E} labels (Ok tone) old new lifters request shown before after same unnamed plain so =
+    served_with {E = E} labels (Ok tone) old new lifters request shown before after same (unnamed_own request.command unnamed) plain (named_as labels old new request.label request.command before after unnamed so)
 served labels (Err e) old new lifters request shown before after same unnamed plain so = tt
 
 -- the same, of what sweeps made
