@@ -31,7 +31,7 @@ use Rattle.vpg_script.specs.declared.serving.ServeFault.TheVariants as unserved
 use Rattle.vpg_script.specs.declared.fault.RunFault.{RunFault}
 use Rattle.vpg_script.specs.declared.fault.RunFault.TheVariants as stops
 use Rattle.vpg_script.proofs.FirstLine.{long_said, too_long_said}
-use Rattle.vpg_script.proofs.ScriptLemmas.{appends_none, appends_twice, read_more, read_kept, wrote_nothing, next_known, line_faulty, too_long_faulty}
+use Rattle.vpg_script.proofs.ScriptLemmas.{appends_none, appends_twice, read_more, read_kept, wrote_nothing, too_long_faulty}
 
 -- ---- one line
 

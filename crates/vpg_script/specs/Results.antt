@@ -4,11 +4,10 @@ use Rattle.std.specs.Io.KnownBytes.{Appends}
 use Rattle.vpg_script.specs.Devices.{AppendsSome}
 use Rattle.vpg_script.specs.Lines.{HeldKnown, NextLine}
 use Rattle.vpg_script.specs.Script.{Said, said}
-use Rattle.vpg_script.specs.Output.{Machine, NextKnown, IsEmptyKnown, FaultyKnown}
-use Rattle.vpg_script.specs.Answer.{Answer}
+use Rattle.vpg_script.specs.Output.{IsEmptyKnown, FaultyKnown}
 use Rattle.vpg_script.specs.View.{request_shown}
 use Rattle.vpg_script.specs.Framing.{framed}
-use Rattle.vpg_script.specs.Manners.{Answers, fault_answer}
+use Rattle.vpg_script.specs.Manners.{fault_answer}
 use Rattle.vpg_script.specs.declared.command.LineFault.{LineFault}
 use Rattle.vpg_script.specs.declared.answering.Asked.{Asked}
 use Rattle.vpg_script.specs.declared.answering.Asked.TheVariants as asks

@@ -1,8 +1,7 @@
-use Rattle.std.proofs.Common.{ℕ, Bool, List, [], ◌∷◌, ◌++◌, Option, Some, None, Result, Ok, Err, length-append, arith, ap, ap₂, sym, refl, ◌∙◌, ◌≡◌, ◌<◌, subst}
+use Rattle.std.proofs.Common.{ℕ, Bool, List, [], ◌∷◌, ◌++◌, Result, Ok, length-append, arith, ap, ap₂, sym, refl, ◌∙◌, ◌≡◌, subst}
 use Rattle.std.proofs.lemmas.Result.{err_from_is_err_and}
-use Rattle.std.specs.Prelude.{◌||◌, ◌&&◌, OnOk, vec_len}
+use Rattle.std.specs.Prelude.{◌||◌, ◌&&◌, OnOk}
 use Rattle.std.specs.Io.KnownBytes.{prepend_known}
-use Rattle.vpg_script.specs.Lines.{lines_left}
 use Rattle.vpg_script.specs.View.{request_shown}
 use Rattle.vpg_script.specs.Manners.{MannerOutcome, Went}
 use Rattle.vpg_script.specs.Answer.{is_failed, is_refused}
