@@ -1,5 +1,6 @@
 //! A server of scripts: an engine, with questions about the page.
 ghost use Rattle.std.specs.Prelude.{◌≡◌, ◌≤◌, IfOk, IsErrOf, OnOk};
+ghost use Rattle.std.specs.Thread.{IsSync};
 ghost use Rattle.vpg_report.specs.Faults.{IsAstray};
 ghost use Rattle.vpg_report.specs.Server.{AnswersTo};
 ghost use Rattle.vpg_report.specs.Engine.{between_of};
@@ -83,6 +84,7 @@ impl<L: Terms> Server for Answering<'_, L> {
         request: &Request<'_>,
         out: &mut Vec<u8>,
     ) -> Result<Tone, ServeFault>
+        requires sync { IsSync T.row }
         requires lifters { (1 ≤ lifters) × (lifters ≤ 64) }
         ensures answer { IfOk result
             (λ tone. Gives
