@@ -17,9 +17,10 @@
 //! It is no program itself: the `main` of `vpgdesk` only calls `program`, and so does each crate with a stored run that
 //! ends with another status.
 //!
-//! `words` reads the words and reports what fails. `tasks` has a function of another module carry each task out:
-//! `running` runs scripts, after a configuration of `configuring`; `typed` answers a person at a terminal; `texts`
-//! writes what files alone decide, and `leaving` what a script leaves.
+//! `program` reads the words, carries their task out, reports what failed, and returns the status. `tasks` has a
+//! function of another module for each task: `running` runs scripts, after a configuration of `configuring`; `typed`
+//! answers a person at a terminal; `texts` writes what files alone decide, and `leaving` what a script leaves. `words`
+//! has the words and the messages.
 #![tactic(auto)]
 
 mod configuring;
@@ -32,23 +33,34 @@ mod texts;
 mod typed;
 mod words;
 
-pub use crate::words::obey_words;
-use crate::words::{obey, tell};
+pub use crate::tasks::carry_out;
+use crate::tasks::explanation_of;
+use crate::words::{tell, unread, words_of};
 use std::process::ExitCode;
 use std::sync::Wait;
 use std::thread::Threads;
-use vpg_family::line_of;
+use vpg_family::{Texts, line_of};
 use vpg_report::{End, refused_line, status};
+use vpg_terminal::read;
 
 /// Carries out the task of the program's words, and reports what fails. Returns the status that the program ends with.
 /// The runtime is handed in twice: for its files, and for the threads of the lifters.
 pub fn program<T: Threads + Wait + Sync>(rt: &HostRuntime, threads: &T) -> ExitCode {
-    let mut lines = Vec::new(rt.alloc());
-    let ended = obey(rt, threads, rt.alloc(), &mut lines);
+    let alloc = rt.alloc();
+    let words = words_of(rt, alloc);
+    let asked = match &words {
+        Ok(words) => read(alloc, words),
+        Err(why) => Err(unread(alloc, *why)),
+    };
+    let mut texts = Texts::none(alloc);
+    let ended = carry_out(rt, threads, alloc, &asked, &mut texts);
     match &ended {
-        Ok(End::Refused { line }) => tell(rt, refused_line(rt.alloc(), *line), &lines),
+        Ok(End::Refused { line }) => tell(rt, refused_line(alloc, *line), b""),
         Ok(_) => {}
-        Err(fault) => tell(rt, line_of(rt.alloc(), fault), &lines),
+        Err(fault) => {
+            let lines = explanation_of(rt, alloc, &asked, &texts, fault);
+            tell(rt, line_of(alloc, fault), &lines);
+        }
     }
     status(&ended)
 }

@@ -1,7 +1,5 @@
 //! Scripts in files, and from standard input.
-ghost use Rattle.std.specs.Arc.{arc_value};
-ghost use Rattle.std.specs.Prelude.{◌≡◌, ◌≤◌};
-ghost use Rattle.vpg_diagram.specs.FeatureDiagram.{feature_count};
+ghost use Rattle.std.specs.Prelude.{◌≤◌};
 
 use crate::configuring::decisions_of;
 use crate::family::known_of;
@@ -9,9 +7,9 @@ use std::alloc::Global;
 use std::io::{IsTerminal, Read};
 use std::sync::Wait;
 use std::thread::Threads;
-use vpg_family::{Context, Family, Fault, Known, Paths, Texts, open_script, read_script};
+use vpg_family::{Context, Family, Fault, Paths, Texts, open_script, read_script};
 use vpg_report::{DIAGRAM, End, GAME, end_of, run_script};
-use vpg_script::{Device, Form, Manner, Sink, Source};
+use vpg_script::{Device, Form, Manner, Sink};
 
 /// A run of a script's file.
 #[derive(Clone, Copy)]
@@ -29,33 +27,6 @@ pub(crate) struct ScriptRun<'a> {
 /// Returns the form that answers are asked for in.
 pub(crate) fn answers_in(json: bool) -> Form {
     if json { Form::Json } else { Form::Plain }
-}
-
-/// Carries a script out on a family, in this context.
-pub(crate) fn run<T: Threads + Wait + Sync, R: Source + Drop, W: Sink + Drop>(
-    threads: &T,
-    alloc: Global,
-    family: Family,
-    context: &Context,
-    mut reader: R,
-    mut writer: W,
-    lifters: u32,
-    manner: Manner,
-) -> Result<End, Fault>
-    requires unread { R.calls reader ≡ 0 }
-    requires lifters { (1 ≤ lifters) × (lifters ≤ 64) }
-    requires features { (arc_value family.game).features ≡ feature_count (arc_value family.diagram).lines }
-{
-    end_of(run_script(
-        threads,
-        alloc,
-        family,
-        context,
-        &mut reader,
-        &mut writer,
-        lifters,
-        manner,
-    ))
 }
 
 /// The message while the program waits for a script from a terminal.
@@ -78,15 +49,24 @@ pub(crate) fn run_built_in<T: Threads + Wait + Sync>(
 ) -> Result<End, Fault> {
     let family = Family::read(alloc, DIAGRAM.as_bytes(), GAME.as_bytes())?;
     tell_waiting(rt);
-    let reader = Device::reader(rt.stdin().lock());
-    let writer = Device::writer(rt.stdout().lock());
+    let mut reader = Device::reader(rt.stdin().lock());
+    let mut writer = Device::writer(rt.stdout().lock());
     let context = Context::none(alloc);
     let manner = Manner {
         is_strict: false,
         goes_on: false,
         form: Form::Plain,
     };
-    run(threads, alloc, family, &context, reader, writer, 1, manner)
+    end_of(run_script(
+        threads,
+        alloc,
+        family,
+        &context,
+        &mut reader,
+        &mut writer,
+        1,
+        manner,
+    ))
 }
 
 /// Returns the lines of a script's file, none if there is no script.
@@ -99,34 +79,6 @@ pub(crate) fn script_of(
         Some(path) => read_script(rt, path),
         None => Ok(Vec::new(alloc)),
     }
-}
-
-/// Carries a script's file out on a family, and writes the answers to this writer.
-fn run_to<T: Threads + Wait + Sync, W: Sink + Drop>(
-    rt: &HostRuntime,
-    threads: &T,
-    alloc: Global,
-    known: &Known,
-    asked: ScriptRun<'_>,
-    writer: W,
-) -> Result<End, Fault>
-    requires lifters { (1 ≤ asked.lifters) × (asked.lifters ≤ 64) }
-    requires features { (arc_value known.now.family.game).features
-        ≡ feature_count (arc_value known.now.family.diagram).lines }
-{
-    let family = known.family.again()?;
-    let decisions = decisions_of(rt, alloc, asked.config)?;
-    let file = open_script(rt, asked.script)?;
-    run(
-        threads,
-        alloc,
-        family,
-        &known.context,
-        Device::reader(decisions.as_slice().chain(file)),
-        writer,
-        asked.lifters,
-        asked.manner,
-    )
 }
 
 /// Carries a script's file out on the family of some files.
@@ -143,6 +95,19 @@ pub(crate) fn run_files<T: Threads + Wait + Sync>(
     if asked.is_named {
         known.label();
     }
-    let writer = Device::writer(rt.stdout().lock());
-    run_to(rt, threads, alloc, &known, asked, writer)
+    let family = known.family.again()?;
+    let decisions = decisions_of(rt, alloc, asked.config)?;
+    let file = open_script(rt, asked.script)?;
+    let mut reader = Device::reader(decisions.as_slice().chain(file));
+    let mut writer = Device::writer(rt.stdout().lock());
+    end_of(run_script(
+        threads,
+        alloc,
+        family,
+        &known.context,
+        &mut reader,
+        &mut writer,
+        asked.lifters,
+        asked.manner,
+    ))
 }

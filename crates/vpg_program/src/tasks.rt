@@ -5,23 +5,29 @@ use crate::output::put_made;
 use crate::running::{ScriptRun, answers_in, run_built_in, run_files};
 use crate::texts::{counted, diagram_text, game_text, pictured, projected, warned};
 use crate::typed::{Talk, sit};
+use crate::words::print;
+use clap::Error;
 use std::alloc::Global;
 use std::sync::Wait;
 use std::thread::Threads;
 use vpg_family::{Fault, Texts, explained, explained_diagram, explained_set};
 use vpg_report::End;
 use vpg_script::Manner;
-use vpg_terminal::Task;
+use vpg_terminal::{Invocation, Task};
 
-/// Carries out the task of the words. The texts of its files are kept in `texts`, to explain a fault. The parser takes
-/// no number of lifters but 1 to 64.
-pub(crate) fn carry_out<T: Threads + Wait + Sync>(
+/// Carries out the task that was asked for, or prints the message in its place. The texts of its files are kept in
+/// `texts`, to explain a fault. The parser takes no number of lifters but 1 to 64.
+pub fn carry_out<T: Threads + Wait + Sync>(
     rt: &HostRuntime,
     threads: &T,
     alloc: Global,
-    task: &Task<'_>,
+    asked: &Result<Invocation<'_>, Error>,
     texts: &mut Texts,
 ) -> Result<End, Fault> {
+    let task = match asked {
+        Ok(asked) => &asked.task,
+        Err(told) => return print(rt, told),
+    };
     match task {
         Task::BuiltIn => run_built_in(rt, threads, alloc),
         Task::Run {
@@ -115,14 +121,19 @@ fn explained_script<'a>(task: &Task<'a>) -> Option<&'a str> {
     }
 }
 
-/// Returns lines that say where and why an input is refused. There are none if memory runs out.
+/// Returns lines that say where and why an input is refused. There are none if nobody asked for them, or if memory runs
+/// out.
 pub(crate) fn explanation_of(
     rt: &HostRuntime,
     alloc: Global,
-    task: &Task<'_>,
+    asked: &Result<Invocation<'_>, Error>,
     texts: &Texts,
     fault: &Fault,
 ) -> Vec<u8> {
+    let task = match asked {
+        Ok(asked) if asked.explains => &asked.task,
+        _ => return Vec::new(alloc),
+    };
     let script = explained_script(task);
     let lines = match (task, fault) {
         (Task::Project { paths, features }, Fault::NotAProduct) => {

@@ -4,14 +4,13 @@ ghost use Rattle.std.specs.Prelude.{◌≡◌, ◌≤◌, IfOk};
 ghost use Rattle.vpg_diagram.specs.FeatureDiagram.{feature_count};
 
 use crate::family::known_of;
-use crate::running::run;
 use std::alloc::{AllocError, Global};
 use std::cell::Cell;
 use std::io::IsTerminal;
 use std::sync::Wait;
 use std::thread::Threads;
 use vpg_family::{Family, Fault, Known, Paths, Texts};
-use vpg_report::End;
+use vpg_report::{End, end_of, run_script};
 use vpg_script::{Device, Form, Manner, Sink, Source};
 use vpg_terminal::{Ear, Heard, Setting, Typed, command_list};
 
@@ -79,16 +78,18 @@ fn converse<T: Threads + Wait + Sync, R: Source + Drop, S: Sink + Drop, W: Sink 
         goes_on: true,
         form: talk.form,
     };
-    run(
+    let mut typed = Typed::new(alloc, setting, reader, beside);
+    let mut ear = Ear::new(writer, &heard);
+    end_of(run_script(
         threads,
         alloc,
         family,
         &known.context,
-        Typed::new(alloc, setting, reader, beside),
-        Ear::new(writer, &heard),
+        &mut typed,
+        &mut ear,
         talk.lifters,
         manner,
-    )
+    ))
 }
 
 /// Answers commands from standard input as they are typed, on a family.

@@ -66,3 +66,17 @@ pub called_stays : {E : Type 0} (r : Result Tone E) (old new : EngineState) (con
 called_stays (Ok tone) old new context same =
     ap (λ (scene : Scene). record { scene = record scene { labels = context.labels.names }; callings = context.callings; behaviour = context.behaviour }) same
 called_stays (Err e) old new context same = tt
+
+-- ---- the answer of the engine to a request as it is meant
+
+module _ {E : Type 0} (r : Result Tone E) (old new : EngineState) (context : Context) (diagram : NamedDiagram) (features : List (List ℕ)) (lifters : ℕ) (request said : Request) (before after : List ℕ) where
+  pub own_called : diagram ≡ old.client.desk.diagram → features ≡ diagram.names → said ≡ meant context.callings features request →
+      IfOk r (λ tone. IsOwn said.command × SweepsWith context.labels.names old lifters said tone before after new) →
+      IfOk r (λ tone. Gives (λ answer. answering_called (called_by old context) lifters (between_of old) request answer (between_of new)) tone before after)
+  own_called diagram_is features_are said_is so =
+      called_told r old new context diagram features lifters request said before after diagram_is features_are said_is
+      (carried_out context.labels.names r context.behaviour old new lifters said before after so)
+
+  pub own_called_stays : IfOk r (λ tone. IsOwn said.command × SweepsWith context.labels.names old lifters said tone before after new) →
+      OnOk r (called_by new context ≡ called_by old context)
+  own_called_stays so = called_stays r old new context (own_stays context.labels.names r old new lifters said before after so)

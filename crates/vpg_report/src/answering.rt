@@ -1,9 +1,9 @@
 //! A server of scripts: an engine, with questions about the page.
 ghost use Rattle.std.specs.Prelude.{◌≡◌, ◌≤◌, IfOk, IsErrOf, OnOk};
+ghost use Rattle.std.specs.Thread.{IsSync};
 ghost use Rattle.vpg_report.specs.Faults.{IsAstray};
 ghost use Rattle.vpg_report.specs.Server.{AnswersTo};
-ghost use Rattle.vpg_report.specs.Run.{answering};
-ghost use Rattle.vpg_report.specs.Engine.{between_of, scene_at, scene_with};
+ghost use Rattle.vpg_report.specs.Engine.{between_of};
 ghost use Rattle.vpg_script.specs.Answer.{Gives};
 ghost use Rattle.vpg_script.specs.Script.{Ask};
 ghost use Rattle.vpg_script.specs.View.{inquiry_shown, request_shown};
@@ -55,32 +55,6 @@ fn ask<L: Terms, R: Wait>(
     Ok(tone)
 }
 
-/// Answers a request: the engine's, or a question about the present page.
-fn answer<L: Terms, T: Threads + Wait + Sync>(
-    engine: &mut Engine<L>,
-    rt: &T,
-    alloc: Global,
-    lifters: u32,
-    context: &Context,
-    request: &Request<'_>,
-    out: &mut Vec<u8>,
-) -> Result<Tone, ServeFault>
-    requires lifters { (1 ≤ lifters) × (lifters ≤ 64) }
-    ensures answer { IfOk result
-        (λ tone. Gives
-        (λ answer. answering context.now.behaviour (scene_with context.now.labels.names engine.old) lifters
-        (between_of engine.old)
-        (request_shown request.now) answer (between_of engine.new)) tone out.old.items out.new.items) }
-    ensures scene { OnOk result (scene_at engine.new ≡ scene_at engine.old) }
-    ensures strayed { IsErrOf result ServeFault.Stray →
-        IsAstray engine.old.client request.now.label engine.new.client }
-{
-    match &request.command {
-        Command::Ask(inquiry) => ask(engine, rt, alloc, request.label, context, *inquiry, out),
-        _ => engine.carry_out(rt, alloc, lifters, &context.labels, request, out),
-    }
-}
-
 /// An engine that also answers questions about the page, with the context of lines. It can't be dropped, as the engine
 /// can't.
 pub(crate) struct Answering<'c, L: Terms> {
@@ -101,6 +75,7 @@ impl<L: Terms> Server for Answering<'_, L> {
 
     ghost state = { λ a. between_of a.engine };
 
+    /// Carries a request out, as it is meant in the context: by calls of the engine, or as a question about the page.
     fn serve<T: Threads + Wait + Sync>(
         &mut self,
         rt: &T,
@@ -108,10 +83,48 @@ impl<L: Terms> Server for Answering<'_, L> {
         lifters: u32,
         request: &Request<'_>,
         out: &mut Vec<u8>,
-    ) -> Result<Tone, ServeFault> {
+    ) -> Result<Tone, ServeFault>
+        requires sync { IsSync T.row }
+        requires lifters { (1 ≤ lifters) × (lifters ≤ 64) }
+        ensures answer { IfOk result
+            (λ tone. Gives
+            (λ answer. answering_called (called_by self.old.engine self.old.context.now) lifters
+            (between_of self.old.engine)
+            (request_shown request.now) answer (between_of self.new.engine)) tone out.old.items out.new.items) }
+        ensures scene { OnOk result (called_by self.new.engine self.new.context.now
+            ≡ called_by self.old.engine self.old.context.now) }
+        // A request strays only where the log or the sessions show it.
+        ensures strayed { IsErrOf result ServeFault.Stray →
+            IsAstray self.old.engine.client request.now.label self.new.engine.client }
+    {
         let features = self.engine.diagram().names();
         let said = meant(alloc, &self.context.callings, features, request)?;
-        let context = self.context;
-        answer(&mut self.engine, rt, alloc, lifters, context, &said, out)
+        let (session, context) = (said.label, self.context);
+        let labels = &context.labels;
+        match &said.command {
+            Command::Select(name) => self.engine.decide(rt, alloc, session, *name, true, out),
+            Command::Exclude(name) => self.engine.decide(rt, alloc, session, *name, false, out),
+            Command::Retract(name) => self.engine.retract(rt, alloc, session, *name, out),
+            Command::Reset => self.engine.reset(rt, alloc, session, out),
+            Command::Undo(serial) => self.engine.undo(rt, alloc, session, *serial, out),
+            Command::Redo(serial) => self.engine.redo(rt, alloc, session, *serial, out),
+            Command::Keep(serial) => self.engine.keep(rt, session, *serial, out),
+            Command::Forget(serial) => self.engine.forget(rt, session, *serial, out),
+            Command::Lift(table, vertex) => {
+                self.engine.lift(rt, alloc, session, *table, *vertex, out)
+            }
+            Command::Harvest => self.engine.harvest(rt, alloc, session, lifters, out),
+            Command::Commit(number) => self.engine.commit(rt, alloc, session, *number, out),
+            Command::Settle(sweeps) => {
+                self.engine
+                    .settle(rt, alloc, session, *sweeps, lifters, out)
+            }
+            Command::Look(lookup) => self.engine.look(rt, alloc, session, labels, lookup, out),
+            Command::Changed => self.engine.changed(rt, alloc, session, labels, out),
+            Command::Known(name) => self.engine.known(rt, alloc, session, *name, out),
+            Command::Ask(inquiry) => {
+                ask(&mut self.engine, rt, alloc, session, context, *inquiry, out)
+            }
+        }
     }
 }

@@ -12,10 +12,9 @@ ghost use Rattle.vpg_office.specs.Fronts.{family_between};
 ghost use Rattle.vpg_office.specs.Kept.{IsElsewhere};
 ghost use Rattle.vpg_report.specs.Client.{HasUnknownCall, IsLogged};
 ghost use Rattle.vpg_report.specs.Faults.{IsAstray, Tells};
-ghost use Rattle.vpg_report.specs.Answers.{IsOwn};
-ghost use Rattle.vpg_report.specs.Engine.{AnswersTo, AnswersWith, SweepsTo, SweepsWith, IsOpenFault, deciding, engine_of};
+ghost use Rattle.vpg_report.specs.Engine.{AnswersTo, AnswersWith, SweepsTo, IsOpenFault, deciding, engine_of};
 ghost use Rattle.vpg_script.specs.Script.{Retract, Reset, Undo as Undoes, Redo as Redoes, Keep, Forget, Lift, Harvest as Harvests, Commit, Settle, Look, Changed, Known};
-ghost use Rattle.vpg_script.specs.View.{lookup_shown, request_shown, vertex_shown};
+ghost use Rattle.vpg_script.specs.View.{lookup_shown, vertex_shown};
 
 use crate::answering::LIMITS;
 use crate::client::{Client, NotEnded};
@@ -39,7 +38,7 @@ use vpg_game::{GuardedGame, VertexNames};
 use vpg_guess::Groundwork;
 use vpg_measure::{Harvest, Order};
 use vpg_office::{NotOpened, Redo, Site, Terms, Undo};
-use vpg_script::{Command, Lookup, Request, ServeFault, Tone, Vertex};
+use vpg_script::{Lookup, ServeFault, Tone, Vertex};
 use vpg_settle::swept;
 use vpg_sides::{Verdict, Which};
 use vpg_texts::{has_vertices, put_changed, put_known, verdicts_over, vertex_at};
@@ -103,7 +102,7 @@ impl<L: Terms> Engine<L> {
     }
 
     /// Decides a feature, by its name.
-    fn decide<R: Wait>(
+    pub(crate) fn decide<R: Wait>(
         &mut self,
         rt: &R,
         alloc: Global,
@@ -130,7 +129,7 @@ impl<L: Terms> Engine<L> {
     }
 
     /// Retracts a feature, by its name.
-    fn retract<R: Wait>(
+    pub(crate) fn retract<R: Wait>(
         &mut self,
         rt: &R,
         alloc: Global,
@@ -156,7 +155,7 @@ impl<L: Terms> Engine<L> {
     }
 
     /// Retracts every decision.
-    fn reset<R: Wait>(
+    pub(crate) fn reset<R: Wait>(
         &mut self,
         rt: &R,
         alloc: Global,
@@ -178,7 +177,7 @@ impl<L: Terms> Engine<L> {
     }
 
     /// Undoes the change of the undo that the command means.
-    fn undo<R: Wait>(
+    pub(crate) fn undo<R: Wait>(
         &mut self,
         rt: &R,
         alloc: Global,
@@ -205,7 +204,7 @@ impl<L: Terms> Engine<L> {
     }
 
     /// Redoes the change of the redo that the command means.
-    fn redo<R: Wait>(
+    pub(crate) fn redo<R: Wait>(
         &mut self,
         rt: &R,
         alloc: Global,
@@ -232,7 +231,7 @@ impl<L: Terms> Engine<L> {
     }
 
     /// Gives an undo up, by its serial.
-    fn keep<R: Wait>(
+    pub(crate) fn keep<R: Wait>(
         &mut self,
         rt: &R,
         session: u32,
@@ -257,7 +256,7 @@ impl<L: Terms> Engine<L> {
     }
 
     /// Gives a redo up, by its serial.
-    fn forget<R: Wait>(
+    pub(crate) fn forget<R: Wait>(
         &mut self,
         rt: &R,
         session: u32,
@@ -282,7 +281,7 @@ impl<L: Terms> Engine<L> {
     }
 
     /// Lifts a vertex of the present page once, and commits the harvest.
-    fn lift<R: Wait>(
+    pub(crate) fn lift<R: Wait>(
         &mut self,
         rt: &R,
         alloc: Global,
@@ -312,7 +311,7 @@ impl<L: Terms> Engine<L> {
     }
 
     /// Sweeps the present page, and keeps the harvest.
-    fn harvest<T: Threads + Wait + Sync>(
+    pub(crate) fn harvest<T: Threads + Wait + Sync>(
         &mut self,
         rt: &T,
         alloc: Global,
@@ -337,7 +336,7 @@ impl<L: Terms> Engine<L> {
     }
 
     /// Commits a kept harvest, by its number.
-    fn commit<R: Wait>(
+    pub(crate) fn commit<R: Wait>(
         &mut self,
         rt: &R,
         alloc: Global,
@@ -362,7 +361,7 @@ impl<L: Terms> Engine<L> {
     }
 
     /// Sweeps the present page, this many times at most, and commits the harvest.
-    fn settle<T: Threads + Wait + Sync>(
+    pub(crate) fn settle<T: Threads + Wait + Sync>(
         &mut self,
         rt: &T,
         alloc: Global,
@@ -402,7 +401,7 @@ impl<L: Terms> Engine<L> {
     }
 
     /// Answers a lookup on the present page, with these names of vertices.
-    fn look<R: Wait>(
+    pub(crate) fn look<R: Wait>(
         &mut self,
         rt: &R,
         alloc: Global,
@@ -431,7 +430,7 @@ impl<L: Terms> Engine<L> {
     }
 
     /// Writes the verdicts of the present page that differ from those reported last, with these names of vertices.
-    fn changed<R: Wait>(
+    pub(crate) fn changed<R: Wait>(
         &mut self,
         rt: &R,
         alloc: Global,
@@ -454,7 +453,7 @@ impl<L: Terms> Engine<L> {
     }
 
     /// Writes what the present decisions make known of a feature, by its name.
-    fn known<R: Wait>(
+    pub(crate) fn known<R: Wait>(
         &mut self,
         rt: &R,
         alloc: Global,
@@ -566,47 +565,5 @@ impl<L: Terms> Engine<L> {
         ensures room { L.limit ≡ 1048576 }
     {
         self.client.order(rt, alloc, session)
-    }
-
-    /// Carries a request out, with 1 to 64 lifters for sweeps. Appends the text of its answer, with these names at the
-    /// ends of lines about vertices, and returns the answer's tone. A question about the page is not the engine's, and
-    /// is never answered: the fault is `Stray`.
-    pub fn carry_out<T: Threads + Wait + Sync>(
-        &mut self,
-        rt: &T,
-        alloc: Global,
-        lifters: u32,
-        labels: &VertexNames,
-        request: &Request<'_>,
-        out: &mut Vec<u8>,
-    ) -> Result<Tone, ServeFault>
-        requires lifters { (1 ≤ lifters) × (lifters ≤ 64) }
-        ensures answer { IfOk result
-            (λ tone. IsOwn (request_shown request.now).command ×
-            SweepsWith labels.now.names self.old lifters (request_shown request.now) tone out.old.items out.new.items
-            self.new) }
-        // A request of its own strays only where the log or the sessions show it.
-        ensures strayed { IsErrOf result ServeFault.Stray → IsOwn (request_shown request.now).command →
-            IsAstray self.old.client request.now.label self.new.client }
-    {
-        let session = request.label;
-        match &request.command {
-            Command::Select(name) => self.decide(rt, alloc, session, *name, true, out),
-            Command::Exclude(name) => self.decide(rt, alloc, session, *name, false, out),
-            Command::Retract(name) => self.retract(rt, alloc, session, *name, out),
-            Command::Reset => self.reset(rt, alloc, session, out),
-            Command::Undo(serial) => self.undo(rt, alloc, session, *serial, out),
-            Command::Redo(serial) => self.redo(rt, alloc, session, *serial, out),
-            Command::Keep(serial) => self.keep(rt, session, *serial, out),
-            Command::Forget(serial) => self.forget(rt, session, *serial, out),
-            Command::Lift(table, vertex) => { self.lift(rt, alloc, session, *table, *vertex, out) }
-            Command::Harvest => self.harvest(rt, alloc, session, lifters, out),
-            Command::Commit(number) => self.commit(rt, alloc, session, *number, out),
-            Command::Settle(sweeps) => self.settle(rt, alloc, session, *sweeps, lifters, out),
-            Command::Look(lookup) => self.look(rt, alloc, session, labels, lookup, out),
-            Command::Changed => self.changed(rt, alloc, session, labels, out),
-            Command::Known(name) => self.known(rt, alloc, session, *name, out),
-            Command::Ask(_) => Err(ServeFault::Stray),
-        }
     }
 }

@@ -22,9 +22,9 @@
 //! (No contract of an office says that nobody else is in its log, so the client finds out as the calls come.)
 //!
 //! An [`Engine`] is a client with what lines leave to later ones. It holds tokens and harvests until later lines use
-//! them up, and the verdicts of a `changed` until the next one compares with them. [`Engine::carry_out`] makes the
-//! calls of a line and writes its answer. Questions about the page are not its own: the server takes an order for them
-//! ([`Engine::order`]) and writes the answer.
+//! them up, and the verdicts of a `changed` until the next one compares with them. The server of a run's script has one
+//! of its functions make the calls of a line and write the answer. Questions about the page are not an engine's: the
+//! server takes an order for them ([`Engine::order`]) and writes the answer.
 //!
 //! A client's state and its calls are defined in `specs/Client`, and its refused calls in `specs/Faults`. The tokens,
 //! harvests and verdicts that lines leave are defined in `specs/Held`, the calls on a desk's book and their answers in

@@ -4,13 +4,15 @@ ghost use Rattle.std.specs.Prelude.{◌≡◌, ◌≤◌, ◌⊎◌, ℕ, true, 
 ghost use Rattle.vpg_diagram.specs.FeatureDiagram.{feature_count};
 ghost use Rattle.vpg_report.specs.Runs.{TellsOpening, IsRun, UnlessScriptFails, UnlessOutputFails};
 
-use crate::runs::run_called;
+use crate::runs::run_there;
 use std::alloc::Global;
+use std::marker::Brand;
 use std::sync::Wait;
 use std::thread::Threads;
 use vpg_desk::OpenFault;
 use vpg_diagram::Diagram;
 use vpg_family::{Context, Family, Fault, conflict};
+use vpg_office::Site;
 use vpg_script::{Ending, Manner, RunFault, Sink, Source};
 
 /// Returns the fault that reports a refused opening. A conflict names the root.
@@ -55,9 +57,13 @@ pub fn run_script<T: Threads + Wait + Sync, R: Source, W: Sink>(
     ensures writable { UnlessOutputFails result (W.has_failed writer.new ≡ W.has_failed writer.old) }
 {
     let diagram = family.diagram.clone()?;
-    match run_called(
+    let Ok(site) = Site::new(alloc) else {
+        return Err(Fault::Memory);
+    };
+    match run_there::<Brand, T, R, W>(
         rt,
         alloc,
+        site,
         family.game,
         family.diagram,
         context,

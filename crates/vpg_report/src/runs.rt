@@ -167,8 +167,8 @@ pub(crate) fn end_engine<L: Terms, R: Wait>(rt: &R, engine: Engine<L>) {
     }
 }
 
-/// Runs a script at an office with this row and this ledger, which `L` names.
-fn run_there<L: Terms, T: Threads + Wait + Sync, R: Source, W: Sink>(
+/// Runs a script as `run_called` does, at an office with this row and this ledger, which `L` names.
+pub(crate) fn run_there<L: Terms, T: Threads + Wait + Sync, R: Source, W: Sink>(
     rt: &T,
     alloc: Global,
     site: Site,

@@ -1,7 +1,7 @@
 -- A script in a manner, one line more; and where no manner is asked for, what it was.
 use Rattle.std.proofs.Common.{◌≡◌, ℕ, suc, ◌+◌, Bool, true, false, List, [], ◌∷◌, ◌++◌, length, Option, Some, None, Result, Ok, Err, refl, sym, ap, ap₂, ◌∙◌, inl, inr, append-nil, subst, arith, length-append, replicate, ◌<◌, append_assoc}
 use Rattle.std.proofs.lemmas.List.{length-replicate}
-use Rattle.std.specs.Prelude.{◌||◌, ◌&&◌}
+use Rattle.std.specs.Prelude.{◌||◌, ◌&&◌, OnOk}
 use Rattle.std.specs.List.{list_any}
 use Rattle.std.proofs.lemmas.List.Folds.{list_any-append}
 use Rattle.std.specs.Io.KnownBytes.{prepend_known, Appends, Keeps}
@@ -10,14 +10,14 @@ use Rattle.std.proofs.lemmas.Str.{utf8_lossy_empty}
 use Rattle.std.specs.Global.{Vec}
 use Rattle.vpg_script.specs.Devices.{AppendsSome}
 use Rattle.vpg_script.specs.Lines.{BeginsTooLong, IsPassed, PassedKnown, HeldKnown, ComesKnown, NextLine}
-use Rattle.vpg_script.specs.Script.{Said, said}
+use Rattle.vpg_script.specs.Script.{Request, Said, said}
 use Rattle.vpg_script.specs.Answer.{Answer, done, is_failure, is_refused, is_refusal}
 use Rattle.vpg_script.specs.Framing.{framed, frames, json_line}
 use Rattle.vpg_script.specs.declared.framing.Form.{Form}
 use Rattle.vpg_script.specs.declared.framing.Form.TheVariants as forms
-use Rattle.vpg_script.specs.Output.{Machine, Speaks, Answered, ReadKnown, Wrote, NextKnown, FaultyKnown, ScriptOutcome, text_of}
+use Rattle.vpg_script.specs.Output.{Machine, Speaks, Answered, ReadKnown, Wrote, NextKnown, IsEmptyKnown, FaultyKnown, ScriptOutcome, text_of}
 use Rattle.vpg_script.specs.Manners.{fault_answer, Answers, AnsweredEach, WroteEach, Went, Leaves, MannerOutcome}
-use Rattle.vpg_script.specs.Results.{ending_of, PutOutcome, FaultOutcome, LineOutcome, TooLongOutcome, TakenKnown, NextOutcome}
+use Rattle.vpg_script.specs.Results.{UnlessReaderFails, UnlessWriterFails, stop_of, ending_of, PutOutcome, FaultOutcome, TakenKnown, TakenSaying, AskedOutcome}
 use Rattle.vpg_script.specs.declared.command.LineFault.{LineFault}
 use Rattle.vpg_script.specs.declared.command.LineFault.TheVariants as faults
 use Rattle.vpg_script.specs.declared.lines.Next.TheVariants as next
@@ -26,10 +26,12 @@ use Rattle.vpg_script.specs.declared.tone.Tone.TheVariants as tones
 use Rattle.vpg_script.specs.declared.serving.Manner.{Manner}
 use Rattle.vpg_script.specs.declared.serving.Ending.{Ending}
 use Rattle.vpg_script.specs.declared.serving.Ending.TheVariants as endings
+use Rattle.vpg_script.specs.declared.serving.ServeFault.{ServeFault}
+use Rattle.vpg_script.specs.declared.serving.ServeFault.TheVariants as unserved
 use Rattle.vpg_script.specs.declared.fault.RunFault.{RunFault}
 use Rattle.vpg_script.specs.declared.fault.RunFault.TheVariants as stops
 use Rattle.vpg_script.proofs.FirstLine.{long_said, too_long_said}
-use Rattle.vpg_script.proofs.ScriptLemmas.{appends_none, appends_twice, read_more, read_kept, wrote_nothing, next_known, line_faulty, too_long_faulty}
+use Rattle.vpg_script.proofs.ScriptLemmas.{appends_none, appends_twice, read_more, read_kept, wrote_nothing, too_long_faulty}
 
 -- ---- one line
 
@@ -37,24 +39,6 @@ answers_fault : {S : Type 0} (goes_on : Bool) (serves : Machine S) (s : S) (says
     Answers goes_on serves s says (fault_answer fault) s
 answers_fault true serves s says fault on is = rw is (refl, refl)
 answers_fault false serves s says fault on is = absurd (cc on)
-
--- an answer is written
-pub line_is_put : {S : Type 0} (manner : Manner) (n : ℕ) (serves : Machine S) (s new : S) (says : Said) (answer : Answer) (tone : Tone) (text : List ℕ) (before after : Option (List ℕ)) (result : Result Tone RunFault)
-    → Answers manner.goes_on serves s says answer new → tone ≡ answer.tone → text ≡ answer.text → PutOutcome (framed manner.form n (record { tone = tone; text = text })) tone before after result
-    → LineOutcome manner n serves s new says before after result
-line_is_put manner n serves s new says answer tone text before after result given toned told put = go result put
-  where
-    same : framed manner.form n (record { tone = tone; text = text }) ≡ framed manner.form n answer
-    same = ap₂ (λ (t : Tone) (x : List ℕ). framed manner.form n (record { tone = t; text = x })) toned told
-
-    go : (r : Result Tone RunFault) → PutOutcome (framed manner.form n (record { tone = tone; text = text })) tone before after r → LineOutcome manner n serves s new says before after r
-    go (Ok back) is = (answer, (given, is.0 ∙ toned, subst (λ (f : List ℕ). Appends before after f) same is.1))
-    go (Err stops.Write) is = (answer, (given, subst (λ (f : List ℕ). AppendsSome before after f) same is))
-    go (Err stops.Memory) is = is
-    go (Err stops.Read) is = absurd is
-    go (Err stops.Stray) is = absurd is
-    go (Err (stops.Open fault)) is = absurd is
-    go (Err (stops.Line m fault)) is = absurd is
 
 pub fault_is_put : (manner : Manner) (n : ℕ) (fault : LineFault) (text : List ℕ) (before after : Option (List ℕ)) (result : Result Tone RunFault)
     → manner.goes_on ≡ true → text ≡ (fault_answer fault).text → PutOutcome (framed manner.form n (record { tone = tones.Refused; text = text })) tones.Refused before after result
@@ -73,45 +57,10 @@ fault_is_put manner n fault text before after result on told put = go result put
     go (Err (stops.Open why)) is = absurd is
     go (Err (stops.Line m other)) is = absurd is
 
-pub long_is_put : (manner : Manner) (n : ℕ) (a rest left : Option (List ℕ)) (text : List ℕ) (before after : Option (List ℕ)) (result : Result Tone RunFault)
-    → PassedKnown a rest → manner.goes_on ≡ true → text ≡ (fault_answer faults.TooLong).text
-    → PutOutcome (framed manner.form n (record { tone = tones.Refused; text = text })) tones.Refused before after result → TooLongOutcome manner n a rest left before after result
-long_is_put manner n a rest left text before after result passed on told put = go result put
-  where
-    same : framed manner.form n (record { tone = tones.Refused; text = text }) ≡ framed manner.form n (fault_answer faults.TooLong)
-    same = ap (λ (x : List ℕ). framed manner.form n (record { tone = tones.Refused; text = x })) told
-
-    go : (r : Result Tone RunFault) → PutOutcome (framed manner.form n (record { tone = tones.Refused; text = text })) tones.Refused before after r → TooLongOutcome manner n a rest left before after r
-    go (Ok back) is = (passed, on, is.0, subst (λ (f : List ℕ). Appends before after f) same is.1)
-    go (Err stops.Write) is = (passed, on, subst (λ (f : List ℕ). AppendsSome before after f) same is)
-    go (Err stops.Memory) is = is
-    go (Err stops.Read) is = absurd is
-    go (Err stops.Stray) is = absurd is
-    go (Err (stops.Open why)) is = absurd is
-    go (Err (stops.Line m other)) is = absurd is
-
 -- nothing is written for a line that says nothing
 framed_nothing : (form : Form) (n : ℕ) → framed form n (done []) ≡ []
 framed_nothing forms.Plain n = refl
 framed_nothing forms.Json n = ap (λ (t : List ℕ). json_line n tones.Done (lines t)) (utf8_lossy_empty [] refl)
-
--- a line that says nothing
-pub nothing_is_met : {S : Type 0} (manner : Manner) (n : ℕ) (serves : Machine S) (s : S) (says : Said) (before : Option (List ℕ)) → says ≡ Ok None → LineOutcome manner n serves s s says before before (Ok tones.Done)
-nothing_is_met manner n serves s says before is =
-    (done [], (rw is (refl, refl), refl, subst (λ (t : List ℕ). Appends before before t) (sym (framed_nothing manner.form n)) (appends_none before)))
-
--- a line with a fault
-pub fault_is_met : {S : Type 0} (manner : Manner) (n : ℕ) (serves : Machine S) (s : S) (fault : LineFault) (says : Said) (before after : Option (List ℕ)) (result : Result Tone RunFault)
-    → says ≡ Err fault → FaultOutcome manner n fault before after result → LineOutcome manner n serves s s says before after result
-fault_is_met manner n serves s fault says before after (Ok given) is so =
-    (fault_answer fault, (answers_fault manner.goes_on serves s says fault so.0 is, so.1, so.2))
-fault_is_met manner n serves s fault says before after (Err (stops.Line m other)) is so = (so.0, is ∙ ap Err (sym so.1), so.2, refl, so.3)
-fault_is_met manner n serves s fault says before after (Err stops.Write) is so =
-    (fault_answer fault, (answers_fault manner.goes_on serves s says fault so.0 is, so.1))
-fault_is_met manner n serves s fault says before after (Err stops.Read) is so = absurd so
-fault_is_met manner n serves s fault says before after (Err (stops.Open why)) is so = absurd so
-fault_is_met manner n serves s fault says before after (Err stops.Memory) is so = so
-fault_is_met manner n serves s fault says before after (Err stops.Stray) is so = absurd so
 
 -- a line was passed over: it is the first of the text
 passed_line : (text rest : List ℕ) → BeginsTooLong text → IsPassed text rest → (line : List ℕ) × NextLine text line rest
@@ -132,49 +81,155 @@ passed_known (Some text) (Some held) (Some rest) comes passed =
     let first : (line : List ℕ) × NextLine text line rest = passed_line text rest comes.0 (subst (λ (t : List ℕ). IsPassed t rest) comes.1 passed) in
     (first.0, (too_long_said text first.0 rest comes.0 first.1, first.1, (rest, first.1)))
 
-held_known : (a m left : Option (List ℕ)) → ComesKnown next.TooLong a m → HeldKnown m left → HeldKnown a left
-held_known None m left comes (held, (unended, keeps)) = (held, (unended, tt))
-held_known (Some text) None left comes held = absurd comes
-held_known (Some text) (Some same) left comes (held, (unended, keeps)) =
-    (held, (unended, subst (λ (t : List ℕ). Keeps (Some t) (prepend_known held left)) comes.1 keeps))
-
--- a line that is too long
-pub too_long_is_met : {S : Type 0} (manner : Manner) (n : ℕ) (serves : Machine S) (s : S) (a m b left before after : Option (List ℕ)) (tone : Tone)
-    → ComesKnown next.TooLong a m → TooLongOutcome manner n m b left before after (Ok tone) → NextOutcome manner n serves s s a b left before after (Ok (Some tone))
-too_long_is_met manner n serves s a m b left before after given comes so =
-    let line = passed_known a m b comes so.0 in
-    (line.0, fault_answer faults.TooLong, (line.1.1, answers_fault manner.goes_on serves s (said line.0) faults.TooLong so.1 line.1.0, so.2, so.3))
-
-pub too_long_stops : {S : Type 0} (manner : Manner) (n : ℕ) (serves : Machine S) (s : S) (a m b left before after : Option (List ℕ)) (stop : RunFault)
-    → ComesKnown next.TooLong a m → TooLongOutcome manner n m b left before after (Err stop) → NextOutcome manner n serves s s a b left before after (Err stop)
-too_long_stops manner n serves s a m b left before after (stops.Line k fault) comes so =
-    (so.0, subst (λ (f : LineFault). FaultyKnown f a) (sym so.1) (too_long_faulty a m comes), so.2, refl, so.3)
-too_long_stops manner n serves s a m b left before after stops.Read comes so = (held_known a m left comes so.0, refl, so.1)
-too_long_stops manner n serves s a m b left before after stops.Write comes so =
-    let line = passed_known a m b comes so.0 in
-    (line.0, fault_answer faults.TooLong, (line.1.2, answers_fault manner.goes_on serves s (said line.0) faults.TooLong so.1 line.1.0, so.2))
-too_long_stops manner n serves s a m b left before after (stops.Open why) comes so = absurd so
-too_long_stops manner n serves s a m b left before after stops.Memory comes so = so
-too_long_stops manner n serves s a m b left before after stops.Stray comes so = absurd so
-
 line_taken : (a b : Option (List ℕ)) (line : Vec ℕ) → ComesKnown (next.Line line) a b → TakenKnown a line.items b
 line_taken None b line comes = tt
 line_taken (Some text) None line comes = absurd comes
 line_taken (Some text) (Some rest) line comes = comes
 
--- any other line
-pub line_is_met : {S : Type 0} (manner : Manner) (n : ℕ) (serves : Machine S) (s new : S) (a b left before after : Option (List ℕ)) (line : Vec ℕ) (tone : Tone)
-    → ComesKnown (next.Line line) a b → LineOutcome manner n serves s new (said line.items) before after (Ok tone) → NextOutcome manner n serves s new a b left before after (Ok (Some tone))
-line_is_met manner n serves s new a b left before after line given comes so = (line.items, so.0, (line_taken a b line comes, so.1.0, so.1.1, so.1.2))
+-- ---- the next line, as it is read
 
-pub line_stops : {S : Type 0} (manner : Manner) (n : ℕ) (serves : Machine S) (s new : S) (a b left before after : Option (List ℕ)) (line : Vec ℕ) (stop : RunFault)
-    → ComesKnown (next.Line line) a b → LineOutcome manner n serves s new (said line.items) before after (Err stop) → NextOutcome manner n serves s new a b left before after (Err stop)
-line_stops manner n serves s new a b left before after line (stops.Line m fault) comes so = (so.0, line_faulty a b line fault comes so.1, so.2, so.3, so.4)
-line_stops manner n serves s new a b left before after line stops.Read comes so = absurd so
-line_stops manner n serves s new a b left before after line stops.Write comes so = (line.items, so.0, (next_known a b line comes, so.1.0, so.1.1))
-line_stops manner n serves s new a b left before after line (stops.Open why) comes so = absurd so
-line_stops manner n serves s new a b left before after line stops.Memory comes so = so
-line_stops manner n serves s new a b left before after line stops.Stray comes so = so
+-- one that is too long is passed over
+pub passed_over : (goes_on : Bool) (a m b : Option (List ℕ)) → ComesKnown next.TooLong a m → PassedKnown m b →
+    FaultyKnown faults.TooLong a × (goes_on ≡ true → TakenSaying a (Err faults.TooLong) b)
+passed_over goes_on a m b comes passed =
+    let line = passed_known a m b comes passed in
+    (too_long_faulty a m comes, λ on. (line.0, (line.1.1, line.1.0)))
+
+-- or stays
+pub left_there : (goes_on : Bool) (a m b : Option (List ℕ)) → ComesKnown next.TooLong a m → goes_on ≡ false →
+    FaultyKnown faults.TooLong a × (goes_on ≡ true → TakenSaying a (Err faults.TooLong) b)
+left_there goes_on a m b comes off = (too_long_faulty a m comes, λ on. absurd (cc (on, off)))
+
+-- ---- the next line, answered
+
+-- The result of line n, the next one of a text; the second text is left then. The third is left to be read, which
+-- matters if reading fails.
+abbrev pub LineMet : {S : Type 0} → Manner → ℕ → Machine S → S → S → (text rest left : Option (List ℕ)) →
+    (before after : Option (List ℕ)) → Result Tone RunFault → Type 0
+LineMet manner n serves s new text rest left before after (Ok tone) =
+    (line : List ℕ) × (answer : Answer) ×
+    (TakenKnown text line rest × Answers manner.goes_on serves s (said line) answer new ×
+    (tone ≡ answer.tone) × Appends before after (framed manner.form n answer))
+LineMet manner n serves s new text rest left before after (Err (stops.Line m fault)) =
+    (m ≡ n) × FaultyKnown fault text × (manner.goes_on ≡ false) × (new ≡ s) × (after ≡ before)
+LineMet manner n serves s new text rest left before after (Err stops.Read) =
+    HeldKnown text left × (new ≡ s) × (after ≡ before)
+LineMet manner n serves s new text rest left before after (Err stops.Write) =
+    (line : List ℕ) × (answer : Answer) ×
+    (NextKnown text line × Answers manner.goes_on serves s (said line) answer new ×
+    AppendsSome before after (framed manner.form n answer))
+LineMet manner n serves s new text rest left before after (Err (stops.Open fault)) = ⊥
+LineMet manner n serves s new text rest left before after (Err stops.Memory) = after ≡ before
+LineMet manner n serves s new text rest left before after (Err stops.Stray) = after ≡ before
+
+taken_next : (text rest : Option (List ℕ)) (line : List ℕ) → TakenKnown text line rest → NextKnown text line
+taken_next None rest line taken = tt
+taken_next (Some text) None line taken = absurd taken
+taken_next (Some text) (Some rest) line taken = (rest, taken)
+
+module _ {S : Type 0} (manner : Manner) (n : ℕ) (serves : Machine S) (s : S) (a b left before after : Option (List ℕ)) where
+  -- a request that was served is answered
+  pub request_met : (new : S) (request : Request) (answer : Answer) (tone : Tone) (text : List ℕ) (result : Result Tone RunFault)
+      → TakenSaying a (Ok (Some request)) b → serves s request answer new → tone ≡ answer.tone → text ≡ answer.text
+      → PutOutcome (framed manner.form n (record { tone = tone; text = text })) tone before after result
+      → LineMet manner n serves s new a b left before after result
+  request_met new request answer tone text result taken given toned told put = go result put
+    where
+      same : framed manner.form n (record { tone = tone; text = text }) ≡ framed manner.form n answer
+      same = ap₂ (λ (t : Tone) (x : List ℕ). framed manner.form n (record { tone = t; text = x })) toned told
+
+      answers : Answers manner.goes_on serves s (said taken.0) answer new
+      answers = subst (λ (says : Said). Answers manner.goes_on serves s says answer new) (sym taken.1.1) given
+
+      go : (r : Result Tone RunFault) → PutOutcome (framed manner.form n (record { tone = tone; text = text })) tone before after r → LineMet manner n serves s new a b left before after r
+      go (Ok back) is = (taken.0, answer, (taken.1.0, answers, is.0 ∙ toned, subst (λ (f : List ℕ). Appends before after f) same is.1))
+      go (Err stops.Write) is = (taken.0, answer, (taken_next a b taken.0 taken.1.0, answers, subst (λ (f : List ℕ). AppendsSome before after f) same is))
+      go (Err stops.Memory) is = is
+      go (Err stops.Read) is = absurd is
+      go (Err stops.Stray) is = absurd is
+      go (Err (stops.Open fault)) is = absurd is
+      go (Err (stops.Line m fault)) is = absurd is
+
+  -- a line that says nothing
+  pub nothing_met : TakenSaying a (Ok None) b → after ≡ before → LineMet manner n serves s s a b left before after (Ok tones.Done)
+  nothing_met taken same = (
+    taken.0,
+    done [],
+    (
+      taken.1.0,
+      subst (λ (says : Said). Answers manner.goes_on serves s says (done []) s) (sym taken.1.1) (refl, refl),
+      refl,
+      subst (λ (t : List ℕ). Appends before after t) (sym (framed_nothing manner.form n)) (subst (λ (x : Option (List ℕ)). Appends before x []) (sym same) (appends_none before)),
+    ),
+  )
+
+  -- a line with a fault
+  pub fault_met : (fault : LineFault) (result : Result Tone RunFault) → FaultyKnown fault a → (manner.goes_on ≡ true → TakenSaying a (Err fault) b)
+      → FaultOutcome manner n fault before after result → LineMet manner n serves s s a b left before after result
+  fault_met fault result faulty taken so = go result so
+    where
+      go : (r : Result Tone RunFault) → FaultOutcome manner n fault before after r → LineMet manner n serves s s a b left before after r
+      go (Ok given) is =
+          let line = taken is.0 in
+          (line.0, fault_answer fault, (line.1.0, answers_fault manner.goes_on serves s (said line.0) fault is.0 line.1.1, is.1, is.2))
+      go (Err (stops.Line m other)) is = (is.0, subst (λ (f : LineFault). FaultyKnown f a) (sym is.1) faulty, is.2, refl, is.3)
+      go (Err stops.Write) is =
+          let line = taken is.0 in
+          (line.0, fault_answer fault, (taken_next a b line.0 line.1.0, answers_fault manner.goes_on serves s (said line.0) fault is.0 line.1.1, is.1))
+      go (Err stops.Read) is = absurd is
+      go (Err (stops.Open why)) is = absurd is
+      go (Err stops.Memory) is = is
+      go (Err stops.Stray) is = absurd is
+
+  -- none was read
+  pub unread_met : (stop : RunFault) → AskedOutcome manner.goes_on a b left (Err stop) → after ≡ before → LineMet manner n serves s s a b left before after (Err stop)
+  unread_met stops.Read so same = (so, refl, same)
+  unread_met stops.Memory so same = same
+  unread_met stops.Write so same = absurd so
+  unread_met stops.Stray so same = absurd so
+  unread_met (stops.Open why) so same = absurd so
+  unread_met (stops.Line m fault) so same = absurd so
+
+  -- a request was not served
+  pub unserved_met : (new : S) (fault : ServeFault) → after ≡ before → LineMet manner n serves s new a b left before after (Err (stop_of fault))
+  unserved_met new unserved.Memory same = same
+  unserved_met new unserved.Stray same = same
+
+-- a line with a fault is answered if the script goes on
+pub goes_on_then : (manner : Manner) (n : ℕ) (fault : LineFault) (before after : Option (List ℕ)) (result : Result Tone RunFault) → FaultOutcome manner n fault before after result → OnOk result (manner.goes_on ≡ true)
+goes_on_then manner n fault before after (Ok given) so = so.0
+goes_on_then manner n fault before after (Err stop) so = tt
+
+pub on_ok : {A E P : Type 0} (r : Result A E) → P → OnOk r P
+on_ok (Ok a) p = p
+on_ok (Err e) p = tt
+
+-- the devices after a line
+pub reader_same : {A : Type 0} (r : Result A RunFault) (P : Type 0) → P → UnlessReaderFails r P
+reader_same (Ok a) P p = p
+reader_same (Err stops.Read) P p = tt
+reader_same (Err stops.Write) P p = p
+reader_same (Err stops.Memory) P p = p
+reader_same (Err stops.Stray) P p = p
+reader_same (Err (stops.Open fault)) P p = p
+reader_same (Err (stops.Line n fault)) P p = p
+
+pub writer_sound : {A : Type 0} (r : Result A RunFault) (x y z : Bool) → y ≡ z → UnlessWriterFails r (x ≡ y) → UnlessWriterFails r (x ≡ z)
+writer_sound (Ok a) x y z e p = p ∙ e
+writer_sound (Err stops.Write) x y z e p = tt
+writer_sound (Err stops.Read) x y z e p = p ∙ e
+writer_sound (Err stops.Memory) x y z e p = p ∙ e
+writer_sound (Err stops.Stray) x y z e p = p ∙ e
+writer_sound (Err (stops.Open fault)) x y z e p = p ∙ e
+writer_sound (Err (stops.Line n fault)) x y z e p = p ∙ e
+
+pub writer_same : (A B : Type 0) (stop : RunFault) (P : Type 0) → UnlessWriterFails {A = A} (Err stop) P → UnlessWriterFails {A = B} (Err stop) P
+writer_same A B stops.Write P p = tt
+writer_same A B stops.Read P p = p
+writer_same A B stops.Memory P p = p
+writer_same A B stops.Stray P p = p
+writer_same A B (stops.Open fault) P p = p
+writer_same A B (stops.Line n fault) P p = p
 
 -- ---- a script
 
@@ -256,7 +311,7 @@ went_more manner serves old mid new input a b before w after lines answers numbe
 
 -- the answer to the next line ends a strict script
 pub refused_left : {S : Type 0} (manner : Manner) (serves : Machine S) (old mid new : S) (input a b left before w after : Option (List ℕ)) (lines : List (List ℕ)) (answers : List Answer) (number : ℕ) (tone : Tone)
-    → Went manner serves old mid input a before w lines answers → number ≡ length lines + 1 → NextOutcome manner number serves mid new a b left w after (Ok (Some tone))
+    → Went manner serves old mid input a before w lines answers → number ≡ length lines + 1 → LineMet manner number serves mid new a b left w after (Ok tone)
     → (is_refused tone && manner.is_strict) ≡ true → Leaves manner serves old new input before after (endings.Refused number)
 refused_left manner serves old mid new input a b left before w after lines answers number tone so counted (line, one, (taken, given, is, appends)) both =
     let so_both = both_true (is_refused tone) manner.is_strict both in (
@@ -274,7 +329,7 @@ refused_left manner serves old mid new input a b left before w after lines answe
     )
 
 pub refused_there : {S : Type 0} (manner : Manner) (serves : Machine S) (old mid new : S) (input a b left before w after : Option (List ℕ)) (lines : List (List ℕ)) (answers : List Answer) (number : ℕ) (tone : Tone)
-    → Went manner serves old mid input a before w lines answers → number ≡ length lines + 1 → NextOutcome manner number serves mid new a b left w after (Ok (Some tone))
+    → Went manner serves old mid input a before w lines answers → number ≡ length lines + 1 → LineMet manner number serves mid new a b left w after (Ok tone)
     → (is_refused tone && manner.is_strict) ≡ true → MannerOutcome manner serves old input left before after (Ok (endings.Refused number))
 refused_there manner serves old mid new input a b left before w after lines answers number tone so counted next both =
     (new, refused_left manner serves old mid new input a b left before w after lines answers number tone so counted next both)
@@ -289,24 +344,16 @@ module _ {S : Type 0} (manner : Manner) (serves : Machine S) (old mid : S) (inpu
       record { wrote = record { read = read_kept input a b lines so.wrote.read kept; answered = so.wrote.answered; written = so.wrote.written }; unrefused = so.unrefused }
 
   -- the script is at its end
-  pub left_at_end : (new : S) (b left after : Option (List ℕ)) (number : ℕ) (failed : Bool) → failed ≡ list_any is_failure answers →
-      NextOutcome manner number serves mid new a b left w after (Ok None) → Leaves manner serves old new input before after (ending_of failed)
-  left_at_end new b left after number failed is so = go failed is
-    where
-      there : Went manner serves old new input a before after lines answers
-      there = subst (λ (s : S). Went manner serves old s input a before after lines answers) (sym so.1) (after_that after so.2)
+  pub left_at_end : (failed : Bool) → failed ≡ list_any is_failure answers → IsEmptyKnown a → Leaves manner serves old mid input before w (ending_of failed)
+  left_at_end true same empty = (lines, answers, a, (went, empty, sym same))
+  left_at_end false same empty = (lines, answers, a, (went, empty, sym same))
 
-      go : (fails : Bool) → fails ≡ list_any is_failure answers → Leaves manner serves old new input before after (ending_of fails)
-      go true same = (lines, answers, a, (there, so.0, sym same))
-      go false same = (lines, answers, a, (there, so.0, sym same))
-
-  pub at_end : (new : S) (b left after : Option (List ℕ)) (number : ℕ) (failed : Bool) → failed ≡ list_any is_failure answers →
-      NextOutcome manner number serves mid new a b left w after (Ok None) → MannerOutcome manner serves old input left before after (Ok (ending_of failed))
-  at_end new b left after number failed is so = (new, left_at_end new b left after number failed is so)
+  pub at_end : (left : Option (List ℕ)) (failed : Bool) → failed ≡ list_any is_failure answers → IsEmptyKnown a → MannerOutcome manner serves old input left before w (Ok (ending_of failed))
+  at_end left failed same empty = (mid, left_at_end failed same empty)
 
   -- the script stops
   pub stopped : (new : S) (b left after : Option (List ℕ)) (number : ℕ) (stop : RunFault) → number ≡ length lines + 1 →
-      NextOutcome manner number serves mid new a b left w after (Err stop) → MannerOutcome manner serves old input left before after (Err stop)
+      LineMet manner number serves mid new a b left w after (Err stop) → MannerOutcome manner serves old input left before after (Err stop)
   stopped new b left after number (stops.Line m fault) counted so = (lines, answers, mid, a, (after_that after so.4, so.1, so.2, so.0 ∙ counted))
   stopped new b left after number stops.Read counted so = (lines, answers, mid, so.0.0, (went_kept (prepend_known so.0.0 left) after so.0.1.1 so.2, so.0.1.0))
   stopped new b left after number stops.Write counted so = (lines, answers, mid, a, w, so.1, (went, new, so.0, (so.2.0, so.2.1, subst (λ (k : ℕ). AppendsSome w after (framed manner.form k so.1)) counted so.2.2)))

@@ -2,14 +2,15 @@
 use Rattle.std.specs.Prelude.{◌≡◌, ℕ, Bool, true, false, if◌then◌else◌, List, Option, Some, None, Result, Ok, Err, ⊤}
 use Rattle.std.specs.Io.KnownBytes.{Appends}
 use Rattle.vpg_script.specs.Devices.{AppendsSome}
-use Rattle.vpg_script.specs.Lines.{PassedKnown, HeldKnown, NextLine}
+use Rattle.vpg_script.specs.Lines.{HeldKnown, NextLine}
 use Rattle.vpg_script.specs.Script.{Said, said}
-use Rattle.vpg_script.specs.Output.{Machine, NextKnown, IsEmptyKnown, FaultyKnown}
-use Rattle.vpg_script.specs.Answer.{Answer}
+use Rattle.vpg_script.specs.Output.{IsEmptyKnown, FaultyKnown}
+use Rattle.vpg_script.specs.View.{request_shown}
 use Rattle.vpg_script.specs.Framing.{framed}
-use Rattle.vpg_script.specs.Manners.{Answers, fault_answer}
+use Rattle.vpg_script.specs.Manners.{fault_answer}
 use Rattle.vpg_script.specs.declared.command.LineFault.{LineFault}
-use Rattle.vpg_script.specs.declared.command.LineFault.TheVariants as faults
+use Rattle.vpg_script.specs.declared.answering.Asked.{Asked}
+use Rattle.vpg_script.specs.declared.answering.Asked.TheVariants as asks
 use Rattle.vpg_script.specs.declared.tone.Tone.{Tone}
 use Rattle.vpg_script.specs.declared.lines.NextFault.{NextFault}
 use Rattle.vpg_script.specs.declared.lines.NextFault.TheVariants as reads
@@ -64,62 +65,40 @@ FaultOutcome manner n fault before after (Err stops.Write) =
 FaultOutcome manner n fault before after (Err stops.Memory) = after ≡ before
 FaultOutcome manner n fault before after (Err stop) = ⊥
 
--- the result of line n, which is too long, by the text around it
-abbrev pub TooLongOutcome : Manner → ℕ → (text rest left : Option (List ℕ)) → (before after : Option (List ℕ)) →
-    Result Tone RunFault → Type 0
-TooLongOutcome manner n text rest left before after (Ok tone) =
-    PassedKnown text rest × (manner.goes_on ≡ true) × (tone ≡ (fault_answer faults.TooLong).tone) ×
-    Appends before after (framed manner.form n (fault_answer faults.TooLong))
-TooLongOutcome manner n text rest left before after (Err (stops.Line m fault)) =
-    (m ≡ n) × (fault ≡ faults.TooLong) × (manner.goes_on ≡ false) × (after ≡ before)
-TooLongOutcome manner n text rest left before after (Err stops.Read) = HeldKnown text left × (after ≡ before)
-TooLongOutcome manner n text rest left before after (Err stops.Write) =
-    PassedKnown text rest × (manner.goes_on ≡ true) ×
-    AppendsSome before after (framed manner.form n (fault_answer faults.TooLong))
-TooLongOutcome manner n text rest left before after (Err (stops.Open fault)) = ⊥
-TooLongOutcome manner n text rest left before after (Err stops.Memory) = after ≡ before
-TooLongOutcome manner n text rest left before after (Err stops.Stray) = ⊥
-
--- the result of line n, with this meaning, from a state to a state
-abbrev pub LineOutcome : {S : Type 0} → Manner → ℕ → Machine S → S → S → Said → (before after : Option (List ℕ)) →
-    Result Tone RunFault → Type 0
-LineOutcome manner n serves s new says before after (Ok tone) =
-    (answer : Answer) × (Answers manner.goes_on serves s says answer new × (tone ≡ answer.tone) ×
-    Appends before after (framed manner.form n answer))
-LineOutcome manner n serves s new says before after (Err (stops.Line m fault)) =
-    (m ≡ n) × (says ≡ Err fault) × (manner.goes_on ≡ false) × (new ≡ s) × (after ≡ before)
-LineOutcome manner n serves s new says before after (Err stops.Read) = ⊥
-LineOutcome manner n serves s new says before after (Err stops.Write) =
-    (answer : Answer) × (Answers manner.goes_on serves s says answer new ×
-    AppendsSome before after (framed manner.form n answer))
-LineOutcome manner n serves s new says before after (Err (stops.Open fault)) = ⊥
-LineOutcome manner n serves s new says before after (Err stops.Memory) = after ≡ before
-LineOutcome manner n serves s new says before after (Err stops.Stray) = after ≡ before
-
 -- a line was taken off
 abbrev pub TakenKnown : Option (List ℕ) → List ℕ → Option (List ℕ) → Type 0
 TakenKnown None line rest = ⊤
 TakenKnown (Some text) line None = ⊥
 TakenKnown (Some text) line (Some rest) = NextLine text line rest
 
--- the result of the next line of a text, line n, or of its end; the second text is left then. The third is left to be
--- read, which matters if reading fails.
-abbrev pub NextOutcome : {S : Type 0} → Manner → ℕ → Machine S → S → S → (text rest left : Option (List ℕ)) →
-    (before after : Option (List ℕ)) → Result (Option Tone) RunFault → Type 0
-NextOutcome manner n serves s new text rest left before after (Ok (Some tone)) =
-    (line : List ℕ) × (answer : Answer) ×
-    (TakenKnown text line rest × Answers manner.goes_on serves s (said line) answer new ×
-    (tone ≡ answer.tone) × Appends before after (framed manner.form n answer))
-NextOutcome manner n serves s new text rest left before after (Ok None) =
-    IsEmptyKnown text × (new ≡ s) × (after ≡ before)
-NextOutcome manner n serves s new text rest left before after (Err (stops.Line m fault)) =
-    (m ≡ n) × FaultyKnown fault text × (manner.goes_on ≡ false) × (new ≡ s) × (after ≡ before)
-NextOutcome manner n serves s new text rest left before after (Err stops.Read) =
-    HeldKnown text left × (new ≡ s) × (after ≡ before)
-NextOutcome manner n serves s new text rest left before after (Err stops.Write) =
-    (line : List ℕ) × (answer : Answer) ×
-    (NextKnown text line × Answers manner.goes_on serves s (said line) answer new ×
-    AppendsSome before after (framed manner.form n answer))
-NextOutcome manner n serves s new text rest left before after (Err (stops.Open fault)) = ⊥
-NextOutcome manner n serves s new text rest left before after (Err stops.Memory) = after ≡ before
-NextOutcome manner n serves s new text rest left before after (Err stops.Stray) = after ≡ before
+-- the line with this meaning, as it is read
+abbrev pub AskedBy : Said → Result Asked RunFault → Type 0
+AskedBy says (Ok (asks.Request request)) = says ≡ Ok (Some (request_shown request))
+AskedBy says (Ok asks.Nothing) = says ≡ Ok None
+AskedBy says (Ok (asks.Fault fault)) = says ≡ Err fault
+AskedBy says (Ok asks.End) = ⊥
+AskedBy says (Err stops.Memory) = ⊤
+AskedBy says (Err stop) = ⊥
+
+-- a line was taken off, and this is its meaning
+abbrev pub TakenSaying : Option (List ℕ) → Said → Option (List ℕ) → Type 0
+TakenSaying text says rest = (line : List ℕ) × (TakenKnown text line rest × (said line ≡ says))
+
+-- The next line of a text, or its end; the second text is left then. A line with a fault is taken off if the script
+-- goes on. The third text is left to be read, which matters if reading fails.
+abbrev pub AskedOutcome : Bool → (text rest left : Option (List ℕ)) → Result Asked RunFault → Type 0
+AskedOutcome goes_on text rest left (Ok (asks.Request request)) =
+    TakenSaying text (Ok (Some (request_shown request))) rest
+AskedOutcome goes_on text rest left (Ok asks.Nothing) = TakenSaying text (Ok None) rest
+AskedOutcome goes_on text rest left (Ok (asks.Fault fault)) =
+    FaultyKnown fault text × (goes_on ≡ true → TakenSaying text (Err fault) rest)
+AskedOutcome goes_on text rest left (Ok asks.End) = IsEmptyKnown text
+AskedOutcome goes_on text rest left (Err stops.Read) = HeldKnown text left
+AskedOutcome goes_on text rest left (Err stops.Memory) = ⊤
+AskedOutcome goes_on text rest left (Err stop) = ⊥
+
+-- a line was read, to its end
+abbrev pub HasLine : Bool → Asked → Type 0
+HasLine goes_on (asks.Fault fault) = goes_on ≡ true
+HasLine goes_on asks.End = ⊥
+HasLine goes_on asked = ⊤

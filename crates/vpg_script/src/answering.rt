@@ -1,24 +1,22 @@
-//! Reads the next line of a script, carries it out and answers it.
+//! The next line of a script is read, and its answer written.
 ghost use Rattle.std.specs.Prelude.{◌≡◌, ◌++◌, ◌∷◌, [], codes, ℕ, ◌≤◌, ◌<◌, ◌⊎◌, List, OnOk, OnErr, OnSome, IfOk, IfErr, IsErrOf, Ok, Err, true, false, vec_len};
 ghost use Rattle.std.specs.Io.KnownBytes.{Appends, prepend_known};
 ghost use Rattle.vpg_script.specs.Devices.{AppendsSome};
 ghost use Rattle.vpg_script.specs.Script.{said};
-ghost use Rattle.vpg_script.specs.Lines.{PassedKnown, HeldKnown, lines_left};
+ghost use Rattle.vpg_script.specs.Lines.{lines_left};
 ghost use Rattle.vpg_script.specs.Framing.{framed};
 ghost use Rattle.vpg_script.specs.Manners.{fault_answer};
-ghost use Rattle.vpg_script.specs.Results.{UnlessReaderFails, UnlessWriterFails, PutOutcome, FaultOutcome, LineOutcome, TooLongOutcome, NextOutcome};
+ghost use Rattle.vpg_script.specs.Results.{UnlessReaderFails, UnlessWriterFails, PutOutcome, FaultOutcome, AskedBy, AskedOutcome, HasLine};
 ghost use Rattle.vpg_script.specs.declared.command.LineFault.{LineFault as Fault};
 
-use crate::command::{LineFault, ReadFault, read_line};
+use crate::command::{LineFault, ReadFault, Request, read_line};
 use crate::device::{Sink, Source};
 use crate::fault::RunFault;
 use crate::framing::{Form, json_text};
 use crate::lines::{Next, next_line, pass_line};
-use crate::serving::{Manner, Server};
+use crate::serving::Manner;
 use crate::tone::Tone;
 use std::alloc::Global;
-use std::sync::Wait;
-use std::thread::Threads;
 
 /// Returns the text of the answer to a line with a fault, if the script goes on.
 fn fault_text(fault: LineFault) -> &'static [u8]
@@ -46,7 +44,7 @@ fn put_text<W: Sink>(text: &[u8], writer: &mut W) -> Result<(), RunFault>
 }
 
 /// Writes the answer of this tone and text to the line of this number, in a form. Returns the tone.
-fn put_answer<W: Sink>(
+pub fn put_answer<W: Sink>(
     alloc: Global,
     form: Form,
     number: u64,
@@ -74,7 +72,7 @@ fn put_answer<W: Sink>(
 
 /// Answers a line with a fault, if the script goes on.
 #[tactic(auto, using(crate::proofs::MannerLemmas::fault_is_put))]
-fn answer_fault<W: Sink>(
+pub fn answer_fault<W: Sink>(
     alloc: Global,
     manner: Manner,
     number: u64,
@@ -95,112 +93,73 @@ fn answer_fault<W: Sink>(
     put_answer(alloc, manner.form, number, Tone::Refused, text, writer)
 }
 
-/// Carries a line out, and writes its answer.
-fn answer_line<T: Threads + Wait + Sync, V: Server, W: Sink>(
-    rt: &T,
-    alloc: Global,
-    lifters: u32,
-    manner: Manner,
-    number: u64,
-    server: &mut V,
-    line: &[u8],
-    writer: &mut W,
-) -> Result<Tone, RunFault>
-    requires lifters { (1 ≤ lifters) × (lifters ≤ 64) }
-    ensures outcome { LineOutcome manner number (V.answering (V.scene server.old) lifters) (V.state server.old)
-        (V.state server.new) (said line.now) (W.contents writer.old) (W.contents writer.new) result }
-    ensures scene { OnOk result (V.scene server.new ≡ V.scene server.old) }
-    ensures write_failed { IsErrOf result RunFault.Write → W.has_failed writer.new ≡ true }
-    ensures writable { UnlessWriterFails result (W.has_failed writer.new ≡ W.has_failed writer.old) }
-{
-    let request = match read_line(alloc, line) {
-        Ok(None) => return Ok(Tone::Done),
-        Ok(Some(request)) => request,
-        Err(ReadFault::Line(fault)) => return answer_fault(alloc, manner, number, fault, writer),
-        Err(ReadFault::Memory) => return Err(RunFault::Memory),
-    };
-    let mut text = Vec::new(alloc);
-    let tone = server.serve(rt, alloc, lifters, &request, &mut text)?;
-    put_answer(alloc, manner.form, number, tone, &text, writer)
+/// The next line of a script.
+pub enum Asked<'l> {
+    /// It asks for this.
+    Request(Request<'l>),
+    /// It is blank, or a comment.
+    Nothing,
+    Fault(LineFault),
+    /// There is none.
+    End,
 }
 
-/// Answers a line that is too long, if the script goes on, and reads it to its end before.
-#[tactic(auto, using(crate::proofs::MannerLemmas::long_is_put))]
-fn answer_too_long<R: Source, W: Sink>(
-    alloc: Global,
-    manner: Manner,
-    number: u64,
-    held: &mut Vec<u8>,
-    reads: &mut u32,
-    reader: &mut R,
-    writer: &mut W,
-) -> Result<Tone, RunFault>
-    requires few { reads.old ≤ 16777216 }
-    requires calls { R.calls reader.old ≡ reads.old }
-    ensures calls { R.calls reader.new ≡ reads.new }
-    ensures reads { reads.new ≤ 16777216 }
-    ensures outcome { TooLongOutcome manner number (prepend_known held.old.items (R.remaining reader.old))
-        (prepend_known held.new.items (R.remaining reader.new)) (R.remaining reader.new)
-        (W.contents writer.old) (W.contents writer.new) result }
-    ensures fewer { OnOk result
-        (lines_left reads.new (vec_len held.new) < lines_left reads.old (vec_len held.old)) }
-    ensures cause { IsErrOf result RunFault.Read → (R.has_failed reader.new ≡ true) ⊎ (reads.new ≡ 16777216) }
-    ensures write_failed { IsErrOf result RunFault.Write → W.has_failed writer.new ≡ true }
-    ensures readable { UnlessReaderFails result (R.has_failed reader.new ≡ R.has_failed reader.old) }
-    ensures writable { UnlessWriterFails result (W.has_failed writer.new ≡ W.has_failed writer.old) }
-{
-    if !manner.goes_on {
-        return Err(RunFault::Line {
-            line: number,
-            fault: LineFault::TooLong,
-        });
+// Not derived: a derived `drop` would be proved again at each exit that owns such a value.
+impl Drop for Asked<'_> {
+    fn drop(self) {
+        match self {
+            Asked::Request(_) => {}
+            Asked::Nothing => {}
+            Asked::Fault(_) => {}
+            Asked::End => {}
+        }
     }
-    pass_line(held, reads, reader)?;
-    let text = fault_text(LineFault::TooLong);
-    put_answer(alloc, manner.form, number, Tone::Refused, text, writer)
 }
 
-/// Reads the next line, of this number, carries it out and writes its answer. Returns the answer's tone, or `None` at
-/// the end. `held` has the bytes that were read and not used; `reads` counts the reads. The manner says whether a line
-/// with a fault is answered, and in which form answers are written.
-pub fn answer_next<T: Threads + Wait + Sync, V: Server, R: Source, W: Sink>(
-    rt: &T,
+/// Returns what a line asks for.
+fn asked_by(alloc: Global, line: &[u8]) -> Result<Asked<'_>, RunFault>
+    ensures { AskedBy (said line.now) result }
+{
+    match read_line(alloc, line) {
+        Ok(Some(request)) => Ok(Asked::Request(request)),
+        Ok(None) => Ok(Asked::Nothing),
+        Err(ReadFault::Line(fault)) => Ok(Asked::Fault(fault)),
+        Err(ReadFault::Memory) => Err(RunFault::Memory),
+    }
+}
+
+/// Returns the next line, kept in `line`. One that is too long is read to its end if the script goes on. `held` has the
+/// bytes that were read and not used; `reads` counts the reads.
+pub fn next_request<'l, R: Source>(
     alloc: Global,
-    lifters: u32,
-    manner: Manner,
-    number: u64,
-    server: &mut V,
+    goes_on: bool,
+    line: &'l mut Vec<u8>,
     held: &mut Vec<u8>,
     reads: &mut u32,
     reader: &mut R,
-    writer: &mut W,
-) -> Result<Option<Tone>, RunFault>
-    requires lifters { (1 ≤ lifters) × (lifters ≤ 64) }
+) -> Result<Asked<'l>, RunFault>
     requires few { reads.old ≤ 16777216 }
     requires calls { R.calls reader.old ≡ reads.old }
     ensures calls { R.calls reader.new ≡ reads.new }
     ensures reads { reads.new ≤ 16777216 }
-    ensures outcome { NextOutcome manner number (V.answering (V.scene server.old) lifters) (V.state server.old)
-        (V.state server.new) (prepend_known held.old.items (R.remaining reader.old))
-        (prepend_known held.new.items (R.remaining reader.new)) (R.remaining reader.new)
-        (W.contents writer.old) (W.contents writer.new) result }
-    ensures scene { OnOk result (V.scene server.new ≡ V.scene server.old) }
-    ensures fewer { IfOk result (λ tone. OnSome tone
-        (lines_left reads.new (vec_len held.new) < lines_left reads.old (vec_len held.old))) }
+    ensures outcome { AskedOutcome goes_on (prepend_known held.old.items (R.remaining reader.old))
+        (prepend_known held.new.items (R.remaining reader.new)) (R.remaining reader.new) result }
+    ensures fewer { IfOk result (λ asked. HasLine goes_on asked →
+        lines_left reads.new (vec_len held.new) < lines_left reads.old (vec_len held.old)) }
     ensures cause { IsErrOf result RunFault.Read → (R.has_failed reader.new ≡ true) ⊎ (reads.new ≡ 16777216) }
-    ensures write_failed { IsErrOf result RunFault.Write → W.has_failed writer.new ≡ true }
     ensures readable { UnlessReaderFails result (R.has_failed reader.new ≡ R.has_failed reader.old) }
-    ensures writable { UnlessWriterFails result (W.has_failed writer.new ≡ W.has_failed writer.old) }
 {
     match next_line(alloc, held, reads, reader)? {
-        Next::Line(line) => {
-            let tone = answer_line(rt, alloc, lifters, manner, number, server, &line, writer)?;
-            Ok(Some(tone))
+        Next::Line(read) => {
+            *line = read;
+            asked_by(alloc, line)
         }
         Next::TooLong => {
-            let tone = answer_too_long(alloc, manner, number, held, reads, reader, writer)?;
-            Ok(Some(tone))
+            if goes_on {
+                pass_line(held, reads, reader)?;
+            }
+            Ok(Asked::Fault(LineFault::TooLong))
         }
-        Next::End => Ok(None),
+        Next::End => Ok(Asked::End),
     }
 }

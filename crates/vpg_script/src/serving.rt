@@ -7,7 +7,7 @@ ghost use Rattle.vpg_script.specs.Results.{UnlessReaderFails, UnlessWriterFails,
 ghost use Rattle.vpg_script.specs.Output.{Machine, ScriptOutcome};
 ghost use Rattle.vpg_script.specs.Manners.{Leaves, MannerOutcome};
 
-use crate::answering::answer_next;
+use crate::answering::{Asked, answer_fault, next_request, put_answer};
 use crate::command::Request;
 use crate::device::{Sink, Source};
 use crate::fault::RunFault;
@@ -156,20 +156,30 @@ pub fn answer_script_as<T: Threads + Wait + Sync, V: Server, R: Source, W: Sink>
     let mut number = 1;
     let mut failed = false;
     'lines: loop {
-        match answer_next(
-            rt, alloc, lifters, manner, number, server, &mut held, &mut reads, reader, writer,
-        ) {
-            Ok(Some(tone)) => {
-                let last = is_last(tone, manner);
-                if last {
-                    return Ok(Ending::Refused { line: number });
-                }
-                let fails = has_failed(failed, tone);
-                failed = fails;
+        let mut line = Vec::new(alloc);
+        let asked = next_request(
+            alloc,
+            manner.goes_on,
+            &mut line,
+            &mut held,
+            &mut reads,
+            reader,
+        )?;
+        let answered = match &asked {
+            Asked::Request(request) => {
+                let mut text = Vec::new(alloc);
+                let tone = server.serve(rt, alloc, lifters, request, &mut text)?;
+                put_answer(alloc, manner.form, number, tone, &text, writer)
             }
-            Ok(None) => return Ok(ending_of(failed)),
-            Err(stop) => return Err(stop),
+            Asked::Nothing => Ok(Tone::Done),
+            Asked::Fault(fault) => answer_fault(alloc, manner, number, *fault, writer),
+            Asked::End => return Ok(ending_of(failed)),
+        };
+        let tone = answered?;
+        if is_last(tone, manner) {
+            return Ok(Ending::Refused { line: number });
         }
+        failed = has_failed(failed, tone);
         number += 1;
     }
 }

@@ -13,9 +13,10 @@ use std::fs;
 use std::process::ExitCode;
 use std::sync::Wait;
 use std::thread::Threads;
-use vpg_family::{Fault, line_of};
-use vpg_program::{obey_words, program};
+use vpg_family::{Fault, Texts, line_of};
+use vpg_program::{carry_out, program};
 use vpg_report::{End, refused_line};
+use vpg_terminal::read;
 
 /// Returns the words of a line.
 fn words_of(alloc: Global, line: &str) -> Result<Vec<String>> {
@@ -38,11 +39,16 @@ fn text_of(alloc: Global, ended: &Result<End, Fault>) -> Result<Vec<u8>> {
 }
 
 /// Carries out the words of a line, and writes their end.
-fn carry_out<T: Threads + Wait + Sync>(rt: &HostRuntime, threads: &T, line: &str) -> Result<()> {
+fn carry_out_line<T: Threads + Wait + Sync>(
+    rt: &HostRuntime,
+    threads: &T,
+    line: &str,
+) -> Result<()> {
     println!(rt; "{line}")?;
     let words = words_of(rt.alloc(), line)?;
-    let mut explained = Vec::new(rt.alloc());
-    let ended = obey_words(rt, threads, rt.alloc(), &words, &mut explained);
+    let asked = read(rt.alloc(), &words);
+    let mut texts = Texts::none(rt.alloc());
+    let ended = carry_out(rt, threads, rt.alloc(), &asked, &mut texts);
     let text = text_of(rt.alloc(), &ended)?;
     print!(rt; "ends: {}", str::from_utf8(&text).unwrap_or("not UTF-8\n"))?;
     Ok(())
@@ -51,7 +57,7 @@ fn carry_out<T: Threads + Wait + Sync>(rt: &HostRuntime, threads: &T, line: &str
 fn carry_out_all<T: Threads + Wait + Sync>(rt: &HostRuntime, threads: &T) -> Result<()> {
     let rows = fs::read_to_string(rt, "rows")?;
     for line in rows.lines() {
-        carry_out(rt, threads, line)?;
+        carry_out_line(rt, threads, line)?;
     }
     Ok(())
 }
