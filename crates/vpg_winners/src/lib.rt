@@ -37,6 +37,7 @@ mod listing;
 mod pairing;
 mod part;
 mod parts;
+mod sampling;
 mod solving;
 mod splitting;
 mod standing;

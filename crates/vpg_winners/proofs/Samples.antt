@@ -1,0 +1,133 @@
+-- Samples of the products that are left.
+use Rattle.std.proofs.Common.{◌≡◌, ℕ, ◌<◌, ◌&&◌, Bool, true, false, List, [], ◌∷◌, ◌++◌, length, sym, ◌∙◌, subst}
+use Rattle.std.specs.Prelude.{Option, Some, None, IfSome, All, Contains, IsTrue, ◌↔◌}
+use Rattle.std.specs.Global.{Vec}
+use Rattle.std.specs.List.{AllByRecursion}
+use Rattle.std.proofs.lemmas.Bool.{and_parts}
+use Rattle.std.proofs.lemmas.List.Elements.{All-contains, All-from_recursion, All-map}
+use Rattle.vpg_sides.specs.declared.player.Player.TheVariants.{Even, Odd}
+use Rattle.vpg_sides.specs.declared.which.Which.TheVariants.{Hopeful, Dual}
+use Rattle.vpg_diagram.specs.DiagramText.{NamedDiagram}
+use Rattle.vpg_diagram.specs.FeatureDiagram.{feature_count}
+use Rattle.vpg_diagram.specs.declared.clause.Literal.{Literal}
+use Rattle.vpg_diagram.proofs.Lists.{All-append}
+use Rattle.vpg_game.specs.Game.{NamedGame, graph_of}
+use Rattle.vpg_measure.specs.Orders.{OrderView}
+use Rattle.vpg_partial.specs.KnownLaws.{IsRemaining}
+use Rattle.vpg_sets.specs.declared.node.Set.{Set}
+use Rattle.vpg_sets.specs.Firsts.{IsFirstOf}
+use Rattle.vpg_sets.specs.Sets.{Arena, IsGrown, IsInside, IsSetOf, has}
+use Rattle.vpg_sets.specs.Sizes.{AreAllOf}
+use Rattle.vpg_why.specs.Explained.{choices}
+use Rattle.vpg_why.specs.Found.{AllMeet, IsFoundProduct}
+use Rattle.vpg_why.specs.Foreseen.{AreFindings}
+use Rattle.vpg_why.specs.declared.foreseeing.Findings.{Findings}
+use Rattle.vpg_why.specs.declared.question.Aim.{Aim}
+use Rattle.vpg_why.specs.declared.question.Aim.TheVariants as aims
+use Rattle.vpg_why.specs.declared.searching.Example.{Example}
+use Rattle.vpg_winners.specs.Divided.{AreDivided}
+use Rattle.vpg_winners.specs.OpenParts.{IsPartOf}
+use Rattle.vpg_winners.specs.Sampled.{AreFound, IsFirstLeft, IsSetOfSome}
+use Rattle.vpg_zielonka.specs.Winners.{lists_of}
+use Rattle.vpg_zielonka.specs.declared.winners.Division.{Division}
+
+-- one more at the end of a list
+pub one_more : {X : Type 0} (P : X → Type 0) (xs more : List X) (x : X) → more ≡ xs ++ x ∷ [] → AllByRecursion P xs →
+    P x → AllByRecursion P more
+one_more P xs more x longer all here = subst (AllByRecursion P) (sym longer) (All-append P xs (x ∷ []) all (here, tt))
+
+-- ---- products that are listed
+
+of_each : (P : List Bool → Type 0) (list : List (Vec Bool)) → AllByRecursion P (lists_of list) →
+    AllByRecursion (λ (p : Vec Bool). P p.items) list
+of_each P [] all = tt
+of_each P (p ∷ list) (one, all) = (one, of_each P list all)
+
+pub all_listed : (test : List Bool → Bool) (n : ℕ) (list : List (Vec Bool)) → AreAllOf test n (lists_of list) →
+    All (λ p. (length p.items ≡ n) × (test p.items ≡ true)) list
+all_listed test n list are =
+    All-from_recursion (λ (p : Vec Bool). (length p.items ≡ n) × (test p.items ≡ true)) list
+    (of_each (λ p. (length p ≡ n) × (test p ≡ true)) list are.each)
+
+-- those of two sets are those of the second one
+module _ (old mid new : Arena) (set drawn own : Set) (inside : IsInside old set) (grown : IsGrown old mid)
+    (both : IsSetOf new (λ p. has mid drawn p && has mid set p) own) where
+  in_set : (p : List Bool) → has new own p ≡ true → has old set p ≡ true
+  in_set p h =
+      let parts = and_parts (has mid drawn p) (has mid set p) (sym (both.each p) ∙ h) in
+      sym (grown.same set inside p) ∙ parts.1
+
+  pub some_listed : (n m : ℕ) → n ≡ m → (found : Option (Vec (Vec Bool))) →
+      IfSome found (λ list. AreAllOf (has new own) n (lists_of list.items)) →
+      IfSome found (λ list. All (λ p. (length p.items ≡ m) × (has old set p.items ≡ true)) list.items)
+  some_listed n m e None are = tt
+  some_listed n m e (Some list) are =
+      All-from_recursion (λ (p : Vec Bool). (length p.items ≡ m) × (has old set p.items ≡ true)) list.items
+      (of_each (λ p. (length p ≡ m) × (has old set p ≡ true)) list.items (each (lists_of list.items) are.each))
+    where
+      each : (ps : List (List Bool)) → AllByRecursion (λ p. (length p ≡ n) × (has new own p ≡ true)) ps →
+          AllByRecursion (λ p. (length p ≡ m) × (has old set p ≡ true)) ps
+      each [] all = tt
+      each (p ∷ ps) (one, all) = ((one.0 ∙ e, in_set p one.1), each ps all)
+
+pub some_distinct : (test : List Bool → Bool) (n : ℕ) (found : Option (Vec (Vec Bool))) →
+    IfSome found (λ list. AreAllOf test n (lists_of list.items)) →
+    IfSome found (λ list. Rattle.vpg_number.specs.Counted.AreDistinct (lists_of list.items))
+some_distinct test n None are = tt
+some_distinct test n (Some list) are = are.distinct
+
+-- ---- products that are left
+
+pub all_left : (IsLeft : List Bool → Type 0) (test : List Bool → Bool) (n : ℕ) (list : List (Vec Bool)) →
+    All (λ p. (length p.items ≡ n) × (test p.items ≡ true)) list →
+    ((p : List Bool) → length p ≡ n → (IsTrue (test p) ↔ IsLeft p)) → (p : List Bool) → Contains (lists_of list) p →
+    IsLeft p
+all_left IsLeft test n list all left p is =
+    let both = All-contains (λ q. (length q ≡ n) × (test q ≡ true)) (lists_of list) p
+    (All-map (λ q. (length q ≡ n) × (test q ≡ true)) (λ (q : Vec Bool). q.items) list all) is in
+    (left p both.0).0 both.1
+
+pub is_first_left : (diagram : NamedDiagram) (own : List Literal) (arena : Arena) (set : Set) (first : List Bool) →
+    feature_count diagram.lines ≡ arena.features →
+    ((p : List Bool) → length p ≡ arena.features → (IsTrue (has arena set p) ↔ IsRemaining diagram.lines own p)) →
+    IsFirstOf arena set first → IsFirstLeft diagram own first
+is_first_left diagram own arena set first count left is other r before =
+    let long = r.product.length_is ∙ count in
+    is.first other long ((left other long).1 r)
+    (record { feature = before.feature; has_it = before.has; lacks = before.lacks; same = before.same })
+
+module _ (order : OrderView) (vertex : ℕ) (part : NamedGame) (place : ℕ) (is : IsPartOf order vertex part place)
+    (arena : Arena) (two : Division) (products : List (List Bool))
+    (count : feature_count order.diagram.lines ≡ arena.features)
+    (left : (p : List Bool) → Contains products p → IsRemaining order.diagram.lines (choices order.decisions) p)
+    (divided : AreDivided (graph_of part) place (Contains products) arena two) where
+  pub won_some : IsSetOfSome order.game order.diagram (aims.Won Hopeful vertex) (choices order.decisions) arena two.won
+  won_some = record {
+    features = count;
+    each = λ p long h. let won = divided.won p long h in let r = left p won.0 in (r, (is.wins p r Even).0 won.1);
+  }
+
+  pub lost_some : IsSetOfSome order.game order.diagram (aims.Won Dual vertex) (choices order.decisions) arena two.lost
+  lost_some = record {
+    features = count;
+    each = λ p long h. let lost = divided.lost p long h in let r = left p lost.0 in (r, (is.wins p r Odd).0 lost.1);
+  }
+
+-- ---- products that are found
+
+module _ (game : NamedGame) (diagram : NamedDiagram) (aim : Aim) (own : List Literal) where
+  module _ (arena : Arena) (set : Set) (some : IsSetOfSome game diagram aim own arena set) (p : List Bool)
+      (long : length p ≡ arena.features) (h : has arena set p ≡ true) where
+    pub any_found : IsFoundProduct game diagram aim own p false
+    any_found =
+        let both = some.each p long h in
+        record { remaining = both.0; meets = both.1; is_first = λ shown. absurd (cc shown) }
+
+    pub first_found : IsFirstLeft diagram own p → IsFoundProduct game diagram aim own p true
+    first_found first =
+        let both = some.each p long h in
+        record { remaining = both.0; meets = both.1; is_first = λ shown other r before m. first other r before }
+
+  pub found_meet : (found : List Example) → AreFound game diagram aim own found → AllMeet game diagram aim own found
+  found_meet [] are = tt
+  found_meet (e ∷ found) (one, are) = ((one.remaining, one.meets), found_meet found are)
