@@ -1,33 +1,48 @@
 -- Samples of the products that are left.
-use Rattle.std.proofs.Common.{◌≡◌, ℕ, ◌<◌, ◌&&◌, Bool, true, false, List, [], ◌∷◌, ◌++◌, length, sym, ◌∙◌, subst}
+use Rattle.std.proofs.Common.{◌≡◌, ℕ, ◌+◌, ◌<◌, ◌&&◌, Bool, true, false, not, List, [], ◌∷◌, ◌++◌, length, slice_index_or, refl, sym, ◌∙◌, subst}
 use Rattle.std.specs.Prelude.{Option, Some, None, IfSome, All, Contains, IsTrue, ◌↔◌}
 use Rattle.std.specs.Global.{Vec}
-use Rattle.std.specs.List.{AllByRecursion}
+use Rattle.std.specs.List.{AllByRecursion, list_any}
 use Rattle.std.proofs.lemmas.Bool.{and_parts}
 use Rattle.std.proofs.lemmas.List.Elements.{All-contains, All-from_recursion, All-map}
 use Rattle.vpg_sides.specs.declared.player.Player.TheVariants.{Even, Odd}
 use Rattle.vpg_sides.specs.declared.which.Which.TheVariants.{Hopeful, Dual}
-use Rattle.vpg_diagram.specs.DiagramText.{NamedDiagram}
+use Rattle.vpg_guards.specs.declared.tri.Tri.{Tri}
+use Rattle.vpg_guards.specs.declared.tri.Tri.TheVariants.{Unknown}
+use Rattle.vpg_diagram.specs.Clauses.{is_true_in}
+use Rattle.vpg_diagram.specs.DiagramText.{NamedDiagram, IsNamedDiagram}
 use Rattle.vpg_diagram.specs.FeatureDiagram.{feature_count}
 use Rattle.vpg_diagram.specs.declared.clause.Literal.{Literal}
-use Rattle.vpg_diagram.proofs.Lists.{All-append}
+use Rattle.vpg_diagram.proofs.Lists.{All-append, Contains-nil}
 use Rattle.vpg_game.specs.Game.{NamedGame, graph_of}
 use Rattle.vpg_measure.specs.Orders.{OrderView}
+use Rattle.vpg_number.specs.Counted.{AreDistinct}
 use Rattle.vpg_partial.specs.KnownLaws.{IsRemaining}
+use Rattle.vpg_partial.specs.TableLaws.{AreChoicesOf, IsKnownTable}
 use Rattle.vpg_sets.specs.declared.node.Set.{Set}
 use Rattle.vpg_sets.specs.Firsts.{IsFirstOf}
 use Rattle.vpg_sets.specs.Sets.{Arena, IsGrown, IsInside, IsSetOf, has}
 use Rattle.vpg_sets.specs.Sizes.{AreAllOf}
 use Rattle.vpg_why.specs.Explained.{choices}
-use Rattle.vpg_why.specs.Found.{AllMeet, IsFoundProduct}
+use Rattle.vpg_why.specs.Found.{AllMeet, IsFound, IsFoundExact, IsFoundProduct}
 use Rattle.vpg_why.specs.Foreseen.{AreFindings}
+use Rattle.vpg_why.specs.Products.{Meets}
+use Rattle.vpg_why.specs.Suffices.{choice}
 use Rattle.vpg_why.specs.declared.foreseeing.Findings.{Findings}
 use Rattle.vpg_why.specs.declared.question.Aim.{Aim}
 use Rattle.vpg_why.specs.declared.question.Aim.TheVariants as aims
 use Rattle.vpg_why.specs.declared.searching.Example.{Example}
+use Rattle.vpg_why.specs.declared.searching.Found.{Found}
+use Rattle.vpg_why.specs.declared.searching.Found.TheVariants as founds
+use Rattle.vpg_why.proofs.Ahead.{found_with}
+use Rattle.vpg_winners.specs.declared.deciding.Decided.{Decided}
+use Rattle.vpg_winners.specs.declared.deciding.Decided.TheVariants as decides
+use Rattle.vpg_winners.specs.Decided.{IsDecidedAs, IsDecidedExact, IsWonProduct}
 use Rattle.vpg_winners.specs.Divided.{AreDivided}
+use Rattle.vpg_winners.specs.Gathering.{some}
 use Rattle.vpg_winners.specs.OpenParts.{IsPartOf}
-use Rattle.vpg_winners.specs.Sampled.{AreFound, IsFirstLeft, IsSetOfSome}
+use Rattle.vpg_winners.specs.Sampled.{AreFound, IsFirstLeft, IsSetOfSome, decided_or, found_or}
+use Rattle.vpg_winners.proofs.Learned.{AreForcedTo, next_open}
 use Rattle.vpg_zielonka.specs.Winners.{lists_of}
 use Rattle.vpg_zielonka.specs.declared.winners.Division.{Division}
 
@@ -72,7 +87,7 @@ module _ (old mid new : Arena) (set drawn own : Set) (inside : IsInside old set)
 
 pub some_distinct : (test : List Bool → Bool) (n : ℕ) (found : Option (Vec (Vec Bool))) →
     IfSome found (λ list. AreAllOf test n (lists_of list.items)) →
-    IfSome found (λ list. Rattle.vpg_number.specs.Counted.AreDistinct (lists_of list.items))
+    IfSome found (λ list. AreDistinct (lists_of list.items))
 some_distinct test n None are = tt
 some_distinct test n (Some list) are = are.distinct
 
@@ -116,18 +131,102 @@ module _ (order : OrderView) (vertex : ℕ) (part : NamedGame) (place : ℕ) (is
 -- ---- products that are found
 
 module _ (game : NamedGame) (diagram : NamedDiagram) (aim : Aim) (own : List Literal) where
-  module _ (arena : Arena) (set : Set) (some : IsSetOfSome game diagram aim own arena set) (p : List Bool)
+  module _ (arena : Arena) (set : Set) (each : IsSetOfSome game diagram aim own arena set) (p : List Bool)
       (long : length p ≡ arena.features) (h : has arena set p ≡ true) where
     pub any_found : IsFoundProduct game diagram aim own p false
     any_found =
-        let both = some.each p long h in
+        let both = each.each p long h in
         record { remaining = both.0; meets = both.1; is_first = λ shown. absurd (cc shown) }
 
     pub first_found : IsFirstLeft diagram own p → IsFoundProduct game diagram aim own p true
     first_found first =
-        let both = some.each p long h in
+        let both = each.each p long h in
         record { remaining = both.0; meets = both.1; is_first = λ shown other r before m. first other r before }
 
   pub found_meet : (found : List Example) → AreFound game diagram aim own found → AllMeet game diagram aim own found
   found_meet [] are = tt
   found_meet (e ∷ found) (one, are) = ((one.remaining, one.meets), found_meet found are)
+
+  pub some_found : (found : List Example) → (found ≡ [] → ⊥) → AreFound game diagram aim own found →
+      (p : List Bool) × IsRemaining diagram.lines own p × Meets game aim p
+  some_found [] not are = absurd (not refl)
+  some_found (e ∷ found) not are = (e.features.items, are.0.remaining, are.0.meets)
+
+  -- they make findings
+  pub findings_found : (findings : Findings) (found : List Example) → findings.met.items ≡ found →
+      findings.forced.items ≡ [] → AreFound game diagram aim own found → AreFindings game diagram aim own findings
+  findings_found findings found met bare are = record {
+    met = subst (AllMeet game diagram aim own) (sym met) (found_meet found are);
+    named = subst (AreChoicesOf diagram.lines) (sym bare) tt;
+    forced = λ l h. absurd (Contains-nil l (subst (λ (ls : List Literal). Contains ls l) bare h));
+  }
+
+  -- a feature in which some of them differ is not forced
+  module _ (known : List Tri) (is_diagram : IsNamedDiagram diagram) (table : IsKnownTable diagram.lines own known)
+      (p : List Bool) (remaining : IsRemaining diagram.lines own p) (meets : Meets game aim p) (found : List Example)
+      (are : AllMeet game diagram aim own found) (feature : ℕ) where
+    pub next_differs : slice_index_or known feature Unknown ≡ Unknown →
+        list_any (λ e. is_true_in e.features.items (choice feature true)) found ≡ true →
+        list_any (λ e. is_true_in e.features.items (choice feature false)) found ≡ true →
+        AreForcedTo game diagram aim own [] feature → AreForcedTo game diagram aim own [] (feature + 1)
+    next_differs unknown with without to =
+        let l = choice feature (not (slice_index_or p feature false)) in
+        next_open game diagram aim own p known is_diagram table remaining meets [] [] feature unknown
+        (some (found_with game diagram aim own l found are (either (slice_index_or p feature false))) refl) to
+      where
+        either : (b : Bool) → list_any (λ e. is_true_in e.features.items (choice feature (not b))) found ≡ true
+        either true = without
+        either false = with
+
+-- ---- a result in place of one that met a limit
+
+module _ (game : NamedGame) (diagram : NamedDiagram) (aim : Aim) (own : List Literal) (example : Example)
+    (is : IsFoundProduct game diagram aim own example.features.items example.first) where
+  pub or_found : (found : Option Found) → IfSome found (IsFound game diagram aim own) →
+      IfSome (found_or found example) (IsFound game diagram aim own)
+  or_found None h = tt
+  or_found (Some (founds.Product first)) h = h
+  or_found (Some founds.Nothing) h = h
+  or_found (Some founds.Unsettled) h = is
+
+pub or_exact : (S : Type 0) (example : Example) (found : Option Found) → IfSome found (λ x. S → IsFoundExact x) →
+    IfSome (found_or found example) (λ x. S → IsFoundExact x)
+or_exact S example None h = tt
+or_exact S example (Some (founds.Product first)) h = h
+or_exact S example (Some founds.Nothing) h = h
+or_exact S example (Some founds.Unsettled) h = λ s. absurd (h s)
+
+won_product : (game : NamedGame) (diagram : NamedDiagram) (own : List Literal) (vertex : ℕ) (e : Example) →
+    IsFoundProduct game diagram (aims.Won Hopeful vertex) own e.features.items e.first →
+    IsWonProduct (graph_of game) diagram.lines own Even vertex e
+won_product game diagram own vertex e is =
+    record { remaining = is.remaining; wins = is.meets; is_first = is.is_first }
+
+lost_product : (game : NamedGame) (diagram : NamedDiagram) (own : List Literal) (vertex : ℕ) (e : Example) →
+    IsFoundProduct game diagram (aims.Won Dual vertex) own e.features.items e.first →
+    IsWonProduct (graph_of game) diagram.lines own Odd vertex e
+lost_product game diagram own vertex e is =
+    record { remaining = is.remaining; wins = is.meets; is_first = is.is_first }
+
+module _ (game : NamedGame) (diagram : NamedDiagram) (own : List Literal) (vertex : ℕ) (won lost : Example)
+    (one : IsFoundProduct game diagram (aims.Won Hopeful vertex) own won.features.items won.first)
+    (other : IsFoundProduct game diagram (aims.Won Dual vertex) own lost.features.items lost.first) where
+  pub or_decided : (found : Option Decided) →
+      IfSome found (IsDecidedAs (graph_of game) diagram.lines own vertex) →
+      IfSome (decided_or found won lost) (IsDecidedAs (graph_of game) diagram.lines own vertex)
+  or_decided None h = tt
+  or_decided (Some decides.Won) h = h
+  or_decided (Some decides.Lost) h = h
+  or_decided (Some (decides.Mixed a b)) h = h
+  or_decided (Some decides.Empty) h = h
+  or_decided (Some decides.Unsettled) h =
+      (won_product game diagram own vertex won one, lost_product game diagram own vertex lost other)
+
+pub or_decided_exact : (S : Type 0) (won lost : Example) (found : Option Decided) →
+    IfSome found (λ x. S → IsDecidedExact x) → IfSome (decided_or found won lost) (λ x. S → IsDecidedExact x)
+or_decided_exact S won lost None h = tt
+or_decided_exact S won lost (Some decides.Won) h = h
+or_decided_exact S won lost (Some decides.Lost) h = h
+or_decided_exact S won lost (Some (decides.Mixed a b)) h = h
+or_decided_exact S won lost (Some decides.Empty) h = h
+or_decided_exact S won lost (Some decides.Unsettled) h = λ s. absurd (h s)

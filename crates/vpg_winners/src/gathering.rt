@@ -335,8 +335,10 @@ fn needs_on_part(
 
 // Whether one of the products has the feature, and one lacks it.
 fn differ_in(products: &[Example], feature: u16) -> bool
-    ensures has { IsTrue result → list_any (λ e. is_true_in e.features.items (choice feature true)) products.now ≡ true }
-    ensures lacks { IsTrue result → list_any (λ e. is_true_in e.features.items (choice feature false)) products.now ≡ true }
+    ensures has { IsTrue result →
+        list_any (λ e. is_true_in e.features.items (choice feature true)) products.now ≡ true }
+    ensures lacks { IsTrue result →
+        list_any (λ e. is_true_in e.features.items (choice feature false)) products.now ≡ true }
 {
     let with = Literal {
         feature,
@@ -359,8 +361,8 @@ fn differ(order: &Order, products: &[Example]) -> bool
     let known = order.games().known();
     let features = order.diagram().features() as u16;
     for feature in 0..features {
-        let tri = known.value(feature);
-        if let Tri::Unknown = tri {
+        let value = known.value(feature);
+        if let Tri::Unknown = value {
             if !differ_in(products, feature) {
                 return false;
             }

@@ -74,9 +74,8 @@ fn candidates(alloc: Global, sets: &Sets, set: Set) -> Result<Vec<Vec<bool>>, Al
 fn some_of(alloc: Global, sets: &mut Sets, set: Set) -> Result<Option<Vec<Vec<bool>>>, SetsFault>
     requires { IsInside sets.old set }
     ensures features { sets.new.features ≡ sets.old.features }
-    ensures long { IfOk result (λ found. IfSome found (λ list. All (λ p. length p.items ≡ sets.old.features) list.items)) }
-    ensures each { IfOk result (λ found. IfSome found (λ list.
-        All (λ p. has sets.old set p.items ≡ true) list.items)) }
+    ensures each { IfOk result (λ found. IfSome found (λ list. All
+        (λ p. (length p.items ≡ sets.old.features) × (has sets.old set p.items ≡ true)) list.items)) }
     ensures distinct { IfOk result (λ found. IfSome found (λ list. AreDistinct (lists_of list.items))) }
 {
     let list = candidates(alloc, sets, set)?;
