@@ -4,7 +4,7 @@ use Rattle.std.specs.Prelude.{Option, Some, None, IfSome, All, Contains, IsTrue,
 use Rattle.std.specs.Global.{Vec}
 use Rattle.std.specs.List.{AllByRecursion, list_any}
 use Rattle.std.proofs.lemmas.Bool.{and_parts}
-use Rattle.std.proofs.lemmas.List.Elements.{All-contains, All-from_recursion, All-map}
+use Rattle.std.proofs.lemmas.List.Elements.{All-contains, All-from_recursion, All-map, All-weaker}
 use Rattle.vpg_sides.specs.declared.player.Player.TheVariants.{Even, Odd}
 use Rattle.vpg_sides.specs.declared.which.Which.TheVariants.{Hopeful, Dual}
 use Rattle.vpg_guards.specs.declared.tri.Tri.{Tri}
@@ -16,7 +16,6 @@ use Rattle.vpg_diagram.specs.declared.clause.Literal.{Literal}
 use Rattle.vpg_diagram.proofs.Lists.{All-append, Contains-nil}
 use Rattle.vpg_game.specs.Game.{NamedGame, graph_of}
 use Rattle.vpg_measure.specs.Orders.{OrderView}
-use Rattle.vpg_number.specs.Counted.{AreDistinct}
 use Rattle.vpg_partial.specs.KnownLaws.{IsRemaining}
 use Rattle.vpg_partial.specs.TableLaws.{AreChoicesOf, IsKnownTable}
 use Rattle.vpg_sets.specs.declared.node.Set.{Set}
@@ -24,7 +23,7 @@ use Rattle.vpg_sets.specs.Firsts.{IsFirstOf}
 use Rattle.vpg_sets.specs.Sets.{Arena, IsGrown, IsInside, IsSetOf, has}
 use Rattle.vpg_sets.specs.Sizes.{AreAllOf}
 use Rattle.vpg_why.specs.Explained.{choices}
-use Rattle.vpg_why.specs.Found.{AllMeet, IsFound, IsFoundExact, IsFoundProduct}
+use Rattle.vpg_why.specs.Found.{AllMeet, IsFoundProduct}
 use Rattle.vpg_why.specs.Foreseen.{AreFindings}
 use Rattle.vpg_why.specs.Products.{Meets}
 use Rattle.vpg_why.specs.Suffices.{choice}
@@ -32,16 +31,11 @@ use Rattle.vpg_why.specs.declared.foreseeing.Findings.{Findings}
 use Rattle.vpg_why.specs.declared.question.Aim.{Aim}
 use Rattle.vpg_why.specs.declared.question.Aim.TheVariants as aims
 use Rattle.vpg_why.specs.declared.searching.Example.{Example}
-use Rattle.vpg_why.specs.declared.searching.Found.{Found}
-use Rattle.vpg_why.specs.declared.searching.Found.TheVariants as founds
 use Rattle.vpg_why.proofs.Ahead.{found_with}
-use Rattle.vpg_winners.specs.declared.deciding.Decided.{Decided}
-use Rattle.vpg_winners.specs.declared.deciding.Decided.TheVariants as decides
-use Rattle.vpg_winners.specs.Decided.{IsDecidedAs, IsDecidedExact, IsWonProduct}
 use Rattle.vpg_winners.specs.Divided.{AreDivided}
 use Rattle.vpg_winners.specs.Gathering.{some}
 use Rattle.vpg_winners.specs.OpenParts.{IsPartOf}
-use Rattle.vpg_winners.specs.Sampled.{AreFound, IsFirstLeft, IsSetOfSome, decided_or, found_or}
+use Rattle.vpg_winners.specs.Sampled.{AreFound, IsFirstLeft, IsSetOfSome}
 use Rattle.vpg_winners.proofs.Learned.{AreForcedTo, next_open}
 use Rattle.vpg_zielonka.specs.Winners.{lists_of}
 use Rattle.vpg_zielonka.specs.declared.winners.Division.{Division}
@@ -72,24 +66,13 @@ module _ (old mid new : Arena) (set drawn own : Set) (inside : IsInside old set)
       let parts = and_parts (has mid drawn p) (has mid set p) (sym (both.each p) ∙ h) in
       sym (grown.same set inside p) ∙ parts.1
 
-  pub some_listed : (n m : ℕ) → n ≡ m → (found : Option (Vec (Vec Bool))) →
-      IfSome found (λ list. AreAllOf (has new own) n (lists_of list.items)) →
-      IfSome found (λ list. All (λ p. (length p.items ≡ m) × (has old set p.items ≡ true)) list.items)
-  some_listed n m e None are = tt
-  some_listed n m e (Some list) are =
-      All-from_recursion (λ (p : Vec Bool). (length p.items ≡ m) × (has old set p.items ≡ true)) list.items
-      (of_each (λ p. (length p ≡ m) × (has old set p ≡ true)) list.items (each (lists_of list.items) are.each))
-    where
-      each : (ps : List (List Bool)) → AllByRecursion (λ p. (length p ≡ n) × (has new own p ≡ true)) ps →
-          AllByRecursion (λ p. (length p ≡ m) × (has old set p ≡ true)) ps
-      each [] all = tt
-      each (p ∷ ps) (one, all) = ((one.0 ∙ e, in_set p one.1), each ps all)
-
-pub some_distinct : (test : List Bool → Bool) (n : ℕ) (found : Option (Vec (Vec Bool))) →
-    IfSome found (λ list. AreAllOf test n (lists_of list.items)) →
-    IfSome found (λ list. AreDistinct (lists_of list.items))
-some_distinct test n None are = tt
-some_distinct test n (Some list) are = are.distinct
+  pub own_listed : (n m : ℕ) → n ≡ m → (list : List (Vec Bool)) →
+      All (λ p. (length p.items ≡ n) × (has new own p.items ≡ true)) list →
+      All (λ p. (length p.items ≡ m) × (has old set p.items ≡ true)) list
+  own_listed n m e list all =
+      All-weaker (λ (p : Vec Bool). (length p.items ≡ n) × (has new own p.items ≡ true))
+      (λ (p : Vec Bool). (length p.items ≡ m) × (has old set p.items ≡ true))
+      (λ p both. (both.0 ∙ e, in_set p.items both.1)) list all
 
 -- ---- products that are left
 
@@ -177,56 +160,3 @@ module _ (game : NamedGame) (diagram : NamedDiagram) (aim : Aim) (own : List Lit
         either : (b : Bool) → list_any (λ e. is_true_in e.features.items (choice feature (not b))) found ≡ true
         either true = without
         either false = with
-
--- ---- a result in place of one that met a limit
-
-module _ (game : NamedGame) (diagram : NamedDiagram) (aim : Aim) (own : List Literal) (example : Example)
-    (is : IsFoundProduct game diagram aim own example.features.items example.first) where
-  pub or_found : (found : Option Found) → IfSome found (IsFound game diagram aim own) →
-      IfSome (found_or found example) (IsFound game diagram aim own)
-  or_found None h = tt
-  or_found (Some (founds.Product first)) h = h
-  or_found (Some founds.Nothing) h = h
-  or_found (Some founds.Unsettled) h = is
-
-pub or_exact : (S : Type 0) (example : Example) (found : Option Found) → IfSome found (λ x. S → IsFoundExact x) →
-    IfSome (found_or found example) (λ x. S → IsFoundExact x)
-or_exact S example None h = tt
-or_exact S example (Some (founds.Product first)) h = h
-or_exact S example (Some founds.Nothing) h = h
-or_exact S example (Some founds.Unsettled) h = λ s. absurd (h s)
-
-won_product : (game : NamedGame) (diagram : NamedDiagram) (own : List Literal) (vertex : ℕ) (e : Example) →
-    IsFoundProduct game diagram (aims.Won Hopeful vertex) own e.features.items e.first →
-    IsWonProduct (graph_of game) diagram.lines own Even vertex e
-won_product game diagram own vertex e is =
-    record { remaining = is.remaining; wins = is.meets; is_first = is.is_first }
-
-lost_product : (game : NamedGame) (diagram : NamedDiagram) (own : List Literal) (vertex : ℕ) (e : Example) →
-    IsFoundProduct game diagram (aims.Won Dual vertex) own e.features.items e.first →
-    IsWonProduct (graph_of game) diagram.lines own Odd vertex e
-lost_product game diagram own vertex e is =
-    record { remaining = is.remaining; wins = is.meets; is_first = is.is_first }
-
-module _ (game : NamedGame) (diagram : NamedDiagram) (own : List Literal) (vertex : ℕ) (won lost : Example)
-    (one : IsFoundProduct game diagram (aims.Won Hopeful vertex) own won.features.items won.first)
-    (other : IsFoundProduct game diagram (aims.Won Dual vertex) own lost.features.items lost.first) where
-  pub or_decided : (found : Option Decided) →
-      IfSome found (IsDecidedAs (graph_of game) diagram.lines own vertex) →
-      IfSome (decided_or found won lost) (IsDecidedAs (graph_of game) diagram.lines own vertex)
-  or_decided None h = tt
-  or_decided (Some decides.Won) h = h
-  or_decided (Some decides.Lost) h = h
-  or_decided (Some (decides.Mixed a b)) h = h
-  or_decided (Some decides.Empty) h = h
-  or_decided (Some decides.Unsettled) h =
-      (won_product game diagram own vertex won one, lost_product game diagram own vertex lost other)
-
-pub or_decided_exact : (S : Type 0) (won lost : Example) (found : Option Decided) →
-    IfSome found (λ x. S → IsDecidedExact x) → IfSome (decided_or found won lost) (λ x. S → IsDecidedExact x)
-or_decided_exact S won lost None h = tt
-or_decided_exact S won lost (Some decides.Won) h = h
-or_decided_exact S won lost (Some decides.Lost) h = h
-or_decided_exact S won lost (Some (decides.Mixed a b)) h = h
-or_decided_exact S won lost (Some decides.Empty) h = h
-or_decided_exact S won lost (Some decides.Unsettled) h = λ s. absurd (h s)

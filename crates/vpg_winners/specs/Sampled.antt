@@ -1,5 +1,5 @@
 -- Some of the products that are left, and who wins in them. This project's own.
-use Rattle.std.specs.Prelude.{◌≡◌, Bool, true, List, length, Option, Some, None}
+use Rattle.std.specs.Prelude.{◌≡◌, Bool, true, List, length}
 use Rattle.std.specs.List.{AllByRecursion}
 use Rattle.vpg_diagram.specs.DiagramText.{NamedDiagram}
 use Rattle.vpg_diagram.specs.FeatureDiagram.{feature_count}
@@ -12,10 +12,6 @@ use Rattle.vpg_why.specs.Found.{IsFoundProduct}
 use Rattle.vpg_why.specs.Products.{ComesBefore, Meets}
 use Rattle.vpg_why.specs.declared.question.Aim.{Aim}
 use Rattle.vpg_why.specs.declared.searching.Example.{Example}
-use Rattle.vpg_why.specs.declared.searching.Found.{Found}
-use Rattle.vpg_why.specs.declared.searching.Found.TheVariants as founds
-use Rattle.vpg_winners.specs.declared.deciding.Decided.{Decided}
-use Rattle.vpg_winners.specs.declared.deciding.Decided.TheVariants as decides
 
 -- each product of the set agrees with the choices and meets the aim
 pub record IsSetOfSome (game : NamedGame) (diagram : NamedDiagram) (aim : Aim) (choices : List Literal) (arena : Arena)
@@ -33,19 +29,3 @@ IsFirstLeft diagram choices first =
 abbrev pub AreFound : NamedGame → NamedDiagram → Aim → List Literal → List Example → Type 0
 AreFound game diagram aim choices found =
     AllByRecursion (λ e. IsFoundProduct game diagram aim choices e.features.items e.first) found
-
--- the result of a search, or this product if it met a limit
-abbrev pub found_or : Option Found → Example → Option Found
-found_or None example = None
-found_or (Some (founds.Product found)) example = Some (founds.Product found)
-found_or (Some founds.Nothing) example = Some founds.Nothing
-found_or (Some founds.Unsettled) example = Some (founds.Product example)
-
--- the winner by searches, or by these two products if they met a limit
-abbrev pub decided_or : Option Decided → (won lost : Example) → Option Decided
-decided_or None won lost = None
-decided_or (Some decides.Won) won lost = Some decides.Won
-decided_or (Some decides.Lost) won lost = Some decides.Lost
-decided_or (Some (decides.Mixed one other)) won lost = Some (decides.Mixed one other)
-decided_or (Some decides.Empty) won lost = Some decides.Empty
-decided_or (Some decides.Unsettled) won lost = Some (decides.Mixed won lost)

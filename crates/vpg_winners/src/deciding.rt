@@ -6,12 +6,10 @@ ghost use Rattle.vpg_why.specs.Explained.{choices};
 ghost use Rattle.vpg_why.specs.Suffices.{IsSettled};
 ghost use Rattle.vpg_winners.specs.Decided.{IsDecidedAs, IsDecidedExact, decided_by};
 ghost use Rattle.vpg_winners.specs.OpenParts.{IsPartOf};
-ghost use Rattle.vpg_winners.specs.Sampled.{decided_or};
 
 use crate::dividing::Effort;
 use crate::finding::first_found;
 use crate::part::{OF_SEVERAL, on_part, order_on, part_of};
-use crate::sampling::{last_of, sampled};
 use crate::two_sets::two_sets;
 use std::alloc::{AllocError, Global};
 use vpg_measure::Order;
@@ -178,57 +176,6 @@ fn decide_on_part(
     Ok(Some(decided))
 }
 
-// The winner by searches, or by these two products if they met a limit.
-fn or_else(found: Option<Decided>, won: Example, lost: Example) -> Option<Decided>
-    ensures { result ≡ decided_or found won lost }
-{
-    match found {
-        Some(Decided::Won) => Some(Decided::Won),
-        Some(Decided::Lost) => Some(Decided::Lost),
-        Some(
-            Decided::Mixed {
-                won: one,
-                lost: other,
-            },
-        ) => Some(Decided::Mixed {
-            won: one,
-            lost: other,
-        }),
-        Some(Decided::Empty) => Some(Decided::Empty),
-        Some(Decided::Unsettled) => Some(Decided::Mixed { won, lost }),
-        None => None,
-    }
-}
-
-// The winner by searches on the part, or by products of a sample if these met a limit. Returns nothing if searches on
-// the whole game have to show more.
-fn decide_by_sample(
-    alloc: Global,
-    order: &Order,
-    vertex: u32,
-    part: Reached,
-    limits: Limits,
-) -> Result<Option<Decided>, AllocError>
-    requires { IsPartOf order.now vertex part.game part.vertex }
-    ensures decided { IfOk result (λ found. IfSome found
-        (IsDecidedAs (graph_of order.now.game) order.now.diagram.lines (choices order.now.decisions) vertex)) }
-    ensures settled { IfOk result (λ found. IfSome found (λ decided.
-        IsSettled order.now.game order.now.diagram limits (Question.Lost (Aim.Won Which.Hopeful vertex))
-        (choices order.now.decisions) →
-        IsDecidedExact decided)) }
-{
-    let (won, lost) = sampled(alloc, order, vertex, &part)?;
-    let found = decide_on_part(alloc, order, vertex, part, limits)?;
-    let won = match last_of(won) {
-        Some(won) => won,
-        None => return Ok(found),
-    };
-    match last_of(lost) {
-        Some(lost) => Ok(or_else(found, won, lost)),
-        None => Ok(found),
-    }
-}
-
 // The winner by the part that decides the vertex. Returns nothing if searches on the whole game have to show more.
 fn decide_at(
     alloc: Global,
@@ -251,7 +198,7 @@ fn decide_at(
     if let Some(decided) = decide_by_sets(alloc, order, vertex, &part)? {
         return Ok(Some(decided));
     }
-    let found = decide_by_sample(alloc, order, vertex, part, limits)?;
+    let found = decide_on_part(alloc, order, vertex, part, limits)?;
     Ok(found)
 }
 

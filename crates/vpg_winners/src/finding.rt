@@ -3,11 +3,10 @@ ghost use Rattle.std.specs.Prelude.{◌≡◌, ◌<◌, length, IfOk, IfSome, Is
 ghost use Rattle.vpg_diagram.specs.FeatureDiagram.{feature_count};
 ghost use Rattle.vpg_sets.specs.Sets.{IsInside};
 ghost use Rattle.vpg_why.specs.Explained.{choices};
-ghost use Rattle.vpg_why.specs.Found.{IsFound, IsFoundExact, IsFoundProduct, IsWhyLost, IsWhyLostExact, IsWhyLostShown};
+ghost use Rattle.vpg_why.specs.Found.{IsFound, IsFoundExact, IsWhyLost, IsWhyLostExact, IsWhyLostShown};
 ghost use Rattle.vpg_why.specs.Suffices.{EachIsSettled, IsAim, IsSettled};
 ghost use Rattle.vpg_winners.specs.Finding.{IsFirstFound, IsSetOfMet};
 ghost use Rattle.vpg_winners.specs.OpenParts.{IsPartOf};
-ghost use Rattle.vpg_winners.specs.Sampled.{found_or};
 
 use crate::dividing::Effort;
 use crate::part::{OF_ONE, on_part, order_on, part_of};
@@ -159,59 +158,30 @@ fn search_part(
     Ok(Some(found))
 }
 
-// The result of a search, or this product if it met a limit.
-fn or_else(found: Option<Found>, example: Example) -> Option<Found>
-    ensures { result ≡ found_or found example }
-{
-    match found {
-        Some(Found::Product(first)) => Some(Found::Product(first)),
-        Some(Found::Nothing) => Some(Found::Nothing),
-        Some(Found::Unsettled) => Some(Found::Product(example)),
-        None => None,
-    }
-}
-
-// A product that is left and won at the vertex, or that there is none: this one, if it is the first or the search met a
-// limit. Returns nothing if a search on the whole game has to show more.
-fn search_beside(
-    alloc: Global,
-    order: &Order,
-    which: Which,
-    vertex: u32,
-    part: Reached,
-    example: Example,
-    limits: Limits,
-) -> Result<Option<Found>, AllocError>
-    requires part { IsPartOf order.now vertex part.game part.vertex }
-    requires example { IsFoundProduct order.now.game order.now.diagram (Aim.Won which vertex)
-        (choices order.now.decisions) example.features.items example.first }
-    ensures found { IfOk result (λ found. IfSome found
-        (IsFound order.now.game order.now.diagram (Aim.Won which vertex) (choices order.now.decisions))) }
-    ensures settled { IfOk result (λ found. IfSome found (λ found.
-        IsSettled order.now.game order.now.diagram limits (Question.Lost (Aim.Won which vertex))
-        (choices order.now.decisions) → IsFoundExact found)) }
-{
-    if example.first {
-        return Ok(Some(Found::Product(example)));
-    }
-    let found = search_part(alloc, order, which, vertex, part, limits)?;
-    Ok(or_else(found, example))
-}
-
-// A product of a sample that is won at the vertex: the first one of all, if it is.
-fn example_at(
+// The first product that is left, if it is won at the vertex.
+fn first_won(
     alloc: Global,
     order: &Order,
     which: Which,
     vertex: u32,
     part: &Reached,
-) -> Result<Option<Example>, AllocError>
+) -> Result<Option<Found>, AllocError>
     requires { IsPartOf order.now vertex part.now.game part.now.vertex }
-    ensures { IfOk result (λ found. IfSome found (λ e. IsFoundProduct order.now.game order.now.diagram
-        (Aim.Won which vertex) (choices order.now.decisions) e.features.items e.first)) }
+    ensures found { IfOk result (λ found. IfSome found
+        (IsFound order.now.game order.now.diagram (Aim.Won which vertex) (choices order.now.decisions))) }
+    ensures exact { IfOk result (λ found. IfSome found IsFoundExact) }
 {
-    let found = sampled_for(alloc, order, which, vertex, part)?;
-    Ok(last_of(found))
+    let found = sampled_for(alloc, order, which, vertex, part, 1)?;
+    match last_of(found) {
+        Some(example) => {
+            if example.first {
+                Ok(Some(Found::Product(example)))
+            } else {
+                Ok(None)
+            }
+        }
+        None => Ok(None),
+    }
 }
 
 // A product that is left and won at the vertex, or that there is none. Returns nothing if the vertex is not open, or a
@@ -238,10 +208,10 @@ fn find_at(
         let found = first_found(alloc, &met.sets, met.set)?;
         return Ok(Some(found));
     }
-    let found = match example_at(alloc, order, which, vertex, &part)? {
-        Some(example) => search_beside(alloc, order, which, vertex, part, example, limits)?,
-        None => search_part(alloc, order, which, vertex, part, limits)?,
-    };
+    if let Some(found) = first_won(alloc, order, which, vertex, &part)? {
+        return Ok(Some(found));
+    }
+    let found = search_part(alloc, order, which, vertex, part, limits)?;
     Ok(found)
 }
 

@@ -22,7 +22,7 @@ ghost use Rattle.vpg_winners.specs.Sampled.{AreFound};
 
 use crate::finding::{met_at, open_part, sets_at};
 use crate::part::{OF_SEVERAL, on_part, order_on};
-use crate::sampling::{sampled, sampled_for};
+use crate::sampling::{SAMPLE, sampled, sampled_for};
 use crate::two_sets::TwoSets;
 use std::alloc::{AllocError, Global};
 use vpg_diagram::Literal;
@@ -386,7 +386,7 @@ fn needs_by_sample(
 {
     // Properties of every order, for the proof.
     let _order = order.game();
-    let found = sampled_for(alloc, order, which, vertex, part)?;
+    let found = sampled_for(alloc, order, which, vertex, part, SAMPLE)?;
     if found.is_empty() || !differ(order, &found) {
         return Ok(None);
     }
@@ -652,7 +652,7 @@ fn sampled_findings(
     ensures lost { IfOk result (λ two. AreFindings order.now.game order.now.diagram (Aim.Won Which.Dual vertex)
         (choices order.now.decisions) two.1) }
 {
-    let (won, lost) = sampled(alloc, order, vertex, part)?;
+    let (won, lost) = sampled(alloc, order, vertex, part, SAMPLE)?;
     Ok((findings_by(alloc, won), findings_by(alloc, lost)))
 }
 

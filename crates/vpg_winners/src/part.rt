@@ -25,7 +25,7 @@ const LOOKS: u64 = 33_554_432;
 pub(crate) const OF_ONE: u64 = 3_500_000;
 
 /// The same for a line of several searches.
-pub(crate) const OF_SEVERAL: u64 = 12_000_000;
+pub(crate) const OF_SEVERAL: u64 = 8_000_000;
 
 // The edges of a game.
 pub(crate) fn edges_of(game: &GuardedGame) -> usize {

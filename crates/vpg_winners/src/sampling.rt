@@ -24,8 +24,8 @@ use vpg_sets::{Set, Sets, SetsFault};
 use vpg_sides::Which;
 use vpg_why::Example;
 
-// The number of candidates for a sample. Each takes about as long as a game without guards.
-const MOST: u16 = 4;
+/// The number of candidates for a sample: few, since each takes about as long as a game without guards.
+pub(crate) const SAMPLE: u16 = 4;
 
 // Whether a candidate is to have a feature: the first has each one, the second none, and the others every other one.
 fn is_wished(number: u16, feature: u16) -> bool {
@@ -58,30 +58,52 @@ fn candidate(alloc: Global, sets: &Sets, set: Set, number: u16) -> Result<Vec<bo
 }
 
 // Lists of features, most of them products of the set.
-fn candidates(alloc: Global, sets: &Sets, set: Set) -> Result<Vec<Vec<bool>>, AllocError>
+fn candidates(
+    alloc: Global,
+    sets: &Sets,
+    set: Set,
+    count: u16,
+) -> Result<Vec<Vec<bool>>, AllocError>
     requires { IsInside sets.now set }
     ensures { IfOk result (λ list. AllByRecursion (λ p. length p.items ≡ sets.now.features) list.items) }
 {
     let mut list = Vec::new(alloc);
-    for number in 0..MOST {
+    for number in 0..count {
         let product = candidate(alloc, sets, set, number)?;
         list.push(product)?;
     }
     Ok(list)
 }
 
-// Some products of the set, each once; nothing if they are too many.
-fn some_of(alloc: Global, sets: &mut Sets, set: Set) -> Result<Option<Vec<Vec<bool>>>, SetsFault>
-    requires { IsInside sets.old set }
-    ensures features { sets.new.features ≡ sets.old.features }
-    ensures each { IfOk result (λ found. IfSome found (λ list. All
-        (λ p. (length p.items ≡ sets.old.features) × (has sets.old set p.items ≡ true)) list.items)) }
-    ensures distinct { IfOk result (λ found. IfSome found (λ list. AreDistinct (lists_of list.items))) }
+// The products of the set, each once, if they are as few as candidates.
+fn listed(alloc: Global, sets: &Sets, set: Set) -> Result<Vec<Vec<bool>>, AllocError>
+    requires { IsInside sets.now set }
+    ensures each { IfOk result (λ list. All
+        (λ p. (length p.items ≡ sets.now.features) × (has sets.now set p.items ≡ true)) list.items) }
+    ensures distinct { IfOk result (λ list. AreDistinct (lists_of list.items)) }
 {
-    let list = candidates(alloc, sets, set)?;
+    match sets.products(alloc, set, SAMPLE as usize)? {
+        Some(products) => Ok(products),
+        None => Ok(Vec::new(alloc)),
+    }
+}
+
+// Some products of the set, each once.
+fn some_of(
+    alloc: Global,
+    sets: &mut Sets,
+    set: Set,
+    count: u16,
+) -> Result<Vec<Vec<bool>>, SetsFault>
+    requires { IsInside sets.old set }
+    ensures each { IfOk result (λ list. All
+        (λ p. (length p.items ≡ sets.old.features) × (has sets.old set p.items ≡ true)) list.items) }
+    ensures distinct { IfOk result (λ list. AreDistinct (lists_of list.items)) }
+{
+    let list = candidates(alloc, sets, set, count)?;
     let drawn = sets.of_products(alloc, &list)?;
     let own = sets.and(drawn, set)?;
-    let found = sets.products(alloc, own, MOST as usize)?;
+    let found = listed(alloc, sets, own)?;
     Ok(found)
 }
 
@@ -98,22 +120,21 @@ fn examples(
         IsFirstLeft diagram own first.now → AreFound game diagram aim own found.items) }
 {
     let mut found = Vec::new(alloc);
-    let mut left = match sets.products(alloc, set, MOST as usize)? {
-        Some(products) => products,
-        None => Vec::new(alloc),
-    };
+    let mut left = listed(alloc, sets, set)?;
     while let Some(features) = left.pop() {
         found.push(Example {
             features,
             first: false,
         })?;
     }
-    if sets.eval(set, first) {
-        found.push(Example {
-            features: Vec::from_slice(alloc, first)?,
-            first: true,
-        })?;
+    if !sets.eval(set, first) {
+        return Ok(found);
     }
+    let features = Vec::from_slice(alloc, first)?;
+    found.push(Example {
+        features,
+        first: true,
+    })?;
     Ok(found)
 }
 
@@ -123,6 +144,7 @@ fn sample(
     order: &Order,
     vertex: u32,
     part: &Reached,
+    count: u16,
 ) -> Result<(Vec<Example>, Vec<Example>), SetsFault>
     requires { IsPartOf order.now vertex part.now.game part.now.vertex }
     ensures won { IfOk result (λ two. AreFound order.now.game order.now.diagram (Aim.Won Which.Hopeful vertex)
@@ -139,10 +161,7 @@ fn sample(
         Some(first) => first,
         None => return Ok((Vec::new(alloc), Vec::new(alloc))),
     };
-    let products = match some_of(alloc, &mut sets, left)? {
-        Some(products) => products,
-        None => return Ok((Vec::new(alloc), Vec::new(alloc))),
-    };
+    let products = some_of(alloc, &mut sets, left, count)?;
     let solved = by_list(alloc, &part.game, part.vertex, features, products)?;
     match solved.division {
         Some(two) => {
@@ -163,6 +182,7 @@ pub(crate) fn sampled(
     order: &Order,
     vertex: u32,
     part: &Reached,
+    count: u16,
 ) -> Result<(Vec<Example>, Vec<Example>), AllocError>
     requires { IsPartOf order.now vertex part.now.game part.now.vertex }
     ensures won { IfOk result (λ two. AreFound order.now.game order.now.diagram (Aim.Won Which.Hopeful vertex)
@@ -170,7 +190,7 @@ pub(crate) fn sampled(
     ensures lost { IfOk result (λ two. AreFound order.now.game order.now.diagram (Aim.Won Which.Dual vertex)
         (choices order.now.decisions) two.1.items) }
 {
-    match sample(alloc, order, vertex, part) {
+    match sample(alloc, order, vertex, part, count) {
         Ok(found) => Ok(found),
         Err(SetsFault::Full) => Ok((Vec::new(alloc), Vec::new(alloc))),
         Err(SetsFault::Memory) => Err(AllocError),
@@ -184,12 +204,13 @@ pub(crate) fn sampled_for(
     which: Which,
     vertex: u32,
     part: &Reached,
+    count: u16,
 ) -> Result<Vec<Example>, AllocError>
     requires { IsPartOf order.now vertex part.now.game part.now.vertex }
     ensures { IfOk result (λ found. AreFound order.now.game order.now.diagram (Aim.Won which vertex)
         (choices order.now.decisions) found.items) }
 {
-    let (won, lost) = sampled(alloc, order, vertex, part)?;
+    let (won, lost) = sampled(alloc, order, vertex, part, count)?;
     match which {
         Which::Hopeful => Ok(won),
         Which::Dual => Ok(lost),
