@@ -1,10 +1,10 @@
 -- Samples of the products that are left.
-use Rattle.std.proofs.Common.{◌≡◌, ℕ, ◌+◌, ◌<◌, ◌&&◌, Bool, true, false, not, List, [], ◌∷◌, ◌++◌, length, slice_index_or, refl, sym, ◌∙◌, subst}
+use Rattle.std.proofs.Common.{◌≡◌, ℕ, ◌+◌, ◌<◌, ◌&&◌, Bool, true, false, not, List, [], ◌∷◌, ◌++◌, length, slice_index_or, refl, sym, ap, ◌∙◌, subst, length-append}
 use Rattle.std.specs.Prelude.{Option, Some, None, IfSome, All, Contains, IsTrue, ◌↔◌}
 use Rattle.std.specs.Global.{Vec}
 use Rattle.std.specs.List.{AllByRecursion, list_any}
 use Rattle.std.proofs.lemmas.Bool.{and_parts}
-use Rattle.std.proofs.lemmas.List.Elements.{All-contains, All-from_recursion, All-map, All-weaker}
+use Rattle.std.proofs.lemmas.List.Elements.{All-contains, All-from_recursion, All-map, All-pop, All-weaker}
 use Rattle.vpg_sides.specs.declared.player.Player.TheVariants.{Even, Odd}
 use Rattle.vpg_sides.specs.declared.which.Which.TheVariants.{Hopeful, Dual}
 use Rattle.vpg_guards.specs.declared.tri.Tri.{Tri}
@@ -43,7 +43,14 @@ use Rattle.vpg_zielonka.specs.declared.winners.Division.{Division}
 -- one more at the end of a list
 pub one_more : {X : Type 0} (P : X → Type 0) (xs more : List X) (x : X) → more ≡ xs ++ x ∷ [] → AllByRecursion P xs →
     P x → AllByRecursion P more
-one_more P xs more x longer all here = subst (AllByRecursion P) (sym longer) (All-append P xs (x ∷ []) all (here, tt))
+one_more P xs more x e all here = subst (AllByRecursion P) (sym e) (All-append P xs (x ∷ []) all (here, tt))
+
+pub longer : {X : Type 0} (xs more : List X) {x : X} (n : ℕ) → more ≡ xs ++ x ∷ [] → length xs ≡ n → length more ≡ n + 1
+longer {X = X} xs more {x = x} n e long = ap length e ∙ (length-append xs (x ∷ []) ∙ ap (λ (k : ℕ). k + 1) long)
+
+pub without_last : {X : Type 0} (P : X → Type 0) (xs left : List X) (x : X) → xs ≡ left ++ x ∷ [] → All P xs →
+    All P left × P x
+without_last {X = X} P xs left x e all = All-pop P xs left (Some x) e all
 
 -- ---- products that are listed
 

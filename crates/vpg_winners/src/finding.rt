@@ -240,8 +240,9 @@ fn find_open(
 /// dual one Odd does; or it is just any. Returns nothing if there is none, however cautious the page's verdict is.
 ///
 /// For a vertex that is open on the page the call solves the part of the game that decides it, for all products at
-/// once. If a limit is met it searches on that part. If the page's verdict decides, it searches as `vpg_why::find`
-/// does. The only error is a lack of memory.
+/// once. If a limit is met it solves it for the first product, and then searches on that part, in a large family with
+/// few trials where it has many edges. If the page's verdict decides, it searches as `vpg_why::find` does. The only
+/// error is a lack of memory.
 pub fn find(alloc: Global, order: &Order, aim: Aim, limits: Limits) -> Result<Found, AllocError>
     requires { IsAim order.now.game aim }
     ensures found { IfOk result (IsFound order.now.game order.now.diagram aim (choices order.now.decisions)) }

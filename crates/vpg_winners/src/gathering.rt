@@ -387,7 +387,10 @@ fn needs_by_sample(
     // Properties of every order, for the proof.
     let _order = order.game();
     let found = sampled_for(alloc, order, which, vertex, part, SAMPLE)?;
-    if found.is_empty() || !differ(order, &found) {
+    if found.is_empty() {
+        return Ok(None);
+    }
+    if !differ(order, &found) {
         return Ok(None);
     }
     Ok(Some(Demand::These(Forced {
@@ -453,7 +456,8 @@ fn needs_open(
 ///
 /// For a vertex that is open on the page the call solves the part of the game that decides it, for all products at
 /// once. For each feature that is not known it takes a product of the set that differs from the first one there, if
-/// there is one. If a limit is met it searches on that part. If the page's verdict decides, it searches as
+/// there is one. If a limit is met it solves the part for a few products; where those that meet the aim differ in each
+/// such feature, there are no needs. Otherwise it searches on that part. If the page's verdict decides, it searches as
 /// `vpg_why::needs` does. The only error is a lack of memory.
 pub fn needs(alloc: Global, order: &Order, aim: Aim, limits: Limits) -> Result<Demand, AllocError>
     requires { IsAim order.now.game aim }
@@ -681,8 +685,9 @@ fn findings_at(
 }
 
 /// Returns the findings of both players, as `findings` does, and solves the game once: those of products in which Even
-/// wins from the vertex, and those of products in which Odd does. If a limit of the sets is met, it searches on the
-/// part of the game that decides the vertex. Then only the trials are left that this search leaves.
+/// wins from the vertex, and those of products in which Odd does. If a limit of the sets is met, it solves the part of
+/// the game that decides the vertex for a few products, and searches on it for what these do not show. Then only the
+/// trials are left that this search leaves.
 pub fn both_findings(
     alloc: Global,
     order: &Order,
