@@ -1,9 +1,9 @@
 -- Samples of the products that are left.
 use Rattle.std.proofs.Common.{◌≡◌, ℕ, ◌+◌, ◌<◌, ◌&&◌, Bool, true, false, not, List, [], ◌∷◌, ◌++◌, length, slice_index_or, refl, sym, ap, ◌∙◌, subst, length-append}
-use Rattle.std.specs.Prelude.{Option, Some, None, IfSome, All, Contains, IsTrue, ◌↔◌}
+use Rattle.std.specs.Prelude.{Option, Some, None, IfSome, All, Contains, IsTrue, ◌↔◌, nat_eq}
 use Rattle.std.specs.Global.{Vec}
 use Rattle.std.specs.List.{AllByRecursion, list_any}
-use Rattle.std.proofs.lemmas.Bool.{and_parts}
+use Rattle.std.proofs.lemmas.Bool.{and_parts, eqb-false}
 use Rattle.std.proofs.lemmas.List.Elements.{All-contains, All-from_recursion, All-map, All-pop, All-weaker}
 use Rattle.vpg_sides.specs.declared.player.Player.TheVariants.{Even, Odd}
 use Rattle.vpg_sides.specs.declared.which.Which.TheVariants.{Hopeful, Dual}
@@ -45,12 +45,15 @@ pub one_more : {X : Type 0} (P : X → Type 0) (xs more : List X) (x : X) → mo
     P x → AllByRecursion P more
 one_more P xs more x e all here = subst (AllByRecursion P) (sym e) (All-append P xs (x ∷ []) all (here, tt))
 
-pub longer : {X : Type 0} (xs more : List X) {x : X} (n : ℕ) → more ≡ xs ++ x ∷ [] → length xs ≡ n → length more ≡ n + 1
-longer {X = X} xs more {x = x} n e long = ap length e ∙ (length-append xs (x ∷ []) ∙ ap (λ (k : ℕ). k + 1) long)
+pub longer : {X : Type 0} (xs more : List X) (x : X) (n : ℕ) → more ≡ xs ++ x ∷ [] → length xs ≡ n → length more ≡ n + 1
+longer {X = X} xs more x n e long = ap length e ∙ (length-append xs (x ∷ []) ∙ ap (λ (k : ℕ). k + 1) long)
 
 pub without_last : {X : Type 0} (P : X → Type 0) (xs left : List X) (x : X) → xs ≡ left ++ x ∷ [] → All P xs →
     All P left × P x
 without_last {X = X} P xs left x e all = All-pop P xs left (Some x) e all
+
+pub not_empty : {X : Type 0} (xs : List X) (n : ℕ) (b : Bool) → n ≡ length xs → b ≡ nat_eq n 0 → b ≡ false → xs ≡ [] → ⊥
+not_empty {X = X} xs n b l e f bare = eqb-false n 0 (sym e ∙ f) (l ∙ ap length bare)
 
 -- ---- products that are listed
 

@@ -1,5 +1,5 @@
 //! The part of an order's game that decides a vertex.
-ghost use Rattle.std.specs.Prelude.{◌≡◌, ◌<◌, length, IfOk, IfSome};
+ghost use Rattle.std.specs.Prelude.{◌≡◌, ◌<◌, ◌≤◌, length, IfOk, IfSome};
 ghost use Rattle.vpg_winners.specs.OpenParts.{IsPartOf, IsPartOrder};
 
 use std::alloc::{AllocError, Global};

@@ -1,15 +1,13 @@
 //! Some of the products that are left, and who wins in them.
-ghost use Rattle.std.specs.Prelude.{◌≡◌, ◌<◌, ◌≤◌, ◌+◌, ℕ, List, Bool, true, length, map, All, IfOk, IfSome};
+ghost use Rattle.std.specs.Prelude.{◌≡◌, List, true, length, All, IfOk, IfSome};
 ghost use Rattle.std.specs.List.{AllByRecursion};
 ghost use Rattle.vpg_diagram.specs.DiagramText.{NamedDiagram};
-ghost use Rattle.vpg_diagram.specs.FeatureDiagram.{feature_count};
 ghost use Rattle.vpg_diagram.specs.declared.clause.Literal.{Literal};
-ghost use Rattle.vpg_game.specs.Game.{NamedGame, graph_of};
+ghost use Rattle.vpg_game.specs.Game.{NamedGame};
 ghost use Rattle.vpg_number.specs.Counted.{AreDistinct};
-ghost use Rattle.vpg_sets.specs.Sets.{has, IsGrown, IsInside};
+ghost use Rattle.vpg_sets.specs.Sets.{has, IsInside};
 ghost use Rattle.vpg_why.specs.Explained.{choices};
-ghost use Rattle.vpg_why.specs.Found.{AllMeet, IsFoundProduct};
-ghost use Rattle.vpg_why.specs.Suffices.{choice};
+ghost use Rattle.vpg_why.specs.Found.{IsFoundProduct};
 ghost use Rattle.vpg_why.specs.declared.question.Aim.{Aim};
 ghost use Rattle.vpg_winners.specs.OpenParts.{IsPartOf};
 ghost use Rattle.vpg_winners.specs.Sampled.{AreFound, IsFirstLeft, IsSetOfSome};
@@ -163,14 +161,13 @@ fn sample(
     };
     let products = some_of(alloc, &mut sets, left, count)?;
     let solved = by_list(alloc, &part.game, part.vertex, features, products)?;
-    match solved.division {
-        Some(two) => {
-            let won = examples(alloc, &solved.sets, two.won, &first)?;
-            let lost = examples(alloc, &solved.sets, two.lost, &first)?;
-            Ok((won, lost))
-        }
-        None => Ok((Vec::new(alloc), Vec::new(alloc))),
-    }
+    let two = match solved.division {
+        Some(two) => two,
+        None => return Ok((Vec::new(alloc), Vec::new(alloc))),
+    };
+    let won = examples(alloc, &solved.sets, two.won, &first)?;
+    let lost = examples(alloc, &solved.sets, two.lost, &first)?;
+    Ok((won, lost))
 }
 
 /// Returns some of the products that are left: those that Even wins from the vertex, and those that Odd does. The first

@@ -7,7 +7,7 @@ pub loop-feature-preserved : goal.loop-feature-preserved
 loop-feature-preserved c =
     let l = c.loop-feature in
     let halved = c.halves-halves.ensures in
-    let long = longer l.product.items c.push.new.self.items l.feature c.in_ok-push.ensures.items l.invariant.long in
+    let long = longer l.product.items c.push.new.self.items _ l.feature c.in_ok-push.ensures.items l.invariant.long in
     elim c.if-chosen.branch [
       | then-chosen w ↦ record {
         inside = rw w.left-is halved.high_inside;

@@ -33,5 +33,5 @@ returns c game diagram aim own each long first =
     one_more (λ (e : Example). IsFoundProduct game diagram aim own e.features.items e.first)
     c.loop-features.found.items c.push-2.new.self.items (record { features = p; first = true })
     c.in_ok-push-2.ensures.items (c.loop-features.invariant.found game diagram aim own each)
-    (rw c.in_ok-features.ensures (first_found game diagram aim own arena c.args.set each c.args.first.now long
+    (rw c.in_ok-features.ensures.items (first_found game diagram aim own arena c.args.set each c.args.first.now long
     (sym c.eval.ensures ∙ c.if-not-eval.false) first))

@@ -13,13 +13,13 @@ use Rattle.vpg_zielonka.specs.Winners.{lists_of}
 pub by_list-requires-clause-long : goal.by_list-requires-clause-long
 by_list-requires-clause-long c =
     let arena = c.remaining.new.sets in
-    rw (c.features-features.ensures.count) (All-weaker
-    (λ (p : Vec Bool). (length p.items ≡ arena.features) × (has arena c.in_ok-left.left p.items ≡ true))
-    (λ (p : Vec Bool). length p.items ≡ arena.features) (λ p both. both.0) c.in_ok-products.products.items
-    c.in_ok-products.ensures.each)
+    All-weaker (λ (p : Vec Bool). (length p.items ≡ arena.features) × (has arena c.in_ok-left.left p.items ≡ true))
+    (λ (p : Vec Bool). length p.items ≡ c.features-features.result)
+    (λ p both. both.0 ∙ (c.in_ok-left.ensures.features ∙ c.in_ok-sets.ensures.features)) c.in_ok-products.products.items
+    c.in_ok-products.ensures.each
 
-pub returns-in-Some-clause-won : goal.returns-in-Some-clause-won
-returns-in-Some-clause-won c =
+pub returns-clause-won : goal.returns-clause-won
+returns-clause-won c =
     let order = c.args.order.now in
     let part = c.args.part.now in
     let arena = c.remaining.new.sets in
@@ -32,14 +32,14 @@ returns-in-Some-clause-won c =
     let listed = all_left (IsRemaining order.diagram.lines (choices order.decisions)) (has arena c.in_ok-left.left)
     arena.features c.in_ok-products.products.items c.in_ok-products.ensures.each left in
     c.in_ok-won.ensures order.game order.diagram (aims.Won Hopeful c.args.vertex) (choices order.decisions)
-    (won_some order c.args.vertex part.game part.vertex c.requires solved.sets c.in-Some-2.two
-    (lists_of c.in_ok-products.products.items) count listed (rw c.in-Some-2.is at c.in_ok-solved.ensures.divided))
+    (won_some order c.args.vertex part.game part.vertex c.requires solved.sets c.in-Some-division.two
+    (lists_of c.in_ok-products.products.items) count listed (rw c.in-Some-division.is at c.in_ok-solved.ensures.divided))
     (rw c.in-Some.is at c.in_ok-first.ensures.some).features
     (is_first_left order.diagram (choices order.decisions) arena c.in_ok-left.left c.in-Some.first.items own left
     (rw c.in-Some.is at c.in_ok-first.ensures.some))
 
-pub returns-in-Some-clause-lost : goal.returns-in-Some-clause-lost
-returns-in-Some-clause-lost c =
+pub returns-clause-lost : goal.returns-clause-lost
+returns-clause-lost c =
     let order = c.args.order.now in
     let part = c.args.part.now in
     let arena = c.remaining.new.sets in
@@ -52,8 +52,8 @@ returns-in-Some-clause-lost c =
     let listed = all_left (IsRemaining order.diagram.lines (choices order.decisions)) (has arena c.in_ok-left.left)
     arena.features c.in_ok-products.products.items c.in_ok-products.ensures.each left in
     c.in_ok-lost.ensures order.game order.diagram (aims.Won Dual c.args.vertex) (choices order.decisions)
-    (lost_some order c.args.vertex part.game part.vertex c.requires solved.sets c.in-Some-2.two
-    (lists_of c.in_ok-products.products.items) count listed (rw c.in-Some-2.is at c.in_ok-solved.ensures.divided))
+    (lost_some order c.args.vertex part.game part.vertex c.requires solved.sets c.in-Some-division.two
+    (lists_of c.in_ok-products.products.items) count listed (rw c.in-Some-division.is at c.in_ok-solved.ensures.divided))
     (rw c.in-Some.is at c.in_ok-first.ensures.some).features
     (is_first_left order.diagram (choices order.decisions) arena c.in_ok-left.left c.in-Some.first.items own left
     (rw c.in-Some.is at c.in_ok-first.ensures.some))
