@@ -31,7 +31,7 @@ loop-feature-preserved c aim p r m are =
     ]
 
 pub returns : goal.returns
-returns c yes aim p r m are =
+returns c shown aim p r m are =
     let order = c.args.order.now in
     let l = c.loop-feature in
     let count = rw (c.deref-2.ensures, c.diagram.ensures.diagram) at c.features-features.ensures.count in

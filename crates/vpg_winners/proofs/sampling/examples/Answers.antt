@@ -1,4 +1,4 @@
-use Rattle.std.proofs.Common.{◌≡◌, Bool, true, false, length, sym, subst, ◌∙◌}
+use Rattle.std.proofs.Common.{◌≡◌, Bool, true, false, length, sym, ◌∙◌}
 use Rattle.std.specs.Global.{Vec}
 use Rattle.vpg_sets.specs.Sets.{has}
 use Rattle.vpg_why.specs.Found.{IsFoundProduct}

@@ -1,4 +1,4 @@
-use Rattle.std.proofs.Common.{◌≡◌, Bool, true, List, length, vec_len}
+use Rattle.std.proofs.Common.{◌≡◌, true, List, length, vec_len}
 use Rattle.std.specs.Prelude.{All}
 use Rattle.vpg_diagram.specs.DiagramText.{NamedDiagram}
 use Rattle.vpg_diagram.specs.declared.clause.Literal.{Literal}

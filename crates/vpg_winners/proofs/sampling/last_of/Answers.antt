@@ -1,4 +1,3 @@
-use Rattle.std.specs.Global.{Vec}
 use Rattle.std.proofs.lemmas.List.Elements.{All-from_recursion, All-pop}
 use Rattle.vpg_why.specs.Found.{IsFoundProduct}
 use Rattle.vpg_why.specs.declared.searching.Example.{Example}

@@ -1,4 +1,4 @@
-use Rattle.std.proofs.Common.{◌≡◌, ◌∙◌, Bool, true, List, length, sym}
+use Rattle.std.proofs.Common.{◌≡◌, ◌∙◌, Bool, true, length, sym}
 use Rattle.std.specs.Global.{Vec}
 use Rattle.std.proofs.lemmas.List.Elements.{All-weaker}
 use Rattle.vpg_partial.specs.KnownLaws.{IsRemaining}
@@ -27,6 +27,8 @@ returns-clause-won c =
     let left = rw (c.deref-2.ensures, c.diagram-2.ensures.diagram, c.decisions.ensures.decisions) at
     c.in_ok-left.ensures.products in
     let features = rw (c.deref.ensures, c.diagram.ensures.diagram) at c.features-features.ensures.count in
+    let first = rw c.in-Some.is at c.in_ok-first.ensures.some in
+    let long = c.in_ok-left.ensures.features ∙ c.in_ok-sets.ensures.features in
     let count = sym (c.in_ok-solved.ensures.features ∙ features) in
     let own = sym (c.in_ok-left.ensures.features ∙ (c.in_ok-sets.ensures.features ∙ features)) in
     let listed = all_left (IsRemaining order.diagram.lines (choices order.decisions)) (has arena c.in_ok-left.left)
@@ -34,9 +36,9 @@ returns-clause-won c =
     c.in_ok-won.ensures order.game order.diagram (aims.Won Hopeful c.args.vertex) (choices order.decisions)
     (won_some order c.args.vertex part.game part.vertex c.requires solved.sets c.in-Some-division.two
     (lists_of c.in_ok-products.products.items) count listed (rw c.in-Some-division.is at c.in_ok-solved.ensures.divided))
-    (rw c.in-Some.is at c.in_ok-first.ensures.some).features
-    (is_first_left order.diagram (choices order.decisions) arena c.in_ok-left.left c.in-Some.first.items own left
-    (rw c.in-Some.is at c.in_ok-first.ensures.some))
+    (rw c.deref-3.ensures.value (first.features ∙ (long ∙ sym c.in_ok-solved.ensures.features)))
+    (rw c.deref-3.ensures.value (is_first_left order.diagram (choices order.decisions) arena c.in_ok-left.left
+    c.in-Some.first.items own left first))
 
 pub returns-clause-lost : goal.returns-clause-lost
 returns-clause-lost c =
@@ -47,6 +49,8 @@ returns-clause-lost c =
     let left = rw (c.deref-2.ensures, c.diagram-2.ensures.diagram, c.decisions.ensures.decisions) at
     c.in_ok-left.ensures.products in
     let features = rw (c.deref.ensures, c.diagram.ensures.diagram) at c.features-features.ensures.count in
+    let first = rw c.in-Some.is at c.in_ok-first.ensures.some in
+    let long = c.in_ok-left.ensures.features ∙ c.in_ok-sets.ensures.features in
     let count = sym (c.in_ok-solved.ensures.features ∙ features) in
     let own = sym (c.in_ok-left.ensures.features ∙ (c.in_ok-sets.ensures.features ∙ features)) in
     let listed = all_left (IsRemaining order.diagram.lines (choices order.decisions)) (has arena c.in_ok-left.left)
@@ -54,6 +58,6 @@ returns-clause-lost c =
     c.in_ok-lost.ensures order.game order.diagram (aims.Won Dual c.args.vertex) (choices order.decisions)
     (lost_some order c.args.vertex part.game part.vertex c.requires solved.sets c.in-Some-division.two
     (lists_of c.in_ok-products.products.items) count listed (rw c.in-Some-division.is at c.in_ok-solved.ensures.divided))
-    (rw c.in-Some.is at c.in_ok-first.ensures.some).features
-    (is_first_left order.diagram (choices order.decisions) arena c.in_ok-left.left c.in-Some.first.items own left
-    (rw c.in-Some.is at c.in_ok-first.ensures.some))
+    (rw c.deref-4.ensures.value (first.features ∙ (long ∙ sym c.in_ok-solved.ensures.features)))
+    (rw c.deref-4.ensures.value (is_first_left order.diagram (choices order.decisions) arena c.in_ok-left.left
+    c.in-Some.first.items own left first))
