@@ -76,10 +76,11 @@ fn line_of(alloc: Global, order: &Order, vertex: u32, limits: Limits) -> Result<
     ensures { IfOk result
         (IsShared order.now.game order.now.diagram vertex (choices order.now.decisions)) }
 {
-    let (won, lost) = both_findings(alloc, order, vertex, limits)?;
+    let mut trials = limits.trials;
+    let (won, lost) = both_findings(alloc, order, vertex, limits, &mut trials)?;
     Ok(Shared {
         looks: limits.budget,
-        trials: limits.trials,
+        trials,
         won,
         lost,
     })

@@ -21,3 +21,4 @@ pub mod Shares
 pub mod MetSets
 pub mod Learned
 pub mod PartLaws
+pub mod Samples

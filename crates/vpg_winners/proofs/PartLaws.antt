@@ -1,5 +1,5 @@
 -- What is found on the part that decides a vertex holds of the whole game.
-use Rattle.std.proofs.Common.{◌≡◌, ℕ, ◌<◌, Bool, List, [], ◌∷◌, length, Option, Some, None, IfSome, subst, ◌∙◌}
+use Rattle.std.proofs.Common.{◌≡◌, ℕ, ◌<◌, Bool, List, [], ◌∷◌, length, Option, Some, None, IfSome, subst, sym, ◌∙◌}
 use Rattle.vpg_diagram.specs.DiagramText.{NamedDiagram}
 use Rattle.vpg_diagram.specs.declared.clause.Literal.{Literal}
 use Rattle.vpg_game.specs.Game.{NamedGame, graph_of}
@@ -83,6 +83,22 @@ module _ (order : OrderView) (vertex : ℕ) (part : NamedGame) (place : ℕ) (is
     forced = λ l c p left m. h.forced l c p left (meets_there which p left m);
   }
 
+  all_meet_there : (which : Which) (examples : List Example) →
+      AllMeet order.game order.diagram (aims.Won which vertex) own examples →
+      AllMeet part order.diagram (aims.Won which place) own examples
+  all_meet_there which [] h = h
+  all_meet_there which (e ∷ es) h =
+      ((h.0.0, meets_there which e.features.items h.0.0 h.0.1), all_meet_there which es h.1)
+
+  pub findings_there : (which : Which) (findings : Findings) →
+      AreFindings order.game order.diagram (aims.Won which vertex) own findings →
+      AreFindings part order.diagram (aims.Won which place) own findings
+  findings_there which findings h = record {
+    met = all_meet_there which findings.met.items h.met;
+    named = h.named;
+    forced = λ l c p left m. h.forced l c p left (meets_back which p left m);
+  }
+
   won_back : (player : Player) (example : Example) →
       IsWonProduct (graph_of part) order.diagram.lines own player place example →
       IsWonProduct (graph_of order.game) order.diagram.lines own player vertex example
@@ -111,6 +127,12 @@ module _ (order : OrderView) (vertex : ℕ) (made : OrderView) (place : ℕ)
       subst (λ (ds : List Decision). P order.diagram ds) is.decisions
       (subst (λ (d : NamedDiagram). P d made.decisions) is.diagram h)
 
+  to_made : (P : NamedDiagram → List Decision → Type 0) → P order.diagram order.decisions →
+      P made.diagram made.decisions
+  to_made P h =
+      subst (λ (ds : List Decision). P made.diagram ds) (sym is.decisions)
+      (subst (λ (d : NamedDiagram). P d order.decisions) (sym is.diagram) h)
+
   pub found_on : (which : Which) (found : Found) →
       IsFound made.game made.diagram (aims.Won which place) (choices made.decisions) found →
       IsFound order.game order.diagram (aims.Won which vertex) (choices order.decisions) found
@@ -131,6 +153,13 @@ module _ (order : OrderView) (vertex : ℕ) (made : OrderView) (place : ℕ)
   findings_on which findings h =
       findings_back order vertex made.game place is.game which findings
       (of_order (λ d ds. AreFindings made.game d (aims.Won which place) (choices ds) findings) h)
+
+  pub findings_to : (which : Which) (findings : Findings) →
+      AreFindings order.game order.diagram (aims.Won which vertex) (choices order.decisions) findings →
+      AreFindings made.game made.diagram (aims.Won which place) (choices made.decisions) findings
+  findings_to which findings h =
+      to_made (λ d ds. AreFindings made.game d (aims.Won which place) (choices ds) findings)
+      (findings_there order vertex made.game place is.game which findings h)
 
   pub decided_on : (decided : Decided) →
       IsDecidedAs (graph_of made.game) made.diagram.lines (choices made.decisions) place decided →

@@ -11,3 +11,4 @@ pub mod Pairs
 pub mod Finding
 pub mod Gathering
 pub mod OpenParts
+pub mod Sampled

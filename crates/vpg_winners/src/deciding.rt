@@ -9,7 +9,7 @@ ghost use Rattle.vpg_winners.specs.OpenParts.{IsPartOf};
 
 use crate::dividing::Effort;
 use crate::finding::first_found;
-use crate::part::{on_part, order_on, part_of};
+use crate::part::{OF_SEVERAL, on_part, order_on, part_of};
 use crate::two_sets::two_sets;
 use std::alloc::{AllocError, Global};
 use vpg_measure::Order;
@@ -165,7 +165,7 @@ fn decide_on_part(
         None => return Ok(None),
     };
     let decisions = part.order.decisions();
-    let own = on_part(limits);
+    let own = on_part(alloc, &part.order, limits, OF_SEVERAL)?;
     let decided = search_both(alloc, &part.order, part.vertex, decisions, own)?;
     if is_exact(&decided) {
         return Ok(Some(decided));

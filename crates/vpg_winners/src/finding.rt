@@ -9,7 +9,8 @@ ghost use Rattle.vpg_winners.specs.Finding.{IsFirstFound, IsSetOfMet};
 ghost use Rattle.vpg_winners.specs.OpenParts.{IsPartOf};
 
 use crate::dividing::Effort;
-use crate::part::{on_part, order_on, part_of};
+use crate::part::{OF_ONE, on_part, order_on, part_of};
+use crate::sampling::{last_of, sampled_for};
 use crate::two_sets::{TwoSets, two_sets};
 use std::alloc::{AllocError, Global};
 use vpg_measure::Order;
@@ -146,7 +147,8 @@ fn search_part(
         which,
         vertex: part.vertex,
     };
-    let found = vpg_why::find(alloc, &part.order, aim, on_part(limits))?;
+    let own = on_part(alloc, &part.order, limits, OF_ONE)?;
+    let found = vpg_why::find(alloc, &part.order, aim, own)?;
     if is_exact(&found) {
         return Ok(Some(found));
     }
@@ -154,6 +156,32 @@ fn search_part(
         return Ok(None);
     }
     Ok(Some(found))
+}
+
+// The first product that is left, if it is won at the vertex.
+fn first_won(
+    alloc: Global,
+    order: &Order,
+    which: Which,
+    vertex: u32,
+    part: &Reached,
+) -> Result<Option<Found>, AllocError>
+    requires { IsPartOf order.now vertex part.now.game part.now.vertex }
+    ensures found { IfOk result (λ found. IfSome found
+        (IsFound order.now.game order.now.diagram (Aim.Won which vertex) (choices order.now.decisions))) }
+    ensures exact { IfOk result (λ found. IfSome found IsFoundExact) }
+{
+    let found = sampled_for(alloc, order, which, vertex, part, 1)?;
+    match last_of(found) {
+        Some(example) => {
+            if example.first {
+                Ok(Some(Found::Product(example)))
+            } else {
+                Ok(None)
+            }
+        }
+        None => Ok(None),
+    }
 }
 
 // A product that is left and won at the vertex, or that there is none. Returns nothing if the vertex is not open, or a
@@ -178,6 +206,9 @@ fn find_at(
     };
     if let Some(met) = met_at(alloc, order, which, vertex, &part)? {
         let found = first_found(alloc, &met.sets, met.set)?;
+        return Ok(Some(found));
+    }
+    if let Some(found) = first_won(alloc, order, which, vertex, &part)? {
         return Ok(Some(found));
     }
     let found = search_part(alloc, order, which, vertex, part, limits)?;
@@ -209,8 +240,9 @@ fn find_open(
 /// dual one Odd does; or it is just any. Returns nothing if there is none, however cautious the page's verdict is.
 ///
 /// For a vertex that is open on the page the call solves the part of the game that decides it, for all products at
-/// once. If a limit is met it searches on that part. If the page's verdict decides, it searches as `vpg_why::find`
-/// does. The only error is a lack of memory.
+/// once. If a limit is met it solves it for the first product, and then searches on that part, in a large family with
+/// few trials where it has many edges. If the page's verdict decides, it searches as `vpg_why::find` does. The only
+/// error is a lack of memory.
 pub fn find(alloc: Global, order: &Order, aim: Aim, limits: Limits) -> Result<Found, AllocError>
     requires { IsAim order.now.game aim }
     ensures found { IfOk result (IsFound order.now.game order.now.diagram aim (choices order.now.decisions)) }

@@ -1,5 +1,5 @@
 //! Findings and needs, by the set of all products that meet an aim.
-ghost use Rattle.std.specs.Prelude.{◌≡◌, ◌<◌, ◌++◌, ◌∷◌, [], List, true, false, not, length, slice_index_or};
+ghost use Rattle.std.specs.Prelude.{◌≡◌, ◌<◌, ◌++◌, ◌∷◌, [], Bool, List, true, false, not, length, slice_index_or};
 ghost use Rattle.std.specs.Prelude.{IfOk, IfSome, IsNone, IsTrue, OnOk};
 ghost use Rattle.std.specs.List.{list_any};
 ghost use Rattle.vpg_diagram.specs.Clauses.{is_true_in};
@@ -11,16 +11,18 @@ ghost use Rattle.vpg_partial.specs.KnownLaws.{IsRemaining};
 ghost use Rattle.vpg_sets.specs.Sets.{has, IsGrown, IsInside};
 ghost use Rattle.vpg_why.specs.Explained.{choices};
 ghost use Rattle.vpg_why.specs.Foreseen.{AreFindings};
-ghost use Rattle.vpg_why.specs.Found.{AreFoundNeeds, AreNeedsExact};
+ghost use Rattle.vpg_why.specs.Found.{AllMeet, AreFoundNeeds, AreNeedsExact};
 ghost use Rattle.vpg_why.specs.Products.{AreNeeds, Meets, NoneMeets};
 ghost use Rattle.vpg_why.specs.Suffices.{IsAim, IsSettled, choice};
 ghost use Rattle.vpg_why.specs.declared.question.Aim.{Aim};
 ghost use Rattle.vpg_winners.specs.Finding.{IsSetOfMet};
 ghost use Rattle.vpg_winners.specs.Gathering.{IsGathered};
 ghost use Rattle.vpg_winners.specs.OpenParts.{IsPartOf};
+ghost use Rattle.vpg_winners.specs.Sampled.{AreFound};
 
 use crate::finding::{met_at, open_part, sets_at};
-use crate::part::{on_part, order_on};
+use crate::part::{OF_SEVERAL, on_part, order_on};
+use crate::sampling::{SAMPLE, sampled, sampled_for};
 use crate::two_sets::TwoSets;
 use std::alloc::{AllocError, Global};
 use vpg_diagram::Literal;
@@ -320,7 +322,8 @@ fn needs_on_part(
         which,
         vertex: part.vertex,
     };
-    let found = vpg_why::needs(alloc, &part.order, aim, on_part(limits))?;
+    let own = on_part(alloc, &part.order, limits, OF_SEVERAL)?;
+    let found = vpg_why::needs(alloc, &part.order, aim, own)?;
     if are_exact(&found) {
         return Ok(Some(found));
     }
@@ -328,6 +331,72 @@ fn needs_on_part(
         return Ok(None);
     }
     Ok(Some(found))
+}
+
+// Whether one of the products has the feature, and one lacks it.
+fn differ_in(products: &[Example], feature: u16) -> bool
+    ensures has { IsTrue result →
+        list_any (λ e. is_true_in e.features.items (choice feature true)) products.now ≡ true }
+    ensures lacks { IsTrue result →
+        list_any (λ e. is_true_in e.features.items (choice feature false)) products.now ≡ true }
+{
+    let with = Literal {
+        feature,
+        value: true,
+    };
+    let without = Literal {
+        feature,
+        value: false,
+    };
+    one_has(products, with) && one_has(products, without)
+}
+
+// Whether the products differ in each feature that is not known.
+fn differ(order: &Order, products: &[Example]) -> bool
+    ensures { IsTrue result → (aim : Aim) (p : List Bool) →
+        IsRemaining order.now.diagram.lines (choices order.now.decisions) p → Meets order.now.game aim p →
+        AllMeet order.now.game order.now.diagram aim (choices order.now.decisions) products.now →
+        AreNeeds order.now.game order.now.diagram aim (choices order.now.decisions) [] true }
+{
+    let known = order.games().known();
+    let features = order.diagram().features() as u16;
+    for feature in 0..features {
+        let value = known.value(feature);
+        if let Tri::Unknown = value {
+            if !differ_in(products, feature) {
+                return false;
+            }
+        }
+    }
+    true
+}
+
+// That there are no needs, if products of a sample show it.
+fn needs_by_sample(
+    alloc: Global,
+    order: &Order,
+    which: Which,
+    vertex: u32,
+    part: &Reached,
+) -> Result<Option<Demand>, AllocError>
+    requires { IsPartOf order.now vertex part.now.game part.now.vertex }
+    ensures needs { IfOk result (λ found. IfSome found
+        (AreFoundNeeds order.now.game order.now.diagram (Aim.Won which vertex) (choices order.now.decisions))) }
+    ensures exact { IfOk result (λ found. IfSome found AreNeedsExact) }
+{
+    // Properties of every order, for the proof.
+    let _order = order.game();
+    let found = sampled_for(alloc, order, which, vertex, part, SAMPLE)?;
+    if found.is_empty() {
+        return Ok(None);
+    }
+    if !differ(order, &found) {
+        return Ok(None);
+    }
+    Ok(Some(Demand::These(Forced {
+        literals: Vec::new(alloc),
+        exact: true,
+    })))
 }
 
 // The needs of the products that are won at the vertex. Returns nothing if the vertex is not open, or searches on the
@@ -351,6 +420,9 @@ fn needs_at(
         None => return Ok(None),
     };
     if let Some(found) = needs_by_sets(alloc, order, which, vertex, &part)? {
+        return Ok(Some(found));
+    }
+    if let Some(found) = needs_by_sample(alloc, order, which, vertex, &part)? {
         return Ok(Some(found));
     }
     let found = needs_on_part(alloc, order, which, vertex, part, limits)?;
@@ -384,7 +456,8 @@ fn needs_open(
 ///
 /// For a vertex that is open on the page the call solves the part of the game that decides it, for all products at
 /// once. For each feature that is not known it takes a product of the set that differs from the first one there, if
-/// there is one. If a limit is met it searches on that part. If the page's verdict decides, it searches as
+/// there is one. If a limit is met it solves the part for a few products; where those that meet the aim differ in each
+/// such feature, there are no needs. Otherwise it searches on that part. If the page's verdict decides, it searches as
 /// `vpg_why::needs` does. The only error is a lack of memory.
 pub fn needs(alloc: Global, order: &Order, aim: Aim, limits: Limits) -> Result<Demand, AllocError>
     requires { IsAim order.now.game aim }
@@ -473,9 +546,15 @@ fn search_findings(
     alloc: Global,
     order: &Order,
     vertex: u32,
+    begun: (Findings, Findings),
     limits: Limits,
+    trials: &mut u64,
 ) -> Result<(Findings, Findings), AllocError>
-    requires { vertex < length order.now.game.vertices }
+    requires vertex { vertex < length order.now.game.vertices }
+    requires won { AreFindings order.now.game order.now.diagram (Aim.Won Which.Hopeful vertex)
+        (choices order.now.decisions) begun.0 }
+    requires lost { AreFindings order.now.game order.now.diagram (Aim.Won Which.Dual vertex)
+        (choices order.now.decisions) begun.1 }
     ensures won { IfOk result (λ two. AreFindings order.now.game order.now.diagram (Aim.Won Which.Hopeful vertex)
         (choices order.now.decisions) two.0) }
     ensures lost { IfOk result (λ two. AreFindings order.now.game order.now.diagram (Aim.Won Which.Dual vertex)
@@ -483,22 +562,12 @@ fn search_findings(
 {
     let known = order.games().known();
     let features = order.diagram().features() as u16;
-    let mut won = no_findings(alloc);
-    let mut lost = no_findings(alloc);
+    let (mut won, mut lost) = begun;
     let mut looks = limits.budget;
-    let mut trials = limits.trials;
     for feature in 0..features {
-        if known.value(feature) == Tri::Unknown {
+        if *trials > 1 && known.value(feature) == Tri::Unknown {
             learn_open(
-                alloc,
-                order,
-                feature,
-                vertex,
-                limits,
-                &mut looks,
-                &mut trials,
-                &mut won,
-                &mut lost,
+                alloc, order, feature, vertex, limits, &mut looks, trials, &mut won, &mut lost,
             )?;
         }
     }
@@ -539,9 +608,15 @@ fn findings_on_part(
     order: &Order,
     vertex: u32,
     part: Reached,
+    begun: (Findings, Findings),
     limits: Limits,
+    trials: &mut u64,
 ) -> Result<(Findings, Findings), AllocError>
-    requires { IsPartOf order.now vertex part.game part.vertex }
+    requires part { IsPartOf order.now vertex part.game part.vertex }
+    requires won { AreFindings order.now.game order.now.diagram (Aim.Won Which.Hopeful vertex)
+        (choices order.now.decisions) begun.0 }
+    requires lost { AreFindings order.now.game order.now.diagram (Aim.Won Which.Dual vertex)
+        (choices order.now.decisions) begun.1 }
     ensures won { IfOk result (λ two. AreFindings order.now.game order.now.diagram (Aim.Won Which.Hopeful vertex)
         (choices order.now.decisions) two.0) }
     ensures lost { IfOk result (λ two. AreFindings order.now.game order.now.diagram (Aim.Won Which.Dual vertex)
@@ -549,10 +624,40 @@ fn findings_on_part(
 {
     let part = match order_on(alloc, order, vertex, part)? {
         Some(part) => part,
-        None => return Ok((no_findings(alloc), no_findings(alloc))),
+        None => return Ok(begun),
     };
-    let found = search_findings(alloc, &part.order, part.vertex, limits)?;
+    let own = on_part(alloc, &part.order, limits, OF_SEVERAL)?;
+    *trials = own.trials.min(*trials);
+    let found = search_findings(alloc, &part.order, part.vertex, begun, limits, trials)?;
     Ok(found)
+}
+
+// The findings that some products make.
+fn findings_by(alloc: Global, met: Vec<Example>) -> Findings
+    ensures { (game : NamedGame) (diagram : NamedDiagram) (aim : Aim) (own : List Literal) →
+        AreFound game diagram aim own met.items → AreFindings game diagram aim own result }
+{
+    Findings {
+        met,
+        forced: Vec::new(alloc),
+    }
+}
+
+// The findings of both players by a sample.
+fn sampled_findings(
+    alloc: Global,
+    order: &Order,
+    vertex: u32,
+    part: &Reached,
+) -> Result<(Findings, Findings), AllocError>
+    requires { IsPartOf order.now vertex part.now.game part.now.vertex }
+    ensures won { IfOk result (λ two. AreFindings order.now.game order.now.diagram (Aim.Won Which.Hopeful vertex)
+        (choices order.now.decisions) two.0) }
+    ensures lost { IfOk result (λ two. AreFindings order.now.game order.now.diagram (Aim.Won Which.Dual vertex)
+        (choices order.now.decisions) two.1) }
+{
+    let (won, lost) = sampled(alloc, order, vertex, part, SAMPLE)?;
+    Ok((findings_by(alloc, won), findings_by(alloc, lost)))
 }
 
 // The findings of both players by the part that decides the vertex.
@@ -562,6 +667,7 @@ fn findings_at(
     vertex: u32,
     part: Reached,
     limits: Limits,
+    trials: &mut u64,
 ) -> Result<(Findings, Findings), AllocError>
     requires { IsPartOf order.now vertex part.game part.vertex }
     ensures won { IfOk result (λ two. AreFindings order.now.game order.now.diagram (Aim.Won Which.Hopeful vertex)
@@ -573,18 +679,21 @@ fn findings_at(
         let found = findings_by_sets(alloc, order, vertex, two)?;
         return Ok(found);
     }
-    let found = findings_on_part(alloc, order, vertex, part, limits)?;
+    let begun = sampled_findings(alloc, order, vertex, &part)?;
+    let found = findings_on_part(alloc, order, vertex, part, begun, limits, trials)?;
     Ok(found)
 }
 
 /// Returns the findings of both players, as `findings` does, and solves the game once: those of products in which Even
-/// wins from the vertex, and those of products in which Odd does. If a limit of the sets is met, it searches on the
-/// part of the game that decides the vertex.
+/// wins from the vertex, and those of products in which Odd does. If a limit of the sets is met, it solves the part of
+/// the game that decides the vertex for a few products, and searches on it for what these do not show. Then only the
+/// trials are left that this search leaves.
 pub fn both_findings(
     alloc: Global,
     order: &Order,
     vertex: u32,
     limits: Limits,
+    trials: &mut u64,
 ) -> Result<(Findings, Findings), AllocError>
     requires { vertex < length order.now.game.vertices }
     ensures won { IfOk result (λ two. AreFindings order.now.game order.now.diagram (Aim.Won Which.Hopeful vertex)
@@ -594,7 +703,7 @@ pub fn both_findings(
 {
     match open_part(alloc, order, vertex)? {
         Some(part) => {
-            let found = findings_at(alloc, order, vertex, part, limits)?;
+            let found = findings_at(alloc, order, vertex, part, limits, trials)?;
             Ok(found)
         }
         None => Ok((no_findings(alloc), no_findings(alloc))),

@@ -15,15 +15,16 @@
 //! share), `findings` and `both_findings` (products and literals for `foresee` of `vpg_why`).
 //!
 //! If a limit is met, or there are no sets, each call searches, and on that part where it can; there are no findings of
-//! one player then, and `winners` counts no products. A search goes over features that are not known, cut off by the
+//! one player then, and `winners` counts no products. Before that a few products are solved on the part, which often
+//! show what is asked. A search goes over features that are not known, cut off by the
 //! verdicts of each trial (`vpg_why`). Parity games are determined (`vpg_determined`): so a product in which Even has
 //! no strategy is won by Odd. A search that met a limit is reported as unsettled, and never wrong.
 //!
 //! Definitions: `specs/Decided` (the winners in the products that are left), `specs/Winners` (the parts, and the rule
 //! by which they are made), `specs/Joined` (how parts are joined), `specs/Numbered` (the numbers of their products),
 //! `specs/OpenParts` (the part that decides a vertex), `specs/Divided`, `specs/Cutting` and `specs/Pairs` (the two
-//! sets), `specs/Finding` and `specs/Gathering` (the products that meet an aim, as a set). For the search:
-//! `specs/Searched`, `specs/Standing`.
+//! sets), `specs/Finding` and `specs/Gathering` (the products that meet an aim, as a set), `specs/Sampled` (some of
+//! them). For the search: `specs/Searched`, `specs/Standing`.
 #![tactic(auto)]
 
 mod cutting;
@@ -37,6 +38,7 @@ mod listing;
 mod pairing;
 mod part;
 mod parts;
+mod sampling;
 mod solving;
 mod splitting;
 mod standing;

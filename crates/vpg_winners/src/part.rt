@@ -1,5 +1,5 @@
 //! The part of an order's game that decides a vertex.
-ghost use Rattle.std.specs.Prelude.{◌≡◌, ◌<◌, length, IfOk, IfSome};
+ghost use Rattle.std.specs.Prelude.{◌≡◌, ◌<◌, ◌≤◌, length, IfOk, IfSome};
 ghost use Rattle.vpg_winners.specs.OpenParts.{IsPartOf, IsPartOrder};
 
 use std::alloc::{AllocError, Global};
@@ -9,7 +9,7 @@ use vpg_guess::{Groundwork, harvest_by_bounds};
 use vpg_measure::laws::orders::zeros_are_opening;
 use vpg_measure::{Order, OrderFault, Shape, Table};
 use vpg_open::{Reached, is_open, open_game, reached_game};
-use vpg_why::Limits;
+use vpg_why::{Limits, is_small};
 
 /// An order on a part of a game, and the place of a vertex there.
 #[derive(Drop)]
@@ -21,13 +21,50 @@ pub(crate) struct PartOrder {
 // The edges and vertices that bounds may look at for the tables of a part.
 const LOOKS: u64 = 33_554_432;
 
-/// Returns the limits of a search on a part: it has half of the looks, since the whole game may come after it.
-pub(crate) fn on_part(limits: Limits) -> Limits {
-    Limits {
+/// The edges, in all, of the games that the trials of one search make in a large family.
+pub(crate) const OF_ONE: u64 = 3_500_000;
+
+/// The same for a line of several searches.
+pub(crate) const OF_SEVERAL: u64 = 8_000_000;
+
+// The edges of a game.
+pub(crate) fn edges_of(game: &GuardedGame) -> usize {
+    let mut edges = 0usize;
+    for vertex in 0..game.vertices() {
+        edges = edges.saturating_add(game.edges(vertex as u32).len());
+    }
+    edges
+}
+
+/// Returns the trials of a search on a game in a large family, of those of the limits. Each makes games that may have
+/// all of its edges, so in all these have as many as are lent.
+pub(crate) fn trials_on(game: &GuardedGame, trials: u64, edges: u64) -> u64
+    ensures { result ≤ trials }
+{
+    let each = edges_of(game).max(game.vertices()) as u64;
+    trials.min(edges / each.saturating_add(1))
+}
+
+/// Returns the limits of a search on a part: it has half of the looks, since the whole game may come after it, and in a
+/// large family the trials that these edges suffice for.
+pub(crate) fn on_part(
+    alloc: Global,
+    part: &Order,
+    limits: Limits,
+    edges: u64,
+) -> Result<Limits, AllocError> {
+    // Properties of every order, for the proof.
+    let game = part.game();
+    let trials = if is_small(alloc, part, part.decisions(), limits)? {
+        limits.trials
+    } else {
+        trials_on(game, limits.trials, edges)
+    };
+    Ok(Limits {
         budget: limits.budget / 2,
         rounds: limits.rounds,
-        trials: limits.trials,
-    }
+        trials,
+    })
 }
 
 // Whether some vertex has a verdict.

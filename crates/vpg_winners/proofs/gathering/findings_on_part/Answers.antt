@@ -1,18 +1,18 @@
 use Rattle.vpg_sides.specs.declared.which.Which.TheVariants.{Hopeful, Dual}
-use Rattle.vpg_why.specs.declared.question.Aim.TheVariants as aims
-use Rattle.vpg_why.specs.Explained.{choices}
-use Rattle.vpg_winners.proofs.PartLaws.{findings_on}
+use Rattle.vpg_winners.proofs.PartLaws.{findings_on, findings_to}
 use Rattle.vpg_winners.proofs.gathering.findings_on_part.Goals as goal
 
-pub returns-in-None-clause-won : goal.returns-in-None-clause-won
-returns-in-None-clause-won c =
-    let order = c.args.order.now in
-    c.no_findings.ensures order.game order.diagram (aims.Won Hopeful c.args.vertex) (choices order.decisions)
+pub search_findings-requires-clause-won : goal.search_findings-requires-clause-won
+search_findings-requires-clause-won c =
+    let part = c.in-Some.part in
+    findings_to c.args.order.now c.args.vertex part.order part.vertex (rw c.in-Some.is at c.in_ok-part.ensures)
+    Hopeful c.args.begun.0 c.requires.won
 
-pub returns-in-None-clause-lost : goal.returns-in-None-clause-lost
-returns-in-None-clause-lost c =
-    let order = c.args.order.now in
-    c.no_findings-in-None.ensures order.game order.diagram (aims.Won Dual c.args.vertex) (choices order.decisions)
+pub search_findings-requires-clause-lost : goal.search_findings-requires-clause-lost
+search_findings-requires-clause-lost c =
+    let part = c.in-Some.part in
+    findings_to c.args.order.now c.args.vertex part.order part.vertex (rw c.in-Some.is at c.in_ok-part.ensures)
+    Dual c.args.begun.1 c.requires.lost
 
 pub returns-clause-won : goal.returns-clause-won
 returns-clause-won c =
