@@ -37,7 +37,7 @@ impl Server for Refuser {
     // Each answer is a refusal.
     ghost answering = { λ _ _ _ _ answer _. is_refusal answer ≡ true };
 
-    ghost scene = { λ _. record { game = []; lines = []; names = []; identifiers = [] } };
+    ghost scene = { λ _. record { game = []; lines = []; names = []; identifiers = []; labels = [] } };
 
     ghost state = { λ _. begun };
 
