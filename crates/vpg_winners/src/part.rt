@@ -24,7 +24,7 @@ const LOOKS: u64 = 33_554_432;
 /// The edges, in all, of the games that the trials of one search make in a large family.
 pub(crate) const OF_ONE: u64 = 3_500_000;
 
-/// The same for a line of several searches.
+/// The edges, in all, of the games that the trials of a line's several searches make in a large family.
 pub(crate) const OF_SEVERAL: u64 = 8_000_000;
 
 // The edges of a game.
