@@ -2,11 +2,12 @@
 use Rattle.std.proofs.Common.{◌≡◌, ℕ, zero, suc, ◌<◌, Bool, true, false, List, [], ◌∷◌, ◌++◌, length, refl, sym, ap, ap₂, ◌∙◌, subst, inl, inr, arith}
 use Rattle.std.specs.Prelude.{All, IsTrue, slice_index}
 use Rattle.std.specs.List.{AllByRecursion}
+use Rattle.vpg_diagram.specs.DiagramText.{NamedDiagram, IsNamedDiagram}
 use Rattle.vpg_diagram.specs.FeatureDiagram.{feature_count}
 use Rattle.vpg_diagram.specs.declared.clause.Literal.{Literal}
 use Rattle.vpg_diagram.proofs.Lists.{Contains-nil}
-use Rattle.vpg_game.specs.Game.{graph_of, vertex_ids}
-use Rattle.vpg_measure.specs.Orders.{OrderView, IsOrder}
+use Rattle.vpg_game.specs.Game.{NamedGame, graph_of, vertex_ids}
+use Rattle.vpg_measure.specs.Orders.{OrderView}
 use Rattle.vpg_measure.specs.TwoGames.{top_for}
 use Rattle.vpg_sides.specs.declared.which.Which.TheVariants.{Hopeful}
 use Rattle.vpg_partial.specs.TableLaws.{AreChoicesOf}
@@ -40,6 +41,15 @@ literals_below n m [] is named k d less = absurd (omega (arith, less))
 literals_below n m (l ∷ rest) is named zero d less = subst (λ (x : ℕ). l.feature < x) (sym is) named.0
 literals_below n m (l ∷ rest) is named (suc k) d less = literals_below n m rest is named.1 k d (omega (arith, less))
 
+-- what is told of the same decisions on the same game and diagram
+pub told_over : (game same_game : NamedGame) (diagram same_diagram : NamedDiagram) (decisions same : List Decision) (limits : Limits) (vertex : ℕ) (was_hopeless : Bool) (before after : List ℕ) →
+    same_game ≡ game → same_diagram ≡ diagram → same ≡ decisions → Appends (TellsRetractions (scene_of [] same_game same_diagram) limits vertex was_hopeless same) before after →
+    Appends (TellsRetractions (scene_of [] game diagram) limits vertex was_hopeless decisions) before after
+told_over game same_game diagram same_diagram decisions same limits vertex was_hopeless before after e f g told =
+    subst (λ (ds : List Decision). Appends (TellsRetractions (scene_of [] game diagram) limits vertex was_hopeless ds) before after) g
+    (subst (λ (d : NamedDiagram). Appends (TellsRetractions (scene_of [] game d) limits vertex was_hopeless same) before after) f
+    (subst (λ (h : NamedGame). Appends (TellsRetractions (scene_of [] h same_diagram) limits vertex was_hopeless same) before after) e told))
+
 module _ (order : OrderView) where
   abbrev page : Scene
   page = scene_of [] order.game order.diagram
@@ -69,24 +79,24 @@ module _ (order : OrderView) where
   none_ends vertex limits short s = short (s [] (λ l h. absurd (Contains-nil l h)))
 
   module _ (names : List (List ℕ)) (names_is : names ≡ order.diagram.names) where
-    module _ (is : IsOrder order) where
+    module _ (is : IsNamedDiagram order.diagram) where
       same_length : length names ≡ feature_count order.diagram.lines
-      same_length = ap length names_is ∙ is.diagram.each_named
+      same_length = ap length names_is ∙ is.each_named
 
       -- what is listed names features of the diagram
       pub needs_below : (listed items : List Literal) → listed ≡ items → AreChoicesOf order.diagram.lines items → All (λ l. l.feature < length names) listed
       needs_below listed items same named = subst (λ (ls : List Literal). All (λ l. l.feature < length names) ls) (sym same)
           (literals_below (length names) (feature_count order.diagram.lines) items same_length named)
 
-      pub tried_below : (limits : Limits) (vertex : ℕ) (was_hopeless : Bool) (listed items : List Tried) → listed ≡ items →
+      pub tried_below : AreChoicesOf order.diagram.lines (choices order.decisions) → (limits : Limits) (vertex : ℕ) (was_hopeless : Bool) (listed items : List Tried) → listed ≡ items →
           AreTried page limits vertex was_hopeless order.decisions (length order.decisions) items → All (λ t. t.decision.feature < length names) listed
-      tried_below limits vertex was_hopeless listed items same are = subst (λ (ts : List Tried). All (λ t. t.decision.feature < length names) ts) (sym same)
-          (tried_named page limits vertex was_hopeless order.decisions order.diagram.lines (length names) items same_length is.named are)
+      tried_below named limits vertex was_hopeless listed items same are = subst (λ (ts : List Tried). All (λ t. t.decision.feature < length names) ts) (sym same)
+          (tried_named page limits vertex was_hopeless order.decisions order.diagram.lines (length names) items same_length named are)
 
-      pub given_below : (Suffices : List Literal → Type 0) (exact : Bool) (kept listed items : List Decision) → listed ≡ items → IsRepair Suffices order.decisions kept items exact →
+      pub given_below : AreChoicesOf order.diagram.lines (choices order.decisions) → (Suffices : List Literal → Type 0) (exact : Bool) (kept listed items : List Decision) → listed ≡ items → IsRepair Suffices order.decisions kept items exact →
           All (λ d. d.feature < length names) listed
-      given_below Suffices exact kept listed items same repair = subst (λ (ds : List Decision). All (λ d. d.feature < length names) ds) (sym same)
-          (named_below order.diagram.lines (length names) items (given_named Suffices (λ c. c.feature < feature_count order.diagram.lines) repair.split is.named) same_length)
+      given_below named Suffices exact kept listed items same repair = subst (λ (ds : List Decision). All (λ d. d.feature < length names) ds) (sym same)
+          (named_below order.diagram.lines (length names) items (given_named Suffices (λ c. c.feature < feature_count order.diagram.lines) repair.split named) same_length)
 
     module _ (limits : Limits) (vertex : ℕ) (was_hopeless : Bool) (before after : List ℕ) where
       abbrev Told : Type 0

@@ -4,18 +4,21 @@ use Rattle.std.specs.Prelude.{All}
 use Rattle.std.specs.List.{AllByRecursion}
 use Rattle.std.proofs.Math.Seq.{take-length, take-suc}
 use Rattle.std.proofs.lemmas.List.{length-map, length-take-le, map-append}
-use Rattle.vpg_diagram.specs.DiagramText.{NamedDiagram}
+use Rattle.vpg_diagram.specs.DiagramText.{NamedDiagram, IsNamedDiagram}
 use Rattle.vpg_diagram.specs.FeatureDiagram.{Line, feature_count}
 use Rattle.vpg_diagram.specs.declared.clause.Literal.{Literal}
-use Rattle.vpg_game.specs.Game.{NamedGame}
+use Rattle.vpg_game.specs.Game.{NamedGame, graph_of}
 use Rattle.vpg_sides.specs.declared.which.Which.TheVariants.{Hopeful}
-use Rattle.vpg_partial.specs.TableLaws.{AreChoicesOf}
+use Rattle.vpg_partial.specs.TableLaws.{AreAmong, AreChoicesOf}
 use Rattle.vpg_partial.specs.declared.decision.Decision.{Decision}
 use Rattle.vpg_texts.specs.Scene.{Scene, scene_of}
 use Rattle.vpg_why.specs.Explained.{choices}
 use Rattle.vpg_why.specs.Found.{IsSought}
 use Rattle.vpg_why.specs.Repaired.{KeepsOldest, ends, keeps, gives_up}
-use Rattle.vpg_why.specs.Suffices.{IsSettled}
+use Rattle.vpg_why.specs.Suffices.{IsSettled, SufficeIn}
+use Rattle.vpg_why.proofs.Listing.{among_named}
+use Rattle.vpg_why.proofs.Monotone.{more_choices_suffice}
+use Rattle.vpg_why.specs.declared.question.Question.{Question}
 use Rattle.vpg_why.specs.declared.question.Aim.TheVariants as aims
 use Rattle.vpg_why.specs.declared.question.Limits.{Limits}
 use Rattle.vpg_why.specs.declared.question.Question.TheVariants as asks
@@ -25,6 +28,7 @@ use Rattle.vpg_why.specs.declared.searching.Found.TheVariants as founds
 use Rattle.vpg_answers.specs.Repairs.{AreTried, HasWinner, HaveEffects, IsEffect, IsLostBy, without}
 use Rattle.vpg_answers.specs.Room.{RoundsSettle, SearchEnds}
 use Rattle.vpg_answers.specs.declared.retracting.Effect.{Effect}
+use Rattle.vpg_answers.specs.declared.retracting.Effect.TheVariants as effects
 use Rattle.vpg_answers.specs.declared.retracting.Tried.{Tried}
 
 -- what is given up is of the decisions
@@ -114,3 +118,15 @@ module _ (game : NamedGame) (diagram : NamedDiagram) (limits : Limits) (vertex :
 
   pub found_short : (found : Found) → found ≡ founds.Unsettled → (Settled → found ≢ founds.Unsettled) → Ends → ⊥
   found_short found is settled s = settled (room_of s) is
+
+-- ---- more decisions than a reason
+
+module _ (game : NamedGame) (diagram : NamedDiagram) (vertex : ℕ) (few many : List Literal) (is : IsNamedDiagram diagram) (named : AreChoicesOf diagram.lines many) (among : AreAmong few many) where
+  stays : (question : Question) → SufficeIn (graph_of game) diagram.lines question few → SufficeIn (graph_of game) diagram.lines question many
+  stays question h = more_choices_suffice (graph_of game) diagram.lines question few many is.diagram (among_named diagram.lines few many among named) among h
+
+  pub lost_stays : IsLostBy (scene_of [] game diagram) vertex few → IsLostBy (scene_of [] game diagram) vertex many
+  lost_stays h = stays (asks.Lost (aims.Won Hopeful vertex)) h
+
+  pub nothing_stays : (limits : Limits) (was_hopeless : Bool) → IsEffect (scene_of [] game diagram) limits vertex was_hopeless few effects.Nothing → IsEffect (scene_of [] game diagram) limits vertex was_hopeless many effects.Nothing
+  nothing_stays limits was_hopeless h = (lost_stays h.0, λ w. stays (asks.Verdict Hopeful vertex) (h.1 w))

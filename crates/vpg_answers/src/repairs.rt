@@ -1,12 +1,12 @@
 //! The decisions to retract so that Even wins from a vertex in a product left.
 ghost use Rattle.std.specs.List.{list_all, list_any};
-ghost use Rattle.std.specs.Prelude.{◌≡◌, ◌↔◌, ◌<◌, ◌+◌, ◌++◌, ◌≤◌, [], All, IsTrue, OnOk, count_by, false, length, slice_index, true};
+ghost use Rattle.std.specs.Prelude.{◌≡◌, ◌<◌, ◌+◌, ◌++◌, ◌≤◌, [], All, OnOk, count_by, false, length};
 ghost use Rattle.vpg_answers.specs.Answers.{Appends, HasSingle, TellsRepair, TellsRetractions};
-ghost use Rattle.vpg_answers.specs.Repairs.{AreTried, IsLostBy, is_listed, is_shown, is_winning, rank_of};
+ghost use Rattle.vpg_answers.specs.Repairs.{AreTried, IsEffect, IsLostBy, is_listed, is_shown, is_winning, rank_of};
 ghost use Rattle.vpg_answers.specs.Texts.{line_at, lines_at, mark_text, marked_text, repair_line, several_text, singles_text};
-ghost use Rattle.vpg_game.specs.Game.{graph_of};
-ghost use Rattle.vpg_measure.specs.TwoGames.{top_for};
+ghost use Rattle.vpg_partial.specs.TableLaws.{AreChoicesOf};
 ghost use Rattle.vpg_texts.specs.Scene.{scene_of};
+ghost use Rattle.vpg_why.specs.Explained.{choices};
 
 use crate::lines;
 use crate::reasons::{identifier, names};
@@ -17,16 +17,7 @@ use vpg_game::VertexNames;
 use vpg_measure::Order;
 use vpg_partial::Decision;
 use vpg_sides::Which;
-use vpg_why::{Limits, Shown};
-
-/// Whether the page has the vertex hopeless.
-fn is_hopeless(order: &Order, vertex: u32) -> bool
-    requires { vertex < length order.now.game.vertices }
-    ensures { IsTrue result ↔
-        (slice_index order.now.hopeful vertex ≡ top_for Which.Hopeful (graph_of order.now.game)) }
-{
-    order.table(Which::Hopeful).get(vertex) == order.shape(Which::Hopeful).top()
-}
+use vpg_why::{Limits, Shown, order_under, why_within};
 
 fn is_winning(t: &Tried) -> bool
     ensures { result ≡ is_winning t.now.effect }
@@ -178,69 +169,73 @@ fn tell_several(
     tell_marked(names, 1, tried, exact, out)
 }
 
-/// Appends the decisions to retract together, where none alone was shown to do.
+/// Appends the page's decisions to retract together, where none alone was shown to do.
 fn several(
     alloc: Global,
     order: &Order,
+    decisions: &[Decision],
     vertex: u32,
     was_hopeless: bool,
+    reason: &[Decision],
     tried: &[Tried],
     limits: Limits,
     looks: &mut u64,
     trials: &mut u64,
     out: &mut Vec<u8>,
 ) -> Result<(), AllocError>
+    requires named { AreChoicesOf order.now.diagram.lines (choices decisions.now) }
     requires vertex { vertex < length order.now.game.vertices }
+    requires reason { IsLostBy (scene_of [] order.now.game order.now.diagram) vertex (choices reason.now) }
     requires tried { AreTried (scene_of [] order.now.game order.now.diagram) limits vertex was_hopeless
-        order.now.decisions (length order.now.decisions) tried.now }
+        decisions.now (length decisions.now) tried.now }
     requires none { HasSingle tried.now → ⊥ }
     requires winner { IsLostBy (scene_of [] order.now.game order.now.diagram) vertex [] → ⊥ }
     ensures { OnOk result (Appends
-        (TellsRetractions (scene_of [] order.now.game order.now.diagram) limits vertex was_hopeless order.now.decisions)
+        (TellsRetractions (scene_of [] order.now.game order.now.diagram) limits vertex was_hopeless decisions.now)
         out.old.items out.new.items) }
 {
     let names = names(order);
     let found = give_up(
-        alloc,
-        order,
-        order.decisions(),
-        vertex,
-        limits,
-        looks,
-        trials,
+        alloc, order, decisions, vertex, reason, limits, looks, trials,
     )?;
     let exact = all_shown(tried);
     tell_several(names, &found.given, found.sure, tried, exact, out)
 }
 
-/// Appends the decisions to retract, where none alone was shown to do; or that nothing does.
+/// Appends the page's decisions to retract, where none alone was shown to do; or that nothing does.
 fn no_single(
     alloc: Global,
     order: &Order,
+    decisions: &[Decision],
     vertex: u32,
     was_hopeless: bool,
+    reason: &[Decision],
     tried: &[Tried],
     limits: Limits,
     looks: &mut u64,
     trials: &mut u64,
     out: &mut Vec<u8>,
 ) -> Result<(), AllocError>
+    requires named { AreChoicesOf order.now.diagram.lines (choices decisions.now) }
     requires vertex { vertex < length order.now.game.vertices }
+    requires reason { IsLostBy (scene_of [] order.now.game order.now.diagram) vertex (choices reason.now) }
     requires tried { AreTried (scene_of [] order.now.game order.now.diagram) limits vertex was_hopeless
-        order.now.decisions (length order.now.decisions) tried.now }
+        decisions.now (length decisions.now) tried.now }
     requires none { HasSingle tried.now → ⊥ }
     ensures { OnOk result (Appends
-        (TellsRetractions (scene_of [] order.now.game order.now.diagram) limits vertex was_hopeless order.now.decisions)
+        (TellsRetractions (scene_of [] order.now.game order.now.diagram) limits vertex was_hopeless decisions.now)
         out.old.items out.new.items) }
 {
     let names = names(order);
-    match lost(alloc, order, &[], vertex, limits, looks, trials)? {
+    match lost(alloc, order, &[], vertex, reason, limits, looks, trials)? {
         Shown::Yes => lines::none(out),
         Shown::No => several(
             alloc,
             order,
+            decisions,
             vertex,
             was_hopeless,
+            reason,
             tried,
             limits,
             looks,
@@ -251,30 +246,45 @@ fn no_single(
     }
 }
 
-/// Appends the decisions to retract, where no product left is won.
+/// Appends the decisions to retract, where no product left is won, as none is that agrees with the reason.
 fn retractions(
     alloc: Global,
     order: &Order,
     vertex: u32,
     was_hopeless: bool,
+    reason: &[Decision],
     limits: Limits,
     looks: &mut u64,
     trials: &mut u64,
     out: &mut Vec<u8>,
 ) -> Result<(), AllocError>
-    requires { vertex < length order.now.game.vertices }
+    requires vertex { vertex < length order.now.game.vertices }
+    requires reason { IsEffect (scene_of [] order.now.game order.now.diagram) limits vertex was_hopeless
+        (choices reason.now) Effect.Nothing }
     ensures { OnOk result (Appends
         (TellsRetractions (scene_of [] order.now.game order.now.diagram) limits vertex was_hopeless order.now.decisions)
         out.old.items out.new.items) }
 {
     let names = names(order);
-    let tried = tries(alloc, order, vertex, was_hopeless, limits, looks, trials)?;
+    let tried = tries(
+        alloc,
+        order,
+        vertex,
+        was_hopeless,
+        reason,
+        limits,
+        looks,
+        trials,
+    )?;
     if !has_single(&tried) {
+        let base = order_under(alloc, order, &[], &[Which::Hopeful, Which::Dual], looks)?;
         return no_single(
             alloc,
-            order,
+            &base,
+            order.decisions(),
             vertex,
             was_hopeless,
+            reason,
             &tried,
             limits,
             looks,
@@ -301,12 +311,13 @@ pub(crate) fn repairs_at(
 {
     let mut looks = limits.budget;
     let mut trials = limits.trials;
-    if is_hopeless(order, vertex) {
+    if let Some(why) = why_within(alloc, order, Which::Hopeful, vertex, limits, &mut looks)? {
         return retractions(
             alloc,
             order,
             vertex,
             true,
+            &why.decisions,
             limits,
             &mut looks,
             &mut trials,
@@ -334,6 +345,7 @@ pub(crate) fn repairs_at(
             order,
             vertex,
             false,
+            order.decisions(),
             limits,
             &mut looks,
             &mut trials,

@@ -11,7 +11,7 @@ use std::alloc::{AllocError, Global};
 use vpg_measure::Order;
 use vpg_partial::Decision;
 use vpg_sides::Which;
-use vpg_why::{Aim, Found, Limits, Shown, seek, verdict_shown};
+use vpg_why::{Aim, Found, Limits, Shown, are_among, order_under, seek, verdict_shown};
 
 /// The effect of retracting a decision.
 #[derive(Clone, Copy)]
@@ -105,26 +105,33 @@ fn without(alloc: Global, decisions: &[Decision], place: usize) -> Result<Vec<De
     Ok(kept)
 }
 
-/// Returns the effect of retracting the decision at this place alone.
+/// Returns the effect of retracting the decision at this place alone. It is nothing if the reason stays.
 fn effect_without(
     alloc: Global,
     order: &Order,
     place: usize,
     vertex: u32,
     was_hopeless: bool,
+    reason: &[Decision],
     limits: Limits,
     looks: &mut u64,
     trials: &mut u64,
 ) -> Result<Effect, AllocError>
     requires place { place < length order.now.decisions }
     requires vertex { vertex < length order.now.game.vertices }
+    requires reason { IsEffect (scene_of [] order.now.game order.now.diagram) limits vertex was_hopeless
+        (choices reason.now) Effect.Nothing }
     ensures { IfOk result (IsEffect (scene_of [] order.now.game order.now.diagram) limits vertex was_hopeless
         (choices (without place order.now.decisions))) }
 {
     let kept = without(alloc, order.decisions(), place)?;
+    if are_among(reason, &kept) {
+        return Ok(Effect::Nothing);
+    }
+    let under = order_under(alloc, order, &kept, &[Which::Hopeful, Which::Dual], looks)?;
     let found = effect_of(
         alloc,
-        order,
+        &under,
         &kept,
         vertex,
         was_hopeless,
@@ -136,16 +143,20 @@ fn effect_without(
 }
 
 /// Returns the decisions of the page, each with the effect of retracting it alone. All of them share looks and trials.
+/// The reason has no effect if all else is retracted.
 pub(crate) fn tries(
     alloc: Global,
     order: &Order,
     vertex: u32,
     was_hopeless: bool,
+    reason: &[Decision],
     limits: Limits,
     looks: &mut u64,
     trials: &mut u64,
 ) -> Result<Vec<Tried>, AllocError>
-    requires { vertex < length order.now.game.vertices }
+    requires vertex { vertex < length order.now.game.vertices }
+    requires reason { IsEffect (scene_of [] order.now.game order.now.diagram) limits vertex was_hopeless
+        (choices reason.now) Effect.Nothing }
     ensures { IfOk result (λ tried. AreTried (scene_of [] order.now.game order.now.diagram) limits vertex was_hopeless
         order.now.decisions (length order.now.decisions) tried.items) }
 {
@@ -158,6 +169,7 @@ pub(crate) fn tries(
             place,
             vertex,
             was_hopeless,
+            reason,
             limits,
             looks,
             trials,
@@ -170,18 +182,20 @@ pub(crate) fn tries(
     Ok(tried)
 }
 
-/// Whether Even wins no product that agrees with the decisions.
+/// Whether Even wins no product that agrees with the decisions: none if they have those of the reason.
 pub(crate) fn lost(
     alloc: Global,
     order: &Order,
     decisions: &[Decision],
     vertex: u32,
+    reason: &[Decision],
     limits: Limits,
     looks: &mut u64,
     trials: &mut u64,
 ) -> Result<Shown, AllocError>
     requires named { AreChoicesOf order.now.diagram.lines (choices decisions.now) }
     requires vertex { vertex < length order.now.game.vertices }
+    requires reason { IsLostBy (scene_of [] order.now.game order.now.diagram) vertex (choices reason.now) }
     ensures yes { IfOk result (λ shown. shown ≡ Shown.Yes →
         IsLostBy (scene_of [] order.now.game order.now.diagram) vertex (choices decisions.now)) }
     ensures no { IfOk result (λ shown. shown ≡ Shown.No →
@@ -190,6 +204,11 @@ pub(crate) fn lost(
         SearchEnds (scene_of [] order.now.game order.now.diagram) limits (Aim.Won Which.Hopeful vertex)
         (choices decisions.now) → shown ≢ Shown.Unsettled) }
 {
+    // Properties of every order, for the proof.
+    let _order = order.game();
+    if are_among(reason, decisions) {
+        return Ok(Shown::Yes);
+    }
     let which = Which::Hopeful;
     let aim = Aim::Won { which, vertex };
     let found = seek(alloc, order, aim, decisions, limits, looks, trials)?;
@@ -230,6 +249,7 @@ pub(crate) fn give_up(
     order: &Order,
     decisions: &[Decision],
     vertex: u32,
+    reason: &[Decision],
     limits: Limits,
     looks: &mut u64,
     trials: &mut u64,
@@ -237,6 +257,7 @@ pub(crate) fn give_up(
     requires named { AreChoicesOf order.now.diagram.lines (choices decisions.now) }
     requires vertex { vertex < length order.now.game.vertices }
     requires winner { IsLostBy (scene_of [] order.now.game order.now.diagram) vertex [] → ⊥ }
+    requires reason { IsLostBy (scene_of [] order.now.game order.now.diagram) vertex (choices reason.now) }
     ensures repair { IfOk result (λ found. IsRepair (IsLostBy (scene_of [] order.now.game order.now.diagram) vertex)
         decisions.now found.kept.items found.given.items found.sure) }
     ensures settled { IfOk result (λ found.
@@ -248,7 +269,7 @@ pub(crate) fn give_up(
     let mut sure = true;
     'deciding: for d in decisions {
         let more = appended(alloc, &kept, *d)?;
-        let shown = lost(alloc, order, &more, vertex, limits, looks, trials)?;
+        let shown = lost(alloc, order, &more, vertex, reason, limits, looks, trials)?;
         if let Shown::No = shown {
             kept = more;
         } else {

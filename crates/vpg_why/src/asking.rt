@@ -47,7 +47,7 @@ fn refines(known: &Partial, more: &Partial, features: u16) -> bool
 
 // A table of one of the two games to begin with, below every progress table: the page's, if all that is known on the
 // page is known in the games too, since what is known only raises tables. Otherwise it is of zeros.
-fn first_table(
+pub(crate) fn first_table(
     alloc: Global,
     order: &Order,
     games: &PageGames,

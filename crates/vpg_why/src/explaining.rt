@@ -1,11 +1,12 @@
 //! Explanations: some of a page's decisions that suffice, none of which can be left out.
-ghost use Rattle.std.specs.Prelude.{◌≡◌, ◌≢◌, ◌<◌, ◌≤◌, ◌+◌, length, IfOk, IfSome, IsNone, IsTrue};
+ghost use Rattle.std.specs.Prelude.{◌≡◌, ◌≢◌, ◌<◌, ◌≤◌, [], length, IfOk, IfSome, IsNone, IsTrue};
 ghost use Rattle.vpg_partial.specs.TableLaws.{AreChoicesOf};
 ghost use Rattle.vpg_why.specs.Explained.{choices, front_with, IsLast, OfFronts, Explains};
 ghost use Rattle.vpg_why.specs.Suffices.{Suffice, EachIsSettled, IsAskable, IsSettled};
 
 use crate::answering::suffice_within;
 use crate::question::{Limits, Question, Shown};
+use crate::under::{are_among, has_choice};
 use std::alloc::{AllocError, Global};
 use vpg_measure::Order;
 use vpg_partial::Decision;
@@ -33,7 +34,7 @@ fn joined(
     Ok(joined)
 }
 
-// Whether the first decisions and others after them suffice.
+// Whether the first decisions and others after them suffice. They do if they have those of the hint.
 fn front_suffices(
     alloc: Global,
     order: &Order,
@@ -41,6 +42,7 @@ fn front_suffices(
     decisions: &[Decision],
     most: usize,
     kept: &[Decision],
+    hint: &[Decision],
     limits: Limits,
     looks: &mut u64,
     is_small: bool,
@@ -49,6 +51,7 @@ fn front_suffices(
     requires named { AreChoicesOf order.now.diagram.lines (choices decisions.now) }
     requires kept_named { AreChoicesOf order.now.diagram.lines (choices kept.now) }
     requires askable { IsAskable order.now.game order.now.diagram question }
+    requires hint { hint.now ≢ [] → Suffice order.now.game order.now.diagram question (choices hint.now) }
     requires within { most ≤ length decisions.now }
     ensures yes { IfOk result (λ shown. shown ≡ Shown.Yes → Suffice order.now.game order.now.diagram question (choices (front_with most decisions.now kept.now))) }
     ensures no { IfOk result (λ shown. shown ≡ Shown.No → Suffice order.now.game order.now.diagram question (choices (front_with most decisions.now kept.now)) → ⊥) }
@@ -58,10 +61,15 @@ fn front_suffices(
     ensures looks { IfOk result (λ shown. looks.new ≤ looks.old) }
     ensures left { IfOk result (λ shown. trials.new ≤ trials.old) }
 {
+    // Properties of every order, for the proof.
+    let _order = order.game();
+    let joined = joined(alloc, decisions, most, kept)?;
+    if !hint.is_empty() && are_among(hint, &joined) {
+        return Ok(Shown::Yes);
+    }
     if !is_small && *looks == 0 {
         return Ok(Shown::Unsettled);
     }
-    let joined = joined(alloc, decisions, most, kept)?;
     let shown = suffice_within(
         alloc, order, question, &joined, limits, looks, is_small, trials,
     )?;
@@ -75,86 +83,31 @@ struct Last {
     exact: bool,
 }
 
-// Whether a decision is among those in the hint.
-fn is_hinted(hint: &[Decision], decision: Decision) -> bool {
-    hint.iter().any(|d| d.feature == decision.feature)
-}
-
-// A place between two others: after the last decision in the hint, or before it, or in the middle.
-fn between(decisions: &[Decision], hint: &[Decision], low: usize, high: usize) -> usize
-    requires apart { low + 1 < high }
+// How many first decisions to try next, if from `low` to below `high` are left: with the last of them that is in the
+// hint, or without it; else none, or the middle.
+fn next_front(decisions: &[Decision], hint: &[Decision], low: usize, high: usize) -> usize
+    requires apart { low < high }
     requires within { high ≤ length decisions.now }
-    ensures above { low < result }
+    ensures above { low ≤ result }
     ensures below { result < high }
 {
     for back in 0..high - low {
         let place = high - 1 - back;
-        if is_hinted(hint, decisions[place]) {
+        if has_choice(hint, &decisions[place]) {
             if place + 1 < high {
                 return place + 1;
             }
             return place;
         }
     }
+    if low == 0 {
+        return 0;
+    }
     low + (high - low) / 2
 }
 
-// The last of the first decisions that is needed beside the kept ones; some of them are needed.
-fn halve(
-    alloc: Global,
-    order: &Order,
-    question: Question,
-    decisions: &[Decision],
-    most: usize,
-    kept: &[Decision],
-    exact: bool,
-    hint: &[Decision],
-    limits: Limits,
-    looks: &mut u64,
-    is_small: bool,
-    trials: &mut u64,
-) -> Result<Last, AllocError>
-    requires named { AreChoicesOf order.now.diagram.lines (choices decisions.now) }
-    requires kept_named { AreChoicesOf order.now.diagram.lines (choices kept.now) }
-    requires askable { IsAskable order.now.game order.now.diagram question }
-    requires within { most ≤ length decisions.now }
-    requires some { 0 < most }
-    requires enough { Suffice order.now.game order.now.diagram question (choices (front_with most decisions.now kept.now)) }
-    requires settled { IsTrue is_small → OfFronts (IsSettled order.now.game order.now.diagram limits question) decisions.now kept.now →
-        IsTrue exact }
-    requires short { IsTrue exact → Suffice order.now.game order.now.diagram question (choices (front_with 0 decisions.now kept.now)) → ⊥ }
-    ensures place { IfOk result (λ last. last.place < most) }
-    ensures enough { IfOk result (λ last. Suffice order.now.game order.now.diagram question (choices (front_with (last.place + 1) decisions.now kept.now))) }
-    ensures short { IfOk result (λ last. IsTrue last.exact → Suffice order.now.game order.now.diagram question (choices (front_with last.place decisions.now kept.now)) → ⊥) }
-    ensures settled { IfOk result (λ last. IsTrue is_small →
-        OfFronts (IsSettled order.now.game order.now.diagram limits question) decisions.now kept.now → IsTrue last.exact) }
-    ensures looks { IfOk result (λ last. looks.new ≤ looks.old) }
-    ensures left { IfOk result (λ last. trials.new ≤ trials.old) }
-{
-    let mut low = 0;
-    let mut high = most;
-    let mut exact = exact;
-    'halving: while high - low > 1 {
-        let middle = between(decisions, hint, low, high);
-        let shown = front_suffices(
-            alloc, order, question, decisions, middle, kept, limits, looks, is_small, trials,
-        )?;
-        match shown {
-            Shown::Yes => high = middle,
-            Shown::No => {
-                low = middle;
-                exact = true;
-            }
-            Shown::Unsettled => {
-                low = middle;
-                exact = false;
-            }
-        }
-    }
-    Ok(Last { place: low, exact })
-}
-
-// The last of the first decisions that is needed beside the kept ones, if one is.
+// The last of the first decisions that is needed beside the kept ones, if one is. It looks for the least number of
+// first decisions that suffice with them.
 fn last_needed(
     alloc: Global,
     order: &Order,
@@ -171,8 +124,8 @@ fn last_needed(
     requires named { AreChoicesOf order.now.diagram.lines (choices decisions.now) }
     requires kept_named { AreChoicesOf order.now.diagram.lines (choices kept.now) }
     requires askable { IsAskable order.now.game order.now.diagram question }
+    requires hint { hint.now ≢ [] → Suffice order.now.game order.now.diagram question (choices hint.now) }
     requires within { most ≤ length decisions.now }
-    requires some { 0 < most }
     requires enough { Suffice order.now.game order.now.diagram question (choices (front_with most decisions.now kept.now)) }
     ensures none { IfOk result (λ found. IsNone found → Suffice order.now.game order.now.diagram question (choices (front_with 0 decisions.now kept.now))) }
     ensures some { IfOk result (λ found. IfSome found (λ last. IsLast (Suffice order.now.game order.now.diagram question) decisions.now kept.now most last.place last.exact)) }
@@ -181,18 +134,31 @@ fn last_needed(
     ensures looks { IfOk result (λ found. looks.new ≤ looks.old) }
     ensures left { IfOk result (λ found. trials.new ≤ trials.old) }
 {
-    let shown = front_suffices(
-        alloc, order, question, decisions, 0, kept, limits, looks, is_small, trials,
-    )?;
-    let exact = match shown {
-        Shown::Yes => return Ok(None),
-        Shown::No => true,
-        Shown::Unsettled => false,
-    };
-    let last = halve(
-        alloc, order, question, decisions, most, kept, exact, hint, limits, looks, is_small, trials,
-    )?;
-    Ok(Some(last))
+    let mut low = 0;
+    let mut high = most;
+    let mut exact = true;
+    'halving: while low < high {
+        let front = next_front(decisions, hint, low, high);
+        let shown = front_suffices(
+            alloc, order, question, decisions, front, kept, hint, limits, looks, is_small, trials,
+        )?;
+        match shown {
+            Shown::Yes => high = front,
+            Shown::No => {
+                low = front + 1;
+                exact = true;
+            }
+            Shown::Unsettled => {
+                low = front + 1;
+                exact = false;
+            }
+        }
+    }
+    if high == 0 {
+        return Ok(None);
+    }
+    let place = high - 1;
+    Ok(Some(Last { place, exact }))
 }
 
 /// Returns some of the decisions, which suffice, that suffice alone. None of them can be left out, if the answer says
@@ -200,9 +166,9 @@ fn last_needed(
 ///
 /// It is the explanation with the earliest last decision on the page, and before that the earliest next to last, and so
 /// on. This holds as far as no trial met a limit. It takes about the logarithm of the page's decisions in trials for
-/// each decision that it lists. It is tried first whether the last of the decisions in the hint are the last that are
-/// needed. Looks are taken from those of a line, and so are its trials, unless a small family has those of the limits
-/// for each question. The only error is a lack of memory.
+/// each decision that it lists. A hint suffices, unless it is empty. It is tried first whether its last decisions are
+/// the last that are needed. Looks are taken from those of a line, and so are its trials, unless a small family has
+/// those of the limits for each question. The only error is a lack of memory.
 pub(crate) fn explain_by(
     alloc: Global,
     order: &Order,
@@ -216,6 +182,7 @@ pub(crate) fn explain_by(
 ) -> Result<Explanation, AllocError>
     requires named { AreChoicesOf order.now.diagram.lines (choices decisions.now) }
     requires askable { IsAskable order.now.game order.now.diagram question }
+    requires hint { hint.now ≢ [] → Suffice order.now.game order.now.diagram question (choices hint.now) }
     requires enough { Suffice order.now.game order.now.diagram question (choices decisions.now) }
     ensures explains { IfOk result (λ found. Explains (Suffice order.now.game order.now.diagram question) decisions.now found.decisions.items found.exact) }
     ensures settled { IfOk result (λ found. IsTrue is_small →

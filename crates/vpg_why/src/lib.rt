@@ -6,8 +6,10 @@
 //! feature known, or one more decision contradictory. If some decisions make it so, more do. So an `Explanation` can be
 //! short: it lists decisions that suffice, none of which can be left out. There is one such list that prefers older
 //! decisions, so the answer is a function of the page. Each trial goes over from the order's games to those of its
-//! decisions, and begins with the order's tables if it knows all that the order does. Questions of features alone make
-//! no games. Where each product left is shown to meet an aim, a search for one goes on by features alone.
+//! decisions, and begins with the order's tables if it knows all that the order does: more decisions only raise tables.
+//! So explanations of verdicts and losses begin with an order of no decisions (`order_under`), whose tables are raised
+//! once. Questions of features alone make no games. Where each product left is shown to meet an aim, a search for one
+//! goes on by features alone.
 //!
 //! In every product that is left Odd wins from a hopeless vertex, and Even from a sure one. `winning_moves` finds moves
 //! that serve in all of them at once: those by which the player wins the cautious game (`vpg_hope`). There the player
@@ -20,10 +22,10 @@
 //! The layer above uses `why_within`, `why_lost`, `why_known`, `why_conflict` (explanations), `find` (an example or a
 //! counterexample, or that there is none) and `needs` (the features that all won products share). It uses `foresee`
 //! (the verdicts and the winner after one more decision), `seek` and `verdict_shown` (what other decisions would
-//! bring), `winning_moves`, and `caution` (the game that those win). `Which::Hopeful` asks for Even, `Which::Dual` for
-//! Odd. Every answer has `Limits` of work, and says if it met one: it is then unsettled, never wrong. Its searches
-//! share them: each takes looks and trials from what is left, and gives back what it did not need. Only a search of few
-//! features has the trials of the limits for itself.
+//! bring), `order_under` (tables for their trials), `are_among`, `winning_moves`, and `caution` (the game that those
+//! win). `Which::Hopeful` asks for Even, `Which::Dual` for Odd. Every answer has `Limits` of work, and says if it met
+//! one: it is then unsettled, never wrong. Its searches share them: each takes looks and trials from what is left, and
+//! gives back what it did not need. Only a search of few features has the trials of the limits for itself.
 //!
 //! Definitions: `specs/Suffices` (what decisions alone make so); `specs/Explained` (explanations); `specs/Products`
 //! (the products that decisions leave); `specs/Eased` (aims that each product left meets); `specs/Found`,
@@ -48,6 +50,7 @@ mod seeking;
 mod settling;
 mod stepping;
 mod telling;
+mod under;
 mod winning;
 
 pub use asking::{games_with, verdict_shown, with_one};
@@ -59,4 +62,5 @@ pub use searching::{Example, Found, Outlook, find, look_at_games, search, search
 pub use seeking::{is_small, large_limits, seek};
 pub use stepping::reachable;
 pub use telling::{WhyLost, why_conflict, why_known, why_lost, why_within};
+pub use under::{are_among, order_under};
 pub use winning::{Moves, caution, winning_moves};

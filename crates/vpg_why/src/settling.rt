@@ -15,7 +15,7 @@ use vpg_sides::Player;
 
 // Raises a table by certified bounds, which take half at most of the looks that are left. Returns whether it is a
 // progress table then.
-fn raise_for(
+pub(crate) fn raise_for(
     alloc: Global,
     shape: &Shape,
     dual_shape: &Shape,

@@ -1,5 +1,5 @@
 //! Why a verdict, a loss, a known feature or a conflict is so.
-ghost use Rattle.std.specs.Prelude.{◌≡◌, ◌↔◌, ◌<◌, ◌≤◌, List, length, slice_index, IfOk, IfSome, IsSome, IsTrue};
+ghost use Rattle.std.specs.Prelude.{◌≡◌, ◌≢◌, ◌↔◌, ◌<◌, ◌≤◌, List, [], length, slice_index, IfOk, IfSome, IsSome, IsTrue};
 ghost use Rattle.vpg_game.specs.Game.{graph_of};
 ghost use Rattle.vpg_measure.specs.Orders.{order_table};
 ghost use Rattle.vpg_measure.specs.TwoGames.{top_for};
@@ -15,10 +15,60 @@ use crate::explaining::{Explanation, explain_by};
 use crate::question::{Aim, Limits, Question, Shown};
 use crate::searching::{Example, Found, find_within};
 use crate::seeking::is_small;
+use crate::under::order_under;
 use std::alloc::{AllocError, Global};
 use vpg_measure::Order;
 use vpg_partial::Decision;
 use vpg_sides::Which;
+
+// Whether the page's table has the vertex hopeless, for the hopeful table, or sure, for the dual one.
+fn has_verdict(order: &Order, which: Which, vertex: u32) -> bool
+    requires { vertex < length order.now.game.vertices }
+    ensures { IsTrue result ↔
+        (slice_index (order_table which order.now) vertex ≡ top_for which (graph_of order.now.game)) }
+{
+    order.table(which).get(vertex) == order.shape(which).top()
+}
+
+// The decisions of the page that make the verdict of its table so. Trials begin with the tables of the base, an order
+// of the same game and diagram.
+fn why_over(
+    alloc: Global,
+    order: &Order,
+    base: &Order,
+    which: Which,
+    vertex: u32,
+    limits: Limits,
+    looks: &mut u64,
+) -> Result<Explanation, AllocError>
+    requires vertex { vertex < length order.now.game.vertices }
+    requires told { slice_index (order_table which order.now) vertex ≡ top_for which (graph_of order.now.game) }
+    requires game { base.now.game ≡ order.now.game }
+    requires diagram { base.now.diagram ≡ order.now.diagram }
+    ensures explains { IfOk result (λ e. Explains (Suffice order.now.game order.now.diagram
+        (Question.Verdict which vertex)) order.now.decisions e.decisions.items e.exact) }
+    ensures lost { IfOk result (λ e.
+        NoneMeets order.now.game order.now.diagram (Aim.Won which vertex) (choices e.decisions.items)) }
+    ensures settled { IfOk result (λ e.
+        EachIsSettled order.now.game order.now.diagram limits (Question.Verdict which vertex)
+        (choices order.now.decisions) → IsTrue e.exact) }
+    ensures looks { IfOk result (λ e. looks.new ≤ looks.old) }
+{
+    let question = Question::Verdict { which, vertex };
+    let mut trials = limits.trials;
+    let found = explain_by(
+        alloc,
+        base,
+        question,
+        order.decisions(),
+        &[],
+        limits,
+        looks,
+        true,
+        &mut trials,
+    )?;
+    Ok(found)
+}
 
 /// Returns the decisions of the page that make the vertex hopeless, by the hopeful table, or sure, by the dual one, with
 /// the looks that a line has left. Returns nothing if the page's table does not have it so.
@@ -41,22 +91,11 @@ pub fn why_within(
         (choices order.now.decisions) → IsTrue e.exact)) }
     ensures looks { IfOk result (λ found. looks.new ≤ looks.old) }
 {
-    if order.table(which).get(vertex) != order.shape(which).top() {
+    if !has_verdict(order, which, vertex) {
         return Ok(None);
     }
-    let question = Question::Verdict { which, vertex };
-    let mut trials = limits.trials;
-    let found = explain_by(
-        alloc,
-        order,
-        question,
-        order.decisions(),
-        &[],
-        limits,
-        looks,
-        true,
-        &mut trials,
-    )?;
+    let base = order_under(alloc, order, &[], &[which], looks)?;
+    let found = why_over(alloc, order, &base, which, vertex, limits, looks)?;
     Ok(Some(found))
 }
 
@@ -71,25 +110,31 @@ pub enum WhyLost {
     Unsettled,
 }
 
-// Decisions to be tried first: those that make the page's verdict so, if it bars the aim.
+// Decisions to be tried first: those that make the page's verdict so, if it bars the aim. Trials begin with the tables
+// of the base, an order of the same game and diagram.
 fn hint_for(
     alloc: Global,
     order: &Order,
+    base: &Order,
     aim: Aim,
     limits: Limits,
     looks: &mut u64,
 ) -> Result<Vec<Decision>, AllocError>
-    requires { IsAim order.now.game aim }
-    ensures { IfOk result (λ hint. looks.new ≤ looks.old) }
+    requires aim { IsAim order.now.game aim }
+    requires game { base.now.game ≡ order.now.game }
+    requires diagram { base.now.diagram ≡ order.now.diagram }
+    ensures suffices { IfOk result (λ hint. hint.items ≢ [] →
+        Suffice order.now.game order.now.diagram (Question.Lost aim) (choices hint.items)) }
+    ensures looks { IfOk result (λ hint. looks.new ≤ looks.old) }
 {
-    let verdict = match aim {
-        Aim::Any => None,
-        Aim::Won { which, vertex } => why_within(alloc, order, which, vertex, limits, looks)?,
+    let Aim::Won { which, vertex } = aim else {
+        return Ok(Vec::new(alloc));
     };
-    match verdict {
-        Some(found) => Ok(found.decisions),
-        None => Ok(Vec::new(alloc)),
+    if !has_verdict(order, which, vertex) {
+        return Ok(Vec::new(alloc));
     }
+    let found = why_over(alloc, order, base, which, vertex, limits, looks)?;
+    Ok(found.decisions)
 }
 
 // The decisions that leave no product that meets the aim, with the looks and the trials that the line has left.
@@ -111,12 +156,13 @@ fn because(
     ensures looks { IfOk result (λ found. looks.new ≤ looks.old) }
     ensures left { IfOk result (λ found. trials.new ≤ trials.old) }
 {
-    let hint = hint_for(alloc, order, aim, limits, looks)?;
+    let base = order_under(alloc, order, &[], &[Which::Hopeful, Which::Dual], looks)?;
+    let hint = hint_for(alloc, order, &base, aim, limits, looks)?;
     let is_small = is_small(alloc, order, &[], limits)?;
     let question = Question::Lost { aim };
     let found = explain_by(
         alloc,
-        order,
+        &base,
         question,
         order.decisions(),
         &hint,

@@ -11,7 +11,7 @@ pub tell-requires : goal.tell-requires
 tell-requires c =
     let order = c.args.order.now in
     let found = found_these order c.args.aim c.in_ok-found.field-0 c.in-These.found c.in-These.is c.in_ok-found.ensures.needs in
-    needs_below order c.names-names.result.now c.names-names.ensures.names c.names-names.ensures.order c.deref.result.now c.in-These.found.literals.items c.deref.ensures.value found.1.named
+    needs_below order c.names-names.result.now c.names-names.ensures.names c.names-names.ensures.order.diagram c.deref.result.now c.in-These.found.literals.items c.deref.ensures.value found.1.named
 
 pub returns-in-These : goal.returns-in-These
 returns-in-These c =

@@ -1,6 +1,20 @@
 use Rattle.vpg_why.proofs.Distinct.{yes_no, yes_unsettled, no_unsettled, no_yes, unsettled_no, unsettled_yes}
+use Rattle.vpg_why.specs.Explained.{choices}
+use Rattle.vpg_answers.proofs.Trying.{lost_stays}
 use Rattle.vpg_answers.proofs.retracting.lost.Goals as goal
 use Rattle.vpg_answers.proofs.retracting.lost.Goals.{in-Product, in-Nothing, in-Unsettled}
+
+pub returns-then-are_among-clause-yes : goal.returns-then-are_among-clause-yes
+returns-then-are_among-clause-yes c e =
+    let order = c.args.order.now in
+    lost_stays order.game order.diagram c.args.vertex (choices c.args.reason.now) (choices c.args.decisions.now) c.game-order.ensures.order.diagram c.requires.named
+    (c.are_among.ensures.0 c.if-are_among.true) c.requires.reason
+
+pub returns-then-are_among-clause-no : goal.returns-then-are_among-clause-no
+returns-then-are_among-clause-no c e = absurd (yes_no e)
+
+pub returns-then-are_among-clause-settled : goal.returns-then-are_among-clause-settled
+returns-then-are_among-clause-settled c s e = yes_unsettled e
 
 pub returns-clause-yes : goal.returns-clause-yes
 returns-clause-yes c = elim c.match-found.branch [

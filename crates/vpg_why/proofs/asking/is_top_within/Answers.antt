@@ -1,27 +1,17 @@
-use Rattle.std.proofs.Common.{◌≡◌, ◌∙◌, ℕ, List, true, false, length, refl, sym, subst, replicate}
-use Rattle.vpg_hope.specs.Arena.{Vertex as Node}
-use Rattle.vpg_game.specs.declared.levels.Level.{Level}
+use Rattle.std.proofs.Common.{◌≡◌, ◌∙◌, true, false, length, refl, sym, replicate}
 use Rattle.vpg_measure.specs.Games.{games_arena, games_levels}
-use Rattle.vpg_measure.specs.Least.{IsBelowProgressTables}
-use Rattle.vpg_measure.specs.Lifts.{IsTableOf}
+use Rattle.vpg_why.proofs.Starts.{moved, moved_below}
 use Rattle.vpg_why.proofs.Tops.{low_shown, rounds_settle, settles_from_zeros, top_not_reached, top_refuted, top_shown, value_there, zeros_below, zeros_fit}
 use Rattle.vpg_why.proofs.Distinct.{yes_no, yes_unsettled, no_yes, no_unsettled, unsettled_yes, unsettled_no}
 use Rattle.vpg_why.proofs.asking.is_top_within.Goals as goal
 
--- the table that it begins with, for this shape and these edges
-begun : (levels from_levels : List Level) (arena from_arena : List Node) (table : List ℕ) → levels ≡ from_levels → arena ≡ from_arena → IsTableOf from_levels from_arena table → IsTableOf levels arena table
-begun levels from_levels arena from_arena table e f t = subst (λ (g : List Node). IsTableOf levels g table) (sym f) (subst (λ (s : List Level). IsTableOf s from_arena table) (sym e) t)
-
-begun_below : (levels from_levels : List Level) (arena from_arena : List Node) (table : List ℕ) → levels ≡ from_levels → arena ≡ from_arena → IsBelowProgressTables from_levels from_arena table → IsBelowProgressTables levels arena table
-begun_below levels from_levels arena from_arena table e f b = subst (λ (g : List Node). IsBelowProgressTables levels g table) (sym f) (subst (λ (s : List Level). IsBelowProgressTables s from_arena table) (sym e) b)
-
 pub raise-requires : goal.raise-requires
-raise-requires c = begun c.shape-shape.result.now (games_levels c.args.which c.args.games.now) c.arena-arena.result.now (games_arena c.args.which c.args.games.now) c.in_ok-table.table c.shape-shape.ensures c.arena-arena.ensures c.in_ok-table.ensures.table
+raise-requires c = moved c.shape-shape.result.now (games_levels c.args.which c.args.games.now) c.arena-arena.result.now (games_arena c.args.which c.args.games.now) c.in_ok-table.table c.shape-shape.ensures c.arena-arena.ensures c.in_ok-table.ensures.table
 
 pub get-requires : goal.get-requires
 get-requires c =
     value_there c.args.order.now.game c.args.which c.args.games.now.known c.shape-shape.result.now c.arena-arena.result.now (c.shape-shape.ensures ∙ c.requires.games.1.levels c.args.which) (c.arena-arena.ensures ∙ c.requires.games.1.arena c.args.which)
-    c.in_ok-table.table (begun c.shape-shape.result.now (games_levels c.args.which c.args.games.now) c.arena-arena.result.now (games_arena c.args.which c.args.games.now) c.in_ok-table.table c.shape-shape.ensures c.arena-arena.ensures c.in_ok-table.ensures.table) c.args.vertex c.requires.vertex
+    c.in_ok-table.table (moved c.shape-shape.result.now (games_levels c.args.which c.args.games.now) c.arena-arena.result.now (games_arena c.args.which c.args.games.now) c.in_ok-table.table c.shape-shape.ensures c.arena-arena.ensures c.in_ok-table.ensures.table) c.args.vertex c.requires.vertex
 
 pub get-requires-2 : goal.get-requires-2
 get-requires-2 c =
@@ -31,15 +21,15 @@ get-requires-2 c =
 pub returns-then-get-top-clause-yes : goal.returns-then-get-top-clause-yes
 returns-then-get-top-clause-yes c e =
     top_shown c.args.order.now.game c.args.which c.args.games.now.known c.shape-shape.result.now c.arena-arena.result.now (c.shape-shape.ensures ∙ c.requires.games.1.levels c.args.which) (c.arena-arena.ensures ∙ c.requires.games.1.arena c.args.which)
-    c.in_ok-table.table (begun c.shape-shape.result.now (games_levels c.args.which c.args.games.now) c.arena-arena.result.now (games_arena c.args.which c.args.games.now) c.in_ok-table.table c.shape-shape.ensures c.arena-arena.ensures c.in_ok-table.ensures.table) c.args.vertex c.requires.vertex
-    (begun_below c.shape-shape.result.now (games_levels c.args.which c.args.games.now) c.arena-arena.result.now (games_arena c.args.which c.args.games.now) c.in_ok-table.table c.shape-shape.ensures c.arena-arena.ensures c.in_ok-table.ensures.below)
+    c.in_ok-table.table (moved c.shape-shape.result.now (games_levels c.args.which c.args.games.now) c.arena-arena.result.now (games_arena c.args.which c.args.games.now) c.in_ok-table.table c.shape-shape.ensures c.arena-arena.ensures c.in_ok-table.ensures.table) c.args.vertex c.requires.vertex
+    (moved_below c.shape-shape.result.now (games_levels c.args.which c.args.games.now) c.arena-arena.result.now (games_arena c.args.which c.args.games.now) c.in_ok-table.table c.shape-shape.ensures c.arena-arena.ensures c.in_ok-table.ensures.below)
     (sym c.get.ensures ∙ c.if-get-top.true ∙ c.top.ensures.top)
 
 pub returns-then-get-top-2-clause-yes : goal.returns-then-get-top-2-clause-yes
 returns-then-get-top-2-clause-yes c e =
     top_shown c.args.order.now.game c.args.which c.args.games.now.known c.shape-shape.result.now c.arena-arena.result.now (c.shape-shape.ensures ∙ c.requires.games.1.levels c.args.which) (c.arena-arena.ensures ∙ c.requires.games.1.arena c.args.which)
     c.raise.new.table c.raise.ensures.table c.args.vertex c.requires.vertex
-    (λ other t p. c.raise.ensures.below other t p (begun_below c.shape-shape.result.now (games_levels c.args.which c.args.games.now) c.arena-arena.result.now (games_arena c.args.which c.args.games.now) c.in_ok-table.table c.shape-shape.ensures c.arena-arena.ensures c.in_ok-table.ensures.below other t p))
+    (λ other t p. c.raise.ensures.below other t p (moved_below c.shape-shape.result.now (games_levels c.args.which c.args.games.now) c.arena-arena.result.now (games_arena c.args.which c.args.games.now) c.in_ok-table.table c.shape-shape.ensures c.arena-arena.ensures c.in_ok-table.ensures.below other t p))
     (sym c.get-2.ensures ∙ c.if-get-top-2.true ∙ c.top-2.ensures.top)
 
 pub returns-then-settled-clause-no : goal.returns-then-settled-clause-no
@@ -56,16 +46,16 @@ returns-then-settled-clause-low c e =
 
 pub returns-then-settled-clause-raised : goal.returns-then-settled-clause-raised
 returns-then-settled-clause-raised c h = absurd (top_not_reached c.args.order.now.game c.args.which c.args.games.now.known c.shape-shape.result.now c.arena-arena.result.now (c.shape-shape.ensures ∙ c.requires.games.1.levels c.args.which) (c.arena-arena.ensures ∙ c.requires.games.1.arena c.args.which)
-    c.raise.new.table c.raise.ensures.table c.args.vertex c.requires.vertex c.args.limits.rounds c.in_ok-table.table (begun c.shape-shape.result.now (games_levels c.args.which c.args.games.now) c.arena-arena.result.now (games_arena c.args.which c.args.games.now) c.in_ok-table.table c.shape-shape.ensures c.arena-arena.ensures c.in_ok-table.ensures.table) c.in_ok-settled.ensures.above (λ k. c.if-get-top-2.false (c.get-2.ensures ∙ k ∙ sym c.top-2.ensures.top)) h)
+    c.raise.new.table c.raise.ensures.table c.args.vertex c.requires.vertex c.args.limits.rounds c.in_ok-table.table (moved c.shape-shape.result.now (games_levels c.args.which c.args.games.now) c.arena-arena.result.now (games_arena c.args.which c.args.games.now) c.in_ok-table.table c.shape-shape.ensures c.arena-arena.ensures c.in_ok-table.ensures.table) c.in_ok-settled.ensures.above (λ k. c.if-get-top-2.false (c.get-2.ensures ∙ k ∙ sym c.top-2.ensures.top)) h)
 
 pub returns-clause-raised : goal.returns-clause-raised
 returns-clause-raised c h = absurd (top_not_reached c.args.order.now.game c.args.which c.args.games.now.known c.shape-shape.result.now c.arena-arena.result.now (c.shape-shape.ensures ∙ c.requires.games.1.levels c.args.which) (c.arena-arena.ensures ∙ c.requires.games.1.arena c.args.which)
-    c.raise.new.table c.raise.ensures.table c.args.vertex c.requires.vertex c.args.limits.rounds c.in_ok-table.table (begun c.shape-shape.result.now (games_levels c.args.which c.args.games.now) c.arena-arena.result.now (games_arena c.args.which c.args.games.now) c.in_ok-table.table c.shape-shape.ensures c.arena-arena.ensures c.in_ok-table.ensures.table) c.in_ok-settled.ensures.above (λ k. c.if-get-top-2.false (c.get-2.ensures ∙ k ∙ sym c.top-2.ensures.top)) h)
+    c.raise.new.table c.raise.ensures.table c.args.vertex c.requires.vertex c.args.limits.rounds c.in_ok-table.table (moved c.shape-shape.result.now (games_levels c.args.which c.args.games.now) c.arena-arena.result.now (games_arena c.args.which c.args.games.now) c.in_ok-table.table c.shape-shape.ensures c.arena-arena.ensures c.in_ok-table.ensures.table) c.in_ok-settled.ensures.above (λ k. c.if-get-top-2.false (c.get-2.ensures ∙ k ∙ sym c.top-2.ensures.top)) h)
 
 pub returns-clause-settled : goal.returns-clause-settled
 returns-clause-settled c s e = clash (sym (c.in_ok-settled.ensures.rounds
-    (rounds_settle c.shape-shape.result.now c.arena-arena.result.now c.args.limits.rounds (replicate (length c.arena-arena.result.now) 0) c.in_ok-table.table (zeros_fit c.shape-shape.result.now c.arena-arena.result.now (replicate (length c.arena-arena.result.now) 0) refl) (begun c.shape-shape.result.now (games_levels c.args.which c.args.games.now) c.arena-arena.result.now (games_arena c.args.which c.args.games.now) c.in_ok-table.table c.shape-shape.ensures c.arena-arena.ensures c.in_ok-table.ensures.table) (zeros_below c.shape-shape.result.now c.arena-arena.result.now c.in_ok-table.table (begun c.shape-shape.result.now (games_levels c.args.which c.args.games.now) c.arena-arena.result.now (games_arena c.args.which c.args.games.now) c.in_ok-table.table c.shape-shape.ensures c.arena-arena.ensures c.in_ok-table.ensures.table))
-    (λ other t p above. begun_below c.shape-shape.result.now (games_levels c.args.which c.args.games.now) c.arena-arena.result.now (games_arena c.args.which c.args.games.now) c.in_ok-table.table c.shape-shape.ensures c.arena-arena.ensures c.in_ok-table.ensures.below other t p)
+    (rounds_settle c.shape-shape.result.now c.arena-arena.result.now c.args.limits.rounds (replicate (length c.arena-arena.result.now) 0) c.in_ok-table.table (zeros_fit c.shape-shape.result.now c.arena-arena.result.now (replicate (length c.arena-arena.result.now) 0) refl) (moved c.shape-shape.result.now (games_levels c.args.which c.args.games.now) c.arena-arena.result.now (games_arena c.args.which c.args.games.now) c.in_ok-table.table c.shape-shape.ensures c.arena-arena.ensures c.in_ok-table.ensures.table) (zeros_below c.shape-shape.result.now c.arena-arena.result.now c.in_ok-table.table (moved c.shape-shape.result.now (games_levels c.args.which c.args.games.now) c.arena-arena.result.now (games_arena c.args.which c.args.games.now) c.in_ok-table.table c.shape-shape.ensures c.arena-arena.ensures c.in_ok-table.ensures.table))
+    (λ other t p above. moved_below c.shape-shape.result.now (games_levels c.args.which c.args.games.now) c.arena-arena.result.now (games_arena c.args.which c.args.games.now) c.in_ok-table.table c.shape-shape.ensures c.arena-arena.ensures c.in_ok-table.ensures.below other t p)
     (settles_from_zeros c.args.limits.rounds c.args.order.now.game c.args.which c.args.games.now.known c.shape-shape.result.now c.arena-arena.result.now (c.shape-shape.ensures ∙ c.requires.games.1.levels c.args.which) (c.arena-arena.ensures ∙ c.requires.games.1.arena c.args.which) s))) ∙ c.if-settled.false)
   where
     clash : true ≡ false → ⊥

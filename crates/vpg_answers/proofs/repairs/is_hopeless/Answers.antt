@@ -1,7 +1,0 @@
-use Rattle.std.proofs.Common.{◌<◌, sym, subst}
-use Rattle.vpg_sides.specs.declared.which.Which.TheVariants.{Hopeful}
-use Rattle.vpg_measure.proofs.OrderLemmas.{table_count}
-use Rattle.vpg_answers.proofs.repairs.is_hopeless.Goals as goal
-
-pub get-requires : goal.get-requires
-get-requires c = rw c.table.ensures.table (subst (λ n. c.args.vertex < n) (sym (table_count c.args.order.now c.table.ensures.order Hopeful)) c.requires)
