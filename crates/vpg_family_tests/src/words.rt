@@ -5,7 +5,7 @@ use clap::error::ErrorKind;
 use std::alloc::Global;
 use std::test::*;
 use vpg_family::{GamePaths, Subject};
-use vpg_terminal::{Invocation, Picture, Task, not_text, read};
+use vpg_terminal::{Invocation, Picture, Task, help_end, not_text, read};
 
 /// Words after the program's name, with one blank between them, and after ` = ` the task that they ask for.
 ///
@@ -335,11 +335,19 @@ fn put_told(told: &Error, said: &mut Said) {
     }
 }
 
-/// Writes the task of words.
-fn put_taken(words: &[String], said: &mut Said) {
-    match read(said.alloc, words) {
+/// Writes the task of words, or the help, which ends with this text.
+fn put_read(words: &[String], help: &str, said: &mut Said) {
+    match read(said.alloc, words, help) {
         Ok(asked) => put_asked(&asked, said),
         Err(told) => put_told(&told, said),
+    }
+}
+
+/// Writes the task of words.
+fn put_taken(words: &[String], said: &mut Said) {
+    match help_end(said.alloc) {
+        Ok(help) => put_read(words, &help, said),
+        Err(_) => said.note(false),
     }
 }
 

@@ -1,7 +1,8 @@
 //! Hints on a whole text: it has a mark in front, or is another kind of file.
 use crate::message::put_hint;
 use crate::said::Said;
-use vpg_places::{COMMANDS, LINES, form_of};
+use vpg_places::{LINES, form_of};
+use vpg_script::verb_named;
 
 /// The byte order mark in UTF-8.
 pub(crate) const MARK: [u8; 3] = [239, 187, 191];
@@ -39,7 +40,7 @@ fn kind_of(text: &[u8]) -> Option<Kind> {
     if form_of(&LINES, word).is_some() {
         return Some(Kind::Diagram);
     }
-    if form_of(&COMMANDS, word).is_some() {
+    if verb_named(word).is_some() {
         return Some(Kind::Script);
     }
     let first = text.trim_ascii_start().first();

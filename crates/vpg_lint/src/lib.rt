@@ -2,14 +2,16 @@
 //! hints.
 //!
 //! `explain_game`, `explain_diagram`, `explain_system` and `explain_requirements` take the fault with which a text was
-//! refused. `explain_parts` takes a requirement that is too long, and `explain_line` a line of a script that is no
-//! command. Each makes a message, and `put_message` writes it. `put_unknown` says of a word alone that no feature has
-//! this name. Only lines and columns have contracts: the wording is for people.
+//! refused. `explain_parts` takes a requirement that is too long. `explain_line` takes a line of a script that is no
+//! command, and goes by the forms of commands of `vpg_script`. Each makes a message, and `put_message` writes it.
+//! `put_unknown` says of a word alone that no feature has this name. Only lines and columns have contracts: the wording
+//! is for people.
 //!
 //! `specs/Messages` says where a fault is according to its reader, and how a message is written. Lines and columns are
 //! those of `vpg_places`.
 #![tactic(auto)]
 
+mod arguments;
 mod diagrams;
 mod faulty;
 mod games;

@@ -5,6 +5,7 @@ use std::alloc::{AllocError, Global};
 use strsim::levenshtein;
 use vpg_features::{LONGEST_NAME, Names};
 use vpg_places::{Form, begins_character};
+use vpg_script::{VERBS, form_of};
 
 /// The greatest number of edits from a word to a name that is proposed.
 const MOST_EDITS: usize = 3;
@@ -114,6 +115,27 @@ pub(crate) fn nearest_form(
         if edits < fewest {
             fewest = edits;
             found = Some(form.word);
+        }
+    }
+    Ok(found)
+}
+
+/// Returns the nearest of the words that name commands.
+pub(crate) fn nearest_command(
+    alloc: Global,
+    word: &[u8],
+) -> Result<Option<&'static str>, AllocError> {
+    let mut found = None;
+    let Some(word) = text_of(word) else {
+        return Ok(found);
+    };
+    let mut fewest = too_many_edits(word);
+    for verb in VERBS {
+        let name = form_of(verb).word;
+        let edits = edits_to(alloc, fewest, word, name)?;
+        if edits < fewest {
+            fewest = edits;
+            found = Some(name);
         }
     }
     Ok(found)

@@ -2,17 +2,16 @@
 ghost use Rattle.std.specs.Prelude.{◌≡◌, IfOk};
 ghost use Rattle.vpg_places.specs.Places.{IsColumnOf};
 
-use crate::diagrams::{NAME_RULE, is_less};
+use crate::arguments::{Departure, departure_of, too_great};
+use crate::diagrams::NAME_RULE;
 use crate::faulty::Faulty;
 use crate::hints::{Kind, MARK, put_text_hint};
 use crate::message::{Message, put_hint, put_hint_with};
-use crate::naming::nearest_form;
+use crate::naming::nearest_command;
 use crate::said::Said;
 use std::alloc::{AllocError, Global};
-use vpg_places::{COMMANDS, Departure, Form, Line, Part, form_of, words_of};
-
-/// The greatest length of a line, in bytes.
-const LONGEST_LINE: usize = 4096;
+use vpg_places::{Line, words_of};
+use vpg_script::{CommandForm, LONGEST_LINE, Parameter, form_of, verb_named};
 
 /// The rule for words that stand for vertices.
 const VERTEX_RULE: &[u8] =
@@ -37,7 +36,7 @@ fn is_label(word: &[u8]) -> bool {
 
 /// Appends the command that was perhaps meant by a word.
 fn put_meant(alloc: Global, word: &[u8], out: &mut Said) {
-    match nearest_form(alloc, &COMMANDS, word) {
+    match nearest_command(alloc, word) {
         Ok(Some(command)) if command.as_bytes() == word => {}
         Ok(Some(command)) => put_hint_with(b"is ", command.as_bytes(), b" meant?", out),
         Ok(None) => put_hint(b"`vpgdesk --help` lists the commands", out),
@@ -67,15 +66,30 @@ fn put_unknown(alloc: Global, faulty: &Faulty<'_>, place: usize, out: &mut Said)
     at
 }
 
+/// Returns the words for what is expected as an argument.
+fn told(parameter: Parameter) -> &'static [u8] {
+    match parameter {
+        Parameter::Feature => b"the name of a feature",
+        Parameter::Serial => b"the number of a change",
+        Parameter::Harvest | Parameter::Sweeps => b"a number",
+        Parameter::Table => b"`hopeful` or `dual`",
+        Parameter::Vertex => b"the identifier or the name of a vertex",
+        Parameter::Subject => b"a vertex or a feature, with `+` or `-` where it is decided",
+        Parameter::Asserted => b"a vertex and its verdicts, or `full` or `settled` alone",
+        Parameter::Verdict => b"`hopeless`, `possible`, `sure` or `unsure`",
+    }
+}
+
 /// Appends a hint about an argument.
 fn put_argument_hint(departure: Departure, word: &[u8], out: &mut Said) {
     match departure.expected {
         _ if word.starts_with(b"#") => put_hint(b"a comment is a line of its own", out),
-        Some(part) if part.is_name() && !word.is_empty() => put_hint(NAME_RULE, out),
-        Some(Part::Serial | Part::Number) if !word.is_empty() => {
+        _ if word.is_empty() => {}
+        Some(Parameter::Feature) => put_hint(NAME_RULE, out),
+        Some(Parameter::Serial | Parameter::Harvest | Parameter::Sweeps) => {
             put_hint(b"a number is digits alone", out)
         }
-        Some(Part::Vertex) if !word.is_empty() => put_hint(VERTEX_RULE, out),
+        Some(Parameter::Vertex) => put_hint(VERTEX_RULE, out),
         _ => {}
     }
 }
@@ -84,14 +98,14 @@ fn put_argument_hint(departure: Departure, word: &[u8], out: &mut Said) {
 /// place in the line.
 fn put_departure(
     faulty: &Faulty<'_>,
-    form: &Form,
+    form: &CommandForm,
     departure: Departure,
     first: usize,
     out: &mut Said,
 ) -> usize {
     let place = first.saturating_add(departure.place);
     let expected = match departure.expected {
-        Some(part) => part.told(),
+        Some(parameter) => told(parameter),
         None => b"the end of the line",
     };
     let at = faulty.put_found(place, expected, out);
@@ -100,55 +114,34 @@ fn put_departure(
     at
 }
 
-/// Returns the greatest number that a command of this form takes, in digits, and what is expected of the number.
-fn limit_of(form: &Form) -> (&'static [u8], &'static [u8]) {
-    if form.word == "settle" {
-        (b"1000000000", b"at most 1,000,000,000 sweeps")
-    } else if form.word == "commit" || form.parts.contains(&Part::Serial) {
-        (
-            b"18446744073709551615",
-            b"a number up to 18,446,744,073,709,551,615",
-        )
-    } else {
-        (
-            b"4294967295",
-            b"the identifier of a vertex, up to 4,294,967,295",
-        )
+/// Returns what is expected of a number as an argument.
+fn told_of_number(parameter: Parameter) -> &'static [u8] {
+    match parameter {
+        Parameter::Sweeps => b"at most 1,000,000,000 sweeps",
+        Parameter::Serial | Parameter::Harvest => b"a number up to 18,446,744,073,709,551,615",
+        _ => b"the identifier of a vertex, up to 4,294,967,295",
     }
-}
-
-/// Returns the place of the first word, from a place on, that is a number above a limit.
-fn great_place(faulty: &Faulty<'_>, first: usize, limit: &[u8]) -> usize {
-    for (place, word) in faulty.words.iter().enumerate() {
-        let is_number = word.bytes.iter().all(|b| b.is_ascii_digit());
-        if place >= first && is_number && is_less(limit, word.bytes) {
-            return place;
-        }
-    }
-    first
-}
-
-/// Appends which number of a line is too great. Returns its place in the line.
-fn put_too_great(faulty: &Faulty<'_>, form: &Form, first: usize, out: &mut Said) -> usize {
-    let (limit, expected) = limit_of(form);
-    faulty.put_found(great_place(faulty, first, limit), expected, out)
 }
 
 /// Appends what is wrong with the arguments of a command at a place. Returns their place in the line.
-fn put_arguments(faulty: &Faulty<'_>, form: &Form, command: usize, out: &mut Said) -> usize {
+fn put_arguments(faulty: &Faulty<'_>, form: &CommandForm, command: usize, out: &mut Said) -> usize {
     let first = command.saturating_add(1);
     let arguments = faulty.words.get(first..).unwrap_or(&[]);
-    match form.departure(arguments) {
+    match departure_of(form, arguments) {
         Some(departure) => put_departure(faulty, form, departure, first, out),
-        None => put_too_great(faulty, form, first, out),
+        None => {
+            let (place, parameter) = too_great(form, arguments);
+            let place = first.saturating_add(place);
+            faulty.put_found(place, told_of_number(parameter), out)
+        }
     }
 }
 
 /// Appends what is wrong with a line. Returns its place in the line.
 fn put_refused(alloc: Global, faulty: &Faulty<'_>, out: &mut Said) -> usize {
     let command = if is_label(faulty.word(0).bytes) { 1 } else { 0 };
-    match form_of(&COMMANDS, faulty.word(command).bytes) {
-        Some(form) => put_arguments(faulty, &form, command, out),
+    match verb_named(faulty.word(command).bytes) {
+        Some(verb) => put_arguments(faulty, &form_of(verb), command, out),
         None => put_unknown(alloc, faulty, command, out),
     }
 }

@@ -35,7 +35,7 @@ mod words;
 
 pub use crate::tasks::carry_out;
 use crate::tasks::explanation_of;
-use crate::words::{tell, unread, words_of};
+use crate::words::{read_words, tell, unread};
 use std::process::ExitCode;
 use std::sync::Wait;
 use std::thread::Threads;
@@ -47,9 +47,9 @@ use vpg_terminal::read;
 /// The runtime is handed in twice: for its files, and for the threads of the lifters.
 pub fn program<T: Threads + Wait + Sync>(rt: &HostRuntime, threads: &T) -> ExitCode {
     let alloc = rt.alloc();
-    let words = words_of(rt, alloc);
-    let asked = match &words {
-        Ok(words) => read(alloc, words),
+    let spoken = read_words(rt, alloc);
+    let asked = match &spoken {
+        Ok(spoken) => read(alloc, &spoken.words, &spoken.help),
         Err(why) => Err(unread(alloc, *why)),
     };
     let mut texts = Texts::none(alloc);

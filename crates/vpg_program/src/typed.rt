@@ -63,10 +63,11 @@ fn converse<T: Threads + Wait + Sync, R: Source + Drop, S: Sink + Drop, W: Sink 
     requires features { (arc_value known.now.family.game).features
         ≡ feature_count (arc_value known.now.family.diagram).lines }
 {
+    let commands = command_list(alloc)?;
     let family = greet(alloc, &known.family, &mut beside)?;
     let heard = Cell::new(Heard::Nothing);
     let setting = Setting {
-        commands: command_list(),
+        commands: &commands,
         features: known.family.diagram.names(),
         is_prompted,
         start,

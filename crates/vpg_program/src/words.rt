@@ -6,16 +6,32 @@ use std::{env, io};
 use vpg_family::Fault;
 use vpg_report::End;
 use vpg_script::{Device, Sink};
-use vpg_terminal::not_text;
+use vpg_terminal::{help_end, not_text};
 
-/// Returns the program's words, the first of which is its name.
-pub(crate) fn words_of(rt: &HostRuntime, alloc: Global) -> Result<Vec<String>, io::ErrorKind> {
+/// The program's words, the first of which is its name, and the end of its help.
+#[derive(Drop)]
+pub(crate) struct Spoken {
+    pub(crate) words: Vec<String>,
+    pub(crate) help: String,
+}
+
+/// Returns the program's words.
+fn words_of(rt: &HostRuntime, alloc: Global) -> Result<Vec<String>, io::ErrorKind> {
     match env::args(rt) {
         Ok(words) => match words.collect(alloc) {
             Ok(words) => Ok(words),
             Err(_) => Err(io::ErrorKind::OutOfMemory),
         },
         Err(error) => Err(error.kind()),
+    }
+}
+
+/// Returns the program's words, and the end of its help.
+pub(crate) fn read_words(rt: &HostRuntime, alloc: Global) -> Result<Spoken, io::ErrorKind> {
+    let words = words_of(rt, alloc)?;
+    match help_end(alloc) {
+        Ok(help) => Ok(Spoken { words, help }),
+        Err(_) => Err(io::ErrorKind::OutOfMemory),
     }
 }
 

@@ -17,7 +17,9 @@ use Rattle.vpg_script.specs.declared.framing.Form.{Form}
 use Rattle.vpg_script.specs.declared.framing.Form.TheVariants as forms
 use Rattle.vpg_script.specs.Output.{Machine, Speaks, Answered, ReadKnown, Wrote, NextKnown, IsEmptyKnown, FaultyKnown, ScriptOutcome, text_of}
 use Rattle.vpg_script.specs.Manners.{fault_answer, Answers, AnsweredEach, WroteEach, Went, Leaves, MannerOutcome}
-use Rattle.vpg_script.specs.Results.{UnlessReaderFails, UnlessWriterFails, stop_of, ending_of, PutOutcome, FaultOutcome, TakenKnown, TakenSaying, AskedOutcome}
+use Rattle.vpg_script.specs.Results.{UnlessReaderFails, UnlessWriterFails, stop_of, ending_of, PutOutcome, FaultOutcome, TakenKnown, TakenSaying, AskedBy, AskedOutcome}
+use Rattle.vpg_script.specs.declared.answering.Asked.{Asked}
+use Rattle.vpg_script.specs.declared.answering.Asked.TheVariants as asks
 use Rattle.vpg_script.specs.declared.command.LineFault.{LineFault}
 use Rattle.vpg_script.specs.declared.command.LineFault.TheVariants as faults
 use Rattle.vpg_script.specs.declared.lines.Next.TheVariants as next
@@ -31,7 +33,7 @@ use Rattle.vpg_script.specs.declared.serving.ServeFault.TheVariants as unserved
 use Rattle.vpg_script.specs.declared.fault.RunFault.{RunFault}
 use Rattle.vpg_script.specs.declared.fault.RunFault.TheVariants as stops
 use Rattle.vpg_script.proofs.FirstLine.{long_said, too_long_said}
-use Rattle.vpg_script.proofs.ScriptLemmas.{appends_none, appends_twice, read_more, read_kept, wrote_nothing, too_long_faulty}
+use Rattle.vpg_script.proofs.ScriptLemmas.{appends_none, appends_twice, read_more, read_kept, wrote_nothing, line_faulty, too_long_faulty}
 
 -- ---- one line
 
@@ -87,6 +89,20 @@ line_taken (Some text) None line comes = absurd comes
 line_taken (Some text) (Some rest) line comes = comes
 
 -- ---- the next line, as it is read
+
+-- a line was read, and this is what it asks for
+pub line_asked : (goes_on : Bool) (a b left : Option (List ℕ)) (line : Vec ℕ) (result : Result Asked RunFault) → ComesKnown (next.Line line) a b → AskedBy (said line.items) result →
+    AskedOutcome goes_on a b left result
+line_asked goes_on a b left line (Ok (asks.Request request)) comes is = (line.items, (line_taken a b line comes, is))
+line_asked goes_on a b left line (Ok asks.Nothing) comes is = (line.items, (line_taken a b line comes, is))
+line_asked goes_on a b left line (Ok (asks.Fault fault)) comes is = (line_faulty a b line fault comes is, λ on. (line.items, (line_taken a b line comes, is)))
+line_asked goes_on a b left line (Ok asks.End) comes is = absurd is
+line_asked goes_on a b left line (Err stops.Memory) comes is = tt
+line_asked goes_on a b left line (Err stops.Read) comes is = absurd is
+line_asked goes_on a b left line (Err stops.Write) comes is = absurd is
+line_asked goes_on a b left line (Err stops.Stray) comes is = absurd is
+line_asked goes_on a b left line (Err (stops.Open why)) comes is = absurd is
+line_asked goes_on a b left line (Err (stops.Line m other)) comes is = absurd is
 
 -- one that is too long is passed over
 pub passed_over : (goes_on : Bool) (a m b : Option (List ℕ)) → ComesKnown next.TooLong a m → PassedKnown m b →

@@ -1,5 +1,6 @@
 pub mod Calling
 pub mod Devices
+pub mod Forms
 pub mod Lines
 pub mod Script
 pub mod View

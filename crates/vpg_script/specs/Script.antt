@@ -6,8 +6,10 @@ use Rattle.std.specs.Str.Parse.{digits_value}
 use Rattle.vpg_features.specs.Names.{starts_as_name, is_name_byte, constant_of}
 use Rattle.vpg_sides.specs.declared.which.Which.{Which}
 use Rattle.vpg_sides.specs.declared.which.Which.TheVariants.{Hopeful, Dual}
-use Rattle.vpg_script.specs.declared.command.Verb.{Verb}
-use Rattle.vpg_script.specs.declared.command.Verb.TheVariants as verbs
+use Rattle.vpg_script.specs.declared.forms.Verb.{Verb}
+use Rattle.vpg_script.specs.declared.forms.Verb.TheVariants as verbs
+use Rattle.vpg_script.specs.declared.forms.Parameter.{Parameter}
+use Rattle.vpg_script.specs.declared.forms.Parameter.TheVariants as kinds
 use Rattle.vpg_script.specs.declared.command.Claim.{Claim}
 use Rattle.vpg_script.specs.declared.command.Claim.TheVariants as claims
 use Rattle.vpg_script.specs.declared.command.VertexQuestion.{VertexQuestion}
@@ -16,6 +18,9 @@ use Rattle.vpg_script.specs.declared.command.PageQuestion.{PageQuestion}
 use Rattle.vpg_script.specs.declared.command.PageQuestion.TheVariants as whole
 use Rattle.vpg_script.specs.declared.exact.ExactVerdict.{ExactVerdict}
 use Rattle.vpg_script.specs.declared.exact.ExactVerdict.TheVariants as exacts
+use Rattle.vpg_script.specs.declared.arguments.State.{State}
+use Rattle.vpg_script.specs.declared.arguments.State.TheVariants as states
+use Rattle.vpg_script.specs.Forms.{Form, form_of, verb_of}
 use Rattle.vpg_script.specs.declared.command.LineFault.{LineFault}
 use Rattle.vpg_script.specs.declared.command.LineFault.TheVariants as faults
 
@@ -150,78 +155,21 @@ pub data Command : Type 0 where
   Known : (name : List ℕ) → Command
   Ask : (inquiry : Inquiry) → Command
 
--- the command that a word names, if it is a question about the page
-abbrev pub verb_of_question : List ℕ → Option Verb
-verb_of_question w =
-    if bytes_eq w (codes "why") then Some verbs.Why
-    else if bytes_eq w (codes "example") then Some verbs.Example
-    else if bytes_eq w (codes "counterexample") then Some verbs.Counterexample
-    else if bytes_eq w (codes "offer") then Some verbs.Offer
-    else if bytes_eq w (codes "needs") then Some verbs.Needs
-    else if bytes_eq w (codes "repair") then Some verbs.Repair
-    else if bytes_eq w (codes "lost") then Some verbs.Lost
-    else if bytes_eq w (codes "won") then Some verbs.Won
-    else if bytes_eq w (codes "forced") then Some verbs.Forced
-    else if bytes_eq w (codes "empty") then Some verbs.Empty
-    else if bytes_eq w (codes "spoil") then Some verbs.Spoil
-    else if bytes_eq w (codes "trace") then Some verbs.Trace
-    else if bytes_eq w (codes "winners") then Some verbs.Winners
-    else if bytes_eq w (codes "decide") then Some verbs.Decide
-    else if bytes_eq w (codes "number") then Some verbs.Number
-    else None
+-- what an argument of a command says
+pub data Argument : Type 0 where
+  -- the name of a feature
+  Name : (name : List ℕ) → Argument
+  Number : (value : ℕ) → Argument
+  Table : (table : Which) → Argument
+  At : (vertex : Vertex) → Argument
+  -- the subject of a `why`
+  Subject : (inquiry : Inquiry) → Argument
+  -- the vertex of an assertion, and what the word asserts of the page if it stands alone
+  Asserted : (state : Option State) → (vertex : Vertex) → Argument
+  Claimed : (claim : Claim) → Argument
+  Exactly : (verdict : ExactVerdict) → Argument
 
--- the command that a word names, if it is a lookup or such a question
-abbrev pub verb_of_page : List ℕ → Option Verb
-verb_of_page w =
-    if bytes_eq w (codes "show") then Some verbs.Show
-    else if bytes_eq w (codes "trail") then Some verbs.Trail
-    else if bytes_eq w (codes "products") then Some verbs.Products
-    else if bytes_eq w (codes "plan") then Some verbs.Plan
-    else if bytes_eq w (codes "count") then Some verbs.Count
-    else if bytes_eq w (codes "draw") then Some verbs.Draw
-    else if bytes_eq w (codes "changed") then Some verbs.Changed
-    else if bytes_eq w (codes "known") then Some verbs.Known
-    else if bytes_eq w (codes "assert") then Some verbs.Assert
-    else verb_of_question w
-
--- the command that a word names
-abbrev pub verb_of : List ℕ → Option Verb
-verb_of w =
-    if bytes_eq w (codes "select") then Some verbs.Select
-    else if bytes_eq w (codes "exclude") then Some verbs.Exclude
-    else if bytes_eq w (codes "retract") then Some verbs.Retract
-    else if bytes_eq w (codes "reset") then Some verbs.Reset
-    else if bytes_eq w (codes "undo") then Some verbs.Undo
-    else if bytes_eq w (codes "redo") then Some verbs.Redo
-    else if bytes_eq w (codes "keep") then Some verbs.Keep
-    else if bytes_eq w (codes "forget") then Some verbs.Forget
-    else if bytes_eq w (codes "lift") then Some verbs.Lift
-    else if bytes_eq w (codes "harvest") then Some verbs.Harvest
-    else if bytes_eq w (codes "commit") then Some verbs.Commit
-    else if bytes_eq w (codes "settle") then Some verbs.Settle
-    else verb_of_page w
-
--- a command without arguments
-abbrev pub bare_command : Verb → Option Command
-bare_command verbs.Reset = Some Reset
-bare_command verbs.Undo = Some (Undo None)
-bare_command verbs.Redo = Some (Redo None)
-bare_command verbs.Harvest = Some Harvest
-bare_command verbs.Settle = Some (Settle None)
-bare_command verbs.Show = Some (Look Show)
-bare_command verbs.Trail = Some (Look Trail)
-bare_command verbs.Products = Some (Look Products)
-bare_command verbs.Plan = Some (Look Plan)
-bare_command verbs.Count = Some (Look Count)
-bare_command verbs.Draw = Some (Look Draw)
-bare_command verbs.Changed = Some Changed
-bare_command verbs.Forced = Some (Ask (OfPage whole.Forced))
-bare_command verbs.Empty = Some (Ask (OfPage whole.Empty))
-bare_command verbs.Number = Some (Ask (OfPage whole.Number))
-bare_command _ = None
-
-abbrev pub if_name : (List ℕ → Command) → List ℕ → Option Command
-if_name command w = if is_feature_name w then Some (command w) else None
+-- ---- what a word says as an argument
 
 -- the name after a sign
 abbrev pub signed : ℕ → List ℕ → Option (List ℕ)
@@ -267,69 +215,12 @@ abbrev pub why_of : List ℕ → Option Inquiry
 why_of w = if is_feature_name w then Some (OfFeature w)
     else why_else (signed 43 w) (signed 45 w) (of_vertex questions.Why w)
 
--- the question of a verb about the page, with one argument
-abbrev pub asked : Verb → List ℕ → Option Inquiry
-asked verbs.Why w = why_of w
-asked verbs.Example w = of_vertex (questions.Example Hopeful) w
-asked verbs.Counterexample w = of_vertex (questions.Example Dual) w
-asked verbs.Offer w = of_vertex questions.Offer w
-asked verbs.Needs w = of_vertex questions.Needs w
-asked verbs.Repair w = of_vertex questions.Repair w
-asked verbs.Lost w = of_vertex (questions.Lost Hopeful) w
-asked verbs.Won w = of_vertex (questions.Lost Dual) w
-asked verbs.Plan w = of_vertex (questions.Moves Hopeful) w
-asked verbs.Spoil w = of_vertex (questions.Moves Dual) w
-asked verbs.Draw w = of_vertex questions.Draw w
-asked verbs.Trace w = of_vertex questions.Trace w
-asked verbs.Winners w = of_vertex questions.Winners w
-asked verbs.Decide w = of_vertex questions.Decide w
-asked _ w = None
-
--- a command with one argument
-abbrev pub command_with : Verb → List ℕ → Option Command
-command_with verbs.Select w = if_name Select w
-command_with verbs.Exclude w = if_name Exclude w
-command_with verbs.Retract w = if_name Retract w
-command_with verbs.Undo w = option_map (λ s. Undo (Some s)) (number_of largest_serial w)
-command_with verbs.Redo w = option_map (λ s. Redo (Some s)) (number_of largest_serial w)
-command_with verbs.Keep w = option_map Keep (number_of largest_serial w)
-command_with verbs.Forget w = option_map Forget (number_of largest_serial w)
-command_with verbs.Commit w = option_map Commit (number_of largest_serial w)
-command_with verbs.Settle w = option_map (λ n. Settle (Some n)) (number_of most_sweeps w)
-command_with verbs.Known w = if_name Known w
-command_with verb w = option_map Ask (asked verb w)
-
 -- the table that a word names
 abbrev pub table_named : List ℕ → Option Which
 table_named w =
     if bytes_eq w (codes "hopeful") then Some Hopeful
     else if bytes_eq w (codes "dual") then Some Dual
     else None
-
-abbrev pub lift_of : Option Which → Option Vertex → Option Command
-lift_of (Some table) (Some vertex) = Some (Lift table vertex)
-lift_of _ _ = None
-
--- a command with two arguments
-abbrev pub command_with_two : Verb → List ℕ → List ℕ → Option Command
-command_with_two verbs.Lift a b = lift_of (table_named a) (vertex_named b)
-command_with_two _ a b = None
-
--- a command with a first argument and at most one more
-abbrev pub command_with_few : Verb → List ℕ → List (List ℕ) → Option Command
-command_with_few verb a [] = command_with verb a
-command_with_few verb a (b ∷ []) = command_with_two verb a b
-command_with_few verb a (b ∷ c ∷ args) = None
-
--- all of them, if none is missing
-abbrev pub all_there : {X : Type 0} → List (Option X) → Option (List X)
-all_there [] = Some []
-all_there (None ∷ found) = None
-all_there (Some x ∷ found) = option_map (λ xs. x ∷ xs) (all_there found)
-
--- the vertices that words name
-abbrev pub vertices_of : List (List ℕ) → Option (List Vertex)
-vertices_of ws = all_there (map vertex_named ws)
 
 -- the verdict that a word names
 abbrev pub claim_named : List ℕ → Option Claim
@@ -340,25 +231,6 @@ claim_named w =
     else if bytes_eq w (codes "unsure") then Some claims.Unsure
     else None
 
-abbrev pub claims_of : List (List ℕ) → Option (List Claim)
-claims_of ws = all_there (map claim_named ws)
-
--- an assertion about the page as a whole
-abbrev pub state_named : List ℕ → Option Assertion
-state_named w =
-    if bytes_eq w (codes "full") then Some Full
-    else if bytes_eq w (codes "settled") then Some Settled
-    else None
-
-abbrev pub verdicts_of : Option Vertex → Option (List Claim) → Option Assertion
-verdicts_of (Some vertex) (Some claims) = Some (Verdicts vertex claims)
-verdicts_of _ _ = None
-
--- the assertion of one word, or of a vertex and its verdicts
-abbrev pub assertion_of : List ℕ → List (List ℕ) → Option Assertion
-assertion_of w [] = state_named w
-assertion_of w (claim ∷ more) = verdicts_of (vertex_named w) (claims_of (claim ∷ more))
-
 -- the exact verdict that a word names
 abbrev pub exact_named : List ℕ → Option ExactVerdict
 exact_named w =
@@ -367,29 +239,209 @@ exact_named w =
     else if bytes_eq w (codes "mixed") then Some exacts.Mixed
     else None
 
-abbrev pub of_exact : Option ExactVerdict → Option Vertex → Option Inquiry
-of_exact (Some verdict) (Some vertex) = Some (OfExact verdict vertex)
-of_exact _ _ = None
+-- what a word asserts of the page as a whole
+abbrev pub state_named : List ℕ → Option State
+state_named w =
+    if bytes_eq w (codes "full") then Some states.Full
+    else if bytes_eq w (codes "settled") then Some states.Settled
+    else None
 
--- the question whether a vertex has an exact verdict: its word stands alone behind the vertex
-abbrev pub exact_of : List ℕ → List (List ℕ) → Option Inquiry
-exact_of w (verdict ∷ []) = of_exact (exact_named verdict) (vertex_named w)
-exact_of w _ = None
+abbrev pub claimed_or : Option Claim → Option ExactVerdict → Option Argument
+claimed_or (Some claim) exact = Some (Claimed claim)
+claimed_or None exact = option_map Exactly exact
 
-abbrev pub exact_or : Option Inquiry → Option Assertion → Option Command
-exact_or (Some inquiry) said = Some (Ask inquiry)
-exact_or None said = option_map (λ said. Look (Assert said)) said
+-- what a word says for a parameter
+abbrev pub argument_of : Parameter → List ℕ → Option Argument
+argument_of kinds.Feature w = if is_feature_name w then Some (Name w) else None
+argument_of kinds.Serial w = option_map Number (number_of largest_serial w)
+argument_of kinds.Harvest w = option_map Number (number_of largest_serial w)
+argument_of kinds.Sweeps w = option_map Number (number_of most_sweeps w)
+argument_of kinds.Table w = option_map Table (table_named w)
+argument_of kinds.Vertex w = option_map At (vertex_named w)
+argument_of kinds.Subject w = option_map Subject (why_of w)
+argument_of kinds.Asserted w = option_map (Asserted (state_named w)) (vertex_named w)
+argument_of kinds.Verdict w = claimed_or (claim_named w) (exact_named w)
 
--- the command that asserts what words say: an exact verdict, or else what a lookup shows
-abbrev pub assert_command : List ℕ → List (List ℕ) → Option Command
-assert_command w args = exact_or (exact_of w args) (assertion_of w args)
+-- ---- the arguments of a command
 
--- the command of a verb and its arguments: of a list of them, or of two at most
+-- the parameter of the next argument: the first of these, or else that of further ones
+abbrev pub next_parameter : List Parameter → Option Parameter → Option Parameter
+next_parameter [] rest = rest
+next_parameter (parameter ∷ parameters) rest = Some parameter
+
+abbrev pub argument_by : Option Parameter → List ℕ → Option Argument
+argument_by None w = None
+argument_by (Some parameter) w = argument_of parameter w
+
+-- the first argument and the others, if none is missing
+abbrev pub argument_and : Option Argument → Option (List Argument) → Option (List Argument)
+argument_and None others = None
+argument_and (Some argument) others = option_map (λ arguments. argument ∷ arguments) others
+
+-- what words say for these parameters, in their order, and further words for that of further arguments
+abbrev pub arguments_by : List Parameter → Option Parameter → List (List ℕ) → Option (List Argument)
+arguments_by parameters rest [] = Some []
+arguments_by parameters rest (w ∷ ws) =
+    argument_and (argument_by (next_parameter parameters rest) w) (arguments_by (drop 1 parameters) rest ws)
+
+-- what words say as the arguments of a form, if there are enough of them
+abbrev pub arguments_of : Form → List (List ℕ) → Option (List Argument)
+arguments_of form ws = if nat_le form.least (length ws) then arguments_by form.parameters form.rest ws else None
+
+-- ---- the command of a verb and its arguments
+
+-- a command without arguments
+abbrev pub bare_command : Verb → Option Command
+bare_command verbs.Reset = Some Reset
+bare_command verbs.Undo = Some (Undo None)
+bare_command verbs.Redo = Some (Redo None)
+bare_command verbs.Harvest = Some Harvest
+bare_command verbs.Settle = Some (Settle None)
+bare_command verbs.Show = Some (Look Show)
+bare_command verbs.Trail = Some (Look Trail)
+bare_command verbs.Products = Some (Look Products)
+bare_command verbs.Plan = Some (Look Plan)
+bare_command verbs.Count = Some (Look Count)
+bare_command verbs.Draw = Some (Look Draw)
+bare_command verbs.Changed = Some Changed
+bare_command verbs.Forced = Some (Ask (OfPage whole.Forced))
+bare_command verbs.Empty = Some (Ask (OfPage whole.Empty))
+bare_command verbs.Number = Some (Ask (OfPage whole.Number))
+bare_command _ = None
+
+-- a command about a feature
+abbrev pub feature_command : Verb → List ℕ → Option Command
+feature_command verbs.Select name = Some (Select name)
+feature_command verbs.Exclude name = Some (Exclude name)
+feature_command verbs.Retract name = Some (Retract name)
+feature_command verbs.Known name = Some (Known name)
+feature_command _ name = None
+
+-- a command with a number
+abbrev pub numbered_command : Verb → ℕ → Option Command
+numbered_command verbs.Undo n = Some (Undo (Some n))
+numbered_command verbs.Redo n = Some (Redo (Some n))
+numbered_command verbs.Keep n = Some (Keep n)
+numbered_command verbs.Forget n = Some (Forget n)
+numbered_command verbs.Commit n = Some (Commit n)
+numbered_command verbs.Settle n = Some (Settle (Some n))
+numbered_command _ n = None
+
+-- what a verb asks of a vertex
+abbrev pub question_of : Verb → Option VertexQuestion
+question_of verbs.Example = Some (questions.Example Hopeful)
+question_of verbs.Counterexample = Some (questions.Example Dual)
+question_of verbs.Offer = Some questions.Offer
+question_of verbs.Needs = Some questions.Needs
+question_of verbs.Repair = Some questions.Repair
+question_of verbs.Lost = Some (questions.Lost Hopeful)
+question_of verbs.Won = Some (questions.Lost Dual)
+question_of verbs.Plan = Some (questions.Moves Hopeful)
+question_of verbs.Spoil = Some (questions.Moves Dual)
+question_of verbs.Draw = Some questions.Draw
+question_of verbs.Trace = Some questions.Trace
+question_of verbs.Winners = Some questions.Winners
+question_of verbs.Decide = Some questions.Decide
+question_of _ = None
+
+abbrev pub ask_of : Vertex → VertexQuestion → Command
+ask_of vertex question = Ask (OfVertex question vertex)
+
+-- a command with one argument
+abbrev pub command_with : Verb → Argument → Option Command
+command_with verb (Name name) = feature_command verb name
+command_with verb (Number n) = numbered_command verb n
+command_with verb (At vertex) = option_map (ask_of vertex) (question_of verb)
+command_with verb (Subject inquiry) = Some (Ask inquiry)
+command_with verb _ = None
+
+abbrev pub table_in : Argument → Option Which
+table_in (Table table) = Some table
+table_in _ = None
+
+abbrev pub vertex_in : Argument → Option Vertex
+vertex_in (At vertex) = Some vertex
+vertex_in _ = None
+
+abbrev pub lift_by : Option Which → Option Vertex → Option Command
+lift_by (Some table) (Some vertex) = Some (Lift table vertex)
+lift_by _ _ = None
+
+-- a lift of a table, and a vertex
+abbrev pub lift_of : Argument → List Argument → Option Command
+lift_of argument [] = None
+lift_of argument (second ∷ []) = lift_by (table_in argument) (vertex_in second)
+lift_of argument (second ∷ third ∷ more) = None
+
+-- all of them, if none is missing
+abbrev pub all_there : {X : Type 0} → List (Option X) → Option (List X)
+all_there [] = Some []
+all_there (None ∷ found) = None
+all_there (Some x ∷ found) = option_map (λ xs. x ∷ xs) (all_there found)
+
+-- the vertices that arguments name, if each names one
+abbrev pub vertices_in : List Argument → Option (List Vertex)
+vertices_in arguments = all_there (map vertex_in arguments)
+
+abbrev pub claim_in : Argument → Option Claim
+claim_in (Claimed claim) = Some claim
+claim_in _ = None
+
+-- the verdicts that arguments name, if each names one
+abbrev pub claims_in : List Argument → Option (List Claim)
+claims_in arguments = all_there (map claim_in arguments)
+
+abbrev pub exact_in : Argument → Option ExactVerdict
+exact_in (Exactly verdict) = Some verdict
+exact_in _ = None
+
+-- an assertion about the page as a whole
+abbrev pub state_command : State → Command
+state_command states.Full = Look (Assert Full)
+state_command states.Settled = Look (Assert Settled)
+
+abbrev pub verdicts_command : Vertex → List Claim → Command
+verdicts_command vertex claims = Look (Assert (Verdicts vertex claims))
+
+abbrev pub exact_or : Vertex → Option ExactVerdict → List Argument → Option Command
+exact_or vertex (Some verdict) verdicts = Some (Ask (OfExact verdict vertex))
+exact_or vertex None verdicts = option_map (verdicts_command vertex) (claims_in verdicts)
+
+-- the assertion of a word alone, or of a vertex: an exact verdict stands alone behind it, others in any number
+abbrev pub asserted : Option State → Vertex → List Argument → Option Command
+asserted state vertex [] = option_map state_command state
+asserted state vertex (verdict ∷ []) = exact_or vertex (exact_in verdict) (verdict ∷ [])
+asserted state vertex (verdict ∷ second ∷ more) =
+    option_map (verdicts_command vertex) (claims_in (verdict ∷ second ∷ more))
+
+abbrev pub assert_command : Argument → List Argument → Option Command
+assert_command (Asserted state vertex) verdicts = asserted state vertex verdicts
+assert_command _ verdicts = None
+
+abbrev pub command_with_few : Verb → Argument → List Argument → Option Command
+command_with_few verb argument [] = command_with verb argument
+command_with_few verb argument (second ∷ more) = None
+
+-- a command with this argument, and more
+abbrev pub command_and : Verb → Argument → List Argument → Option Command
+command_and verbs.Show argument more =
+    option_map (λ vertices. Look (Vertices vertices)) (vertices_in (argument ∷ more))
+command_and verbs.Lift argument more = lift_of argument more
+command_and verbs.Assert argument more = assert_command argument more
+command_and verb argument more = command_with_few verb argument more
+
+-- the command of a verb and its arguments
+abbrev pub command_from : Verb → List Argument → Option Command
+command_from verb [] = bare_command verb
+command_from verb (argument ∷ more) = command_and verb argument more
+
+abbrev pub command_by : Verb → Option (List Argument) → Option Command
+command_by verb None = None
+command_by verb (Some arguments) = command_from verb arguments
+
+-- the command of a verb, and of words behind it that fit its form
 abbrev pub command_of : Verb → List (List ℕ) → Option Command
-command_of verb [] = bare_command verb
-command_of verbs.Show (a ∷ args) = option_map (λ vertices. Look (Vertices vertices)) (vertices_of (a ∷ args))
-command_of verbs.Assert (a ∷ args) = assert_command a args
-command_of verb (a ∷ args) = command_with_few verb a args
+command_of verb ws = command_by verb (arguments_of (form_of verb) ws)
 
 -- the label that a word spells: a number from 1 to 64 and a colon
 abbrev pub if_positive : Option ℕ → Option ℕ

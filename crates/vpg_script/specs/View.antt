@@ -13,6 +13,8 @@ use Rattle.vpg_script.specs.declared.command.Command.TheVariants as commands
 use Rattle.vpg_script.specs.declared.command.Inquiry.{Inquiry}
 use Rattle.vpg_script.specs.declared.command.Inquiry.TheVariants as inquiries
 use Rattle.vpg_script.specs.declared.command.Request.{Request}
+use Rattle.vpg_script.specs.declared.arguments.Argument.{Argument}
+use Rattle.vpg_script.specs.declared.arguments.Argument.TheVariants as arguments
 use Rattle.vpg_script.specs.declared.command.ReadFault.{ReadFault}
 use Rattle.vpg_script.specs.declared.command.ReadFault.TheVariants as faults
 
@@ -27,6 +29,17 @@ inquiry_shown (inquiries.OfFeature f) = script.OfFeature f.now
 inquiry_shown (inquiries.OfChoice value f) = script.OfChoice value f.now
 inquiry_shown (inquiries.OfPage question) = script.OfPage question
 inquiry_shown (inquiries.OfExact verdict v) = script.OfExact verdict (vertex_shown v)
+
+-- an argument, as definitions see it
+abbrev pub argument_shown : Argument → script.Argument
+argument_shown (arguments.Name name) = script.Name name.now
+argument_shown (arguments.Number n) = script.Number n
+argument_shown (arguments.Table table) = script.Table table
+argument_shown (arguments.Vertex v) = script.At (vertex_shown v)
+argument_shown (arguments.Subject inquiry) = script.Subject (inquiry_shown inquiry)
+argument_shown (arguments.Asserted state v) = script.Asserted state (vertex_shown v)
+argument_shown (arguments.Claim claim) = script.Claimed claim
+argument_shown (arguments.Exact verdict) = script.Exactly verdict
 
 -- an assertion, as definitions see it
 abbrev pub assertion_shown : Assertion → script.Assertion

@@ -1,71 +1,20 @@
 //! The command that a line of a script spells.
-ghost use Rattle.std.specs.Prelude.{◌≡◌, ◌≤◌, ◌^◌, ◌<◌, true, map, min, option_map, IfOk, MatchResult};
-ghost use Rattle.std.specs.List.{list_all, list_any};
-ghost use Rattle.std.specs.Char.{is_ascii_digit, digit_value};
-ghost use Rattle.std.specs.Str.Parse.{digits_value};
-ghost use Rattle.std.specs.Prelude.{bytes_eq};
-ghost use Rattle.vpg_script.specs.Script.{is_quote, closed, quoted, vertex_name, vertex_named, is_feature_name, number_of, verb_of, verb_of_page, verb_of_question, bare_command, signed, why_of, of_vertex, asked, command_with, table_named, command_with_two, label_of, is_comment};
-ghost use Rattle.vpg_script.specs.Script.{command_with_few, vertices_of, claim_named, claims_of, state_named, verdicts_of, assertion_of, command_of};
-ghost use Rattle.vpg_script.specs.View.{assertion_shown, command_shown, inquiry_shown, texts, vertex_shown};
+ghost use Rattle.std.specs.Prelude.{◌≡◌, map, option_map, IfOk};
+ghost use Rattle.vpg_script.specs.Script.{ask_of, bare_command, command_from, command_of, command_with, command_with_few, feature_command, label_of, lift_of, is_comment, numbered_command, question_of, table_in, vertex_in, vertices_in};
+ghost use Rattle.vpg_script.specs.View.{argument_shown, command_shown, texts, vertex_shown};
 
+use crate::arguments::{Argument, arguments_of, number};
 use crate::exact::{ExactVerdict, assert_command};
-use crate::words::{is_nonempty, words_of};
+use crate::forms::{Verb, form_of, verb_named};
+use crate::words::words_of;
 use std::alloc::{AllocError, Global};
 use thiserror::Error;
-use vpg_features::is_feature_name;
 use vpg_sides::Which;
 
 /// The most bytes of a line before its end.
 pub const LONGEST_LINE: usize = 4096;
 
-const LARGEST_SERIAL: u64 = u64::MAX;
-
-const LARGEST_IDENTIFIER: u64 = u32::MAX as u64;
-
-const MOST_SWEEPS: u64 = 1_000_000_000;
-
 const MOST_LABELS: u64 = 64;
-
-/// The words that name commands.
-#[derive(Clone, Copy)]
-pub enum Verb {
-    Select,
-    Exclude,
-    Retract,
-    Reset,
-    Undo,
-    Redo,
-    Keep,
-    Forget,
-    Lift,
-    Harvest,
-    Commit,
-    Settle,
-    Show,
-    Trail,
-    Products,
-    Plan,
-    Count,
-    Draw,
-    Changed,
-    Known,
-    Assert,
-    Why,
-    Example,
-    Counterexample,
-    Offer,
-    Needs,
-    Repair,
-    Lost,
-    Won,
-    Forced,
-    Empty,
-    Spoil,
-    Trace,
-    Winners,
-    Decide,
-    Number,
-}
 
 /// A question about a vertex.
 #[derive(Clone, Copy)]
@@ -208,160 +157,6 @@ pub struct Request<'t> {
     pub command: Command<'t>,
 }
 
-pub(crate) fn same(a: &[u8], b: &[u8]) -> bool
-    ensures { result ≡ bytes_eq a.now b.now }
-{
-    a == b
-}
-
-fn has_digits(word: &[u8]) -> bool
-    ensures { result ≡ list_all is_ascii_digit word.now }
-{
-    word.iter().all(|b| b.is_ascii_digit())
-}
-
-/// Whether a word is a feature's name.
-fn is_name(word: &[u8]) -> bool
-    ensures { result ≡ is_feature_name word.now }
-{
-    is_feature_name(word)
-}
-
-fn digit(b: u8) -> u64
-    requires { is_ascii_digit b ≡ true }
-    ensures value { result ≡ digit_value b }
-    ensures less { result < 10 }
-{
-    (b - b'0') as u64
-}
-
-/// Returns the number that digits write, or one more than the most if it is larger.
-fn bounded_value(digits: &[u8], above: u128) -> u128
-    requires above { above ≤ 2 ^ 64 }
-    requires digits { list_all is_ascii_digit digits.now ≡ true }
-    ensures { result ≡ min above (digits_value 10 digits.now) }
-{
-    let mut value: u128 = 0;
-    for b in digits {
-        value = above.min(value * 10 + digit(*b) as u128);
-    }
-    value
-}
-
-/// Returns the number that a word's digits write, if it is at most this.
-fn number(word: &[u8], most: u64) -> Option<u64>
-    ensures { result ≡ number_of most word.now }
-{
-    if !is_nonempty(word) || !has_digits(word) {
-        return None;
-    }
-    let value = bounded_value(word, most as u128 + 1);
-    if value <= most as u128 {
-        Some(value as u64)
-    } else {
-        None
-    }
-}
-
-/// Returns the command that a word names: one that decides, retracts, lifts or settles, or else another.
-fn verb_named(word: &[u8]) -> Option<Verb>
-    ensures { result ≡ verb_of word.now }
-{
-    if same(word, b"select") {
-        Some(Verb::Select)
-    } else if same(word, b"exclude") {
-        Some(Verb::Exclude)
-    } else if same(word, b"retract") {
-        Some(Verb::Retract)
-    } else if same(word, b"reset") {
-        Some(Verb::Reset)
-    } else if same(word, b"undo") {
-        Some(Verb::Undo)
-    } else if same(word, b"redo") {
-        Some(Verb::Redo)
-    } else if same(word, b"keep") {
-        Some(Verb::Keep)
-    } else if same(word, b"forget") {
-        Some(Verb::Forget)
-    } else if same(word, b"lift") {
-        Some(Verb::Lift)
-    } else if same(word, b"harvest") {
-        Some(Verb::Harvest)
-    } else if same(word, b"commit") {
-        Some(Verb::Commit)
-    } else if same(word, b"settle") {
-        Some(Verb::Settle)
-    } else {
-        verb_of_page_named(word)
-    }
-}
-
-/// Returns the command that a word names: a lookup, or else another.
-fn verb_of_page_named(word: &[u8]) -> Option<Verb>
-    ensures { result ≡ verb_of_page word.now }
-{
-    if same(word, b"show") {
-        Some(Verb::Show)
-    } else if same(word, b"trail") {
-        Some(Verb::Trail)
-    } else if same(word, b"products") {
-        Some(Verb::Products)
-    } else if same(word, b"plan") {
-        Some(Verb::Plan)
-    } else if same(word, b"count") {
-        Some(Verb::Count)
-    } else if same(word, b"draw") {
-        Some(Verb::Draw)
-    } else if same(word, b"changed") {
-        Some(Verb::Changed)
-    } else if same(word, b"known") {
-        Some(Verb::Known)
-    } else if same(word, b"assert") {
-        Some(Verb::Assert)
-    } else {
-        verb_of_question_named(word)
-    }
-}
-
-/// Returns the command that a word names, if it is a question about the page.
-fn verb_of_question_named(word: &[u8]) -> Option<Verb>
-    ensures { result ≡ verb_of_question word.now }
-{
-    if same(word, b"why") {
-        Some(Verb::Why)
-    } else if same(word, b"example") {
-        Some(Verb::Example)
-    } else if same(word, b"counterexample") {
-        Some(Verb::Counterexample)
-    } else if same(word, b"offer") {
-        Some(Verb::Offer)
-    } else if same(word, b"needs") {
-        Some(Verb::Needs)
-    } else if same(word, b"repair") {
-        Some(Verb::Repair)
-    } else if same(word, b"lost") {
-        Some(Verb::Lost)
-    } else if same(word, b"won") {
-        Some(Verb::Won)
-    } else if same(word, b"forced") {
-        Some(Verb::Forced)
-    } else if same(word, b"empty") {
-        Some(Verb::Empty)
-    } else if same(word, b"spoil") {
-        Some(Verb::Spoil)
-    } else if same(word, b"trace") {
-        Some(Verb::Trace)
-    } else if same(word, b"winners") {
-        Some(Verb::Winners)
-    } else if same(word, b"decide") {
-        Some(Verb::Decide)
-    } else if same(word, b"number") {
-        Some(Verb::Number)
-    } else {
-        None
-    }
-}
-
 /// Returns a command without arguments.
 fn bare_command<'t>(verb: Verb) -> Option<Command<'t>>
     ensures { option_map command_shown result ≡ bare_command verb }
@@ -406,177 +201,115 @@ fn bare_command<'t>(verb: Verb) -> Option<Command<'t>>
     }
 }
 
-/// Returns the name after a sign.
-fn signed(sign: u8, word: &[u8]) -> Option<&[u8]>
-    ensures { option_map (λ name. name.now) result ≡ signed sign word.now }
-{
-    match word {
-        [first, name @ ..] if *first == sign && is_name(name) => Some(name),
-        _ => None,
-    }
-}
-
-fn has_quote(bytes: &[u8]) -> bool
-    ensures { result ≡ list_any is_quote bytes.now }
-{
-    bytes.iter().any(|b| *b == b'"')
-}
-
-/// Returns the text before the last quote, if there is no other quote.
-fn closed(word: &[u8]) -> Option<&[u8]>
-    ensures { option_map (λ name. name.now) result ≡ closed word.now }
-{
-    match word {
-        [name @ .., b'"'] if !has_quote(name) => Some(name),
-        _ => None,
-    }
-}
-
-/// Returns the bytes between two quotes.
-fn quoted(word: &[u8]) -> Option<&[u8]>
-    ensures { option_map (λ name. name.now) result ≡ quoted word.now }
-{
-    match word {
-        [b'"', rest @ ..] => closed(rest),
-        _ => None,
-    }
-}
-
-/// Returns the name of a vertex that a word spells.
-fn vertex_name(word: &[u8]) -> Option<&[u8]>
-    ensures { option_map (λ name. name.now) result ≡ vertex_name word.now }
-{
-    if is_name(word) {
-        Some(word)
-    } else {
-        quoted(word)
-    }
-}
-
-/// Returns the vertex that a word names: by its identifier, or else by its name.
-pub(crate) fn vertex_named(word: &[u8]) -> Option<Vertex>
-    ensures { option_map vertex_shown result ≡ vertex_named word.now }
-{
-    match number(word, LARGEST_IDENTIFIER) {
-        Some(identifier) => Some(Vertex::Number(identifier as u32)),
-        None => match vertex_name(word) {
-            Some(name) => Some(Vertex::Name(name)),
-            None => None,
-        },
-    }
-}
-
-/// Returns a question about the vertex that a word names.
-fn of_vertex(question: VertexQuestion, word: &[u8]) -> Option<Inquiry>
-    ensures { option_map inquiry_shown result ≡ of_vertex question word.now }
-{
-    let vertex = vertex_named(word)?;
-    Some(Inquiry::OfVertex(question, vertex))
-}
-
-/// Returns the question that `why` asks: about a vertex, a feature, or a decision.
-fn why_of(word: &[u8]) -> Option<Inquiry>
-    ensures { option_map inquiry_shown result ≡ why_of word.now }
-{
-    if is_name(word) {
-        return Some(Inquiry::OfFeature(word));
-    }
-    if let Some(name) = signed(b'+', word) {
-        return Some(Inquiry::OfChoice(true, name));
-    }
-    if let Some(name) = signed(b'-', word) {
-        return Some(Inquiry::OfChoice(false, name));
-    }
-    of_vertex(VertexQuestion::Why, word)
-}
-
-/// Returns the question of a command with one argument; none if the verb asks nothing.
-fn asked(verb: Verb, word: &[u8]) -> Option<Inquiry>
-    ensures { option_map inquiry_shown result ≡ asked verb word.now }
+/// Returns a command about a feature.
+fn feature_command<'t>(verb: Verb, name: &'t [u8]) -> Option<Command<'t>>
+    ensures { option_map command_shown result ≡ feature_command verb name.now }
 {
     match verb {
-        Verb::Why => why_of(word),
-        Verb::Example => of_vertex(VertexQuestion::Example(Which::Hopeful), word),
-        Verb::Counterexample => of_vertex(VertexQuestion::Example(Which::Dual), word),
-        Verb::Offer => of_vertex(VertexQuestion::Offer, word),
-        Verb::Needs => of_vertex(VertexQuestion::Needs, word),
-        Verb::Repair => of_vertex(VertexQuestion::Repair, word),
-        Verb::Lost => of_vertex(VertexQuestion::Lost(Which::Hopeful), word),
-        Verb::Won => of_vertex(VertexQuestion::Lost(Which::Dual), word),
-        Verb::Plan => of_vertex(VertexQuestion::Moves(Which::Hopeful), word),
-        Verb::Spoil => of_vertex(VertexQuestion::Moves(Which::Dual), word),
-        Verb::Draw => of_vertex(VertexQuestion::Draw, word),
-        Verb::Trace => of_vertex(VertexQuestion::Trace, word),
-        Verb::Winners => of_vertex(VertexQuestion::Winners, word),
-        Verb::Decide => of_vertex(VertexQuestion::Decide, word),
+        Verb::Select => Some(Command::Select(name)),
+        Verb::Exclude => Some(Command::Exclude(name)),
+        Verb::Retract => Some(Command::Retract(name)),
+        Verb::Known => Some(Command::Known(name)),
         _ => None,
+    }
+}
+
+/// Returns a command with a number.
+fn numbered_command<'t>(verb: Verb, n: u64) -> Option<Command<'t>>
+    ensures { option_map command_shown result ≡ numbered_command verb n }
+{
+    match verb {
+        Verb::Undo => Some(Command::Undo(Some(n))),
+        Verb::Redo => Some(Command::Redo(Some(n))),
+        Verb::Keep => Some(Command::Keep(n)),
+        Verb::Forget => Some(Command::Forget(n)),
+        Verb::Commit => Some(Command::Commit(n)),
+        Verb::Settle => Some(Command::Settle(Some(n))),
+        _ => None,
+    }
+}
+
+/// Returns what a verb asks of a vertex.
+fn question_of(verb: Verb) -> Option<VertexQuestion>
+    ensures { result ≡ question_of verb }
+{
+    match verb {
+        Verb::Example => Some(VertexQuestion::Example(Which::Hopeful)),
+        Verb::Counterexample => Some(VertexQuestion::Example(Which::Dual)),
+        Verb::Offer => Some(VertexQuestion::Offer),
+        Verb::Needs => Some(VertexQuestion::Needs),
+        Verb::Repair => Some(VertexQuestion::Repair),
+        Verb::Lost => Some(VertexQuestion::Lost(Which::Hopeful)),
+        Verb::Won => Some(VertexQuestion::Lost(Which::Dual)),
+        Verb::Plan => Some(VertexQuestion::Moves(Which::Hopeful)),
+        Verb::Spoil => Some(VertexQuestion::Moves(Which::Dual)),
+        Verb::Draw => Some(VertexQuestion::Draw),
+        Verb::Trace => Some(VertexQuestion::Trace),
+        Verb::Winners => Some(VertexQuestion::Winners),
+        Verb::Decide => Some(VertexQuestion::Decide),
+        _ => None,
+    }
+}
+
+/// Returns a command about a vertex.
+fn vertex_command<'t>(verb: Verb, vertex: Vertex<'t>) -> Option<Command<'t>>
+    ensures { option_map command_shown result ≡ option_map (ask_of (vertex_shown vertex.entry)) (question_of verb) }
+{
+    match question_of(verb) {
+        Some(question) => Some(Command::Ask(Inquiry::OfVertex(question, vertex))),
+        None => None,
     }
 }
 
 /// Returns a command with one argument.
-fn command_with(verb: Verb, word: &[u8]) -> Option<Command>
-    ensures { option_map command_shown result ≡ command_with verb word.now }
+fn command_with<'t>(verb: Verb, argument: Argument<'t>) -> Option<Command<'t>>
+    ensures { option_map command_shown result ≡ command_with verb (argument_shown argument.entry) }
 {
-    match verb {
-        Verb::Select if is_name(word) => Some(Command::Select(word)),
-        Verb::Exclude if is_name(word) => Some(Command::Exclude(word)),
-        Verb::Retract if is_name(word) => Some(Command::Retract(word)),
-        Verb::Undo => Some(Command::Undo(Some(number(word, LARGEST_SERIAL)?))),
-        Verb::Redo => Some(Command::Redo(Some(number(word, LARGEST_SERIAL)?))),
-        Verb::Keep => Some(Command::Keep(number(word, LARGEST_SERIAL)?)),
-        Verb::Forget => Some(Command::Forget(number(word, LARGEST_SERIAL)?)),
-        Verb::Commit => Some(Command::Commit(number(word, LARGEST_SERIAL)?)),
-        Verb::Settle => Some(Command::Settle(Some(number(word, MOST_SWEEPS)?))),
-        Verb::Known if is_name(word) => Some(Command::Known(word)),
-        _ => Some(Command::Ask(asked(verb, word)?)),
+    match argument {
+        Argument::Name(name) => feature_command(verb, name),
+        Argument::Number(n) => numbered_command(verb, n),
+        Argument::Vertex(vertex) => vertex_command(verb, vertex),
+        Argument::Subject(inquiry) => Some(Command::Ask(inquiry)),
+        Argument::Table(_) | Argument::Asserted(_, _) | Argument::Claim(_) | Argument::Exact(_) =>
+            None,
     }
 }
 
-fn table_named(word: &[u8]) -> Option<Which>
-    ensures { result ≡ table_named word.now }
+/// Returns a command with one argument, if there are no more.
+fn command_with_few<'t>(
+    verb: Verb,
+    argument: Argument<'t>,
+    more: &[Argument<'t>],
+) -> Option<Command<'t>>
+    ensures { option_map command_shown result
+        ≡ command_with_few verb (argument_shown argument.entry) (map argument_shown more.now) }
 {
-    if same(word, b"hopeful") {
-        Some(Which::Hopeful)
-    } else if same(word, b"dual") {
-        Some(Which::Dual)
-    } else {
-        None
+    match more {
+        [] => command_with(verb, argument),
+        [_, ..] => None,
     }
 }
 
-/// Returns a command with two arguments.
-fn command_with_two<'t>(verb: Verb, first: &[u8], second: &'t [u8]) -> Option<Command<'t>>
-    ensures { option_map command_shown result ≡ command_with_two verb first.now second.now }
+fn vertex_in<'t>(argument: Argument<'t>) -> Option<Vertex<'t>>
+    ensures { option_map vertex_shown result ≡ vertex_in (argument_shown argument.entry) }
 {
-    match verb {
-        Verb::Lift => {
-            let table = table_named(first)?;
-            let vertex = vertex_named(second)?;
-            Some(Command::Lift(table, vertex))
-        }
+    match argument {
+        Argument::Vertex(vertex) => Some(vertex),
         _ => None,
     }
 }
 
-/// Returns a command with a first argument and at most one more.
-fn command_with_few<'t>(verb: Verb, first: &'t [u8], more: &[&'t [u8]]) -> Option<Command<'t>>
-    ensures { option_map command_shown result ≡ command_with_few verb first.now (texts more.now) }
-{
-    match more {
-        [] => command_with(verb, first),
-        [second] => command_with_two(verb, first, second),
-        [_, _, ..] => None,
-    }
-}
-
-/// Returns the vertices that words name.
-fn vertices_of<'t>(alloc: Global, words: &[&'t [u8]]) -> Result<Option<Vec<Vertex<'t>>>, AllocError>
-    ensures { IfOk result (λ found.
-        option_map (λ vs. map vertex_shown vs.items) found ≡ vertices_of (texts words.now)) }
+/// Returns the vertices that arguments name, if each names one.
+fn vertices_in<'t>(
+    alloc: Global,
+    arguments: &[Argument<'t>],
+) -> Result<Option<Vec<Vertex<'t>>>, AllocError>
+    ensures { IfOk result (λ found. option_map (λ vs. map vertex_shown vs.items) found
+        ≡ vertices_in (map argument_shown arguments.now)) }
 {
     let mut vertices = Vec::new(alloc);
-    for word in words {
-        let Some(vertex) = vertex_named(word) else {
+    for argument in arguments {
+        let Some(vertex) = vertex_in(*argument) else {
             return Ok(None);
         };
         vertices.push(vertex)?;
@@ -584,100 +317,65 @@ fn vertices_of<'t>(alloc: Global, words: &[&'t [u8]]) -> Result<Option<Vec<Verte
     Ok(Some(vertices))
 }
 
-fn claim_named(word: &[u8]) -> Option<Claim>
-    ensures { result ≡ claim_named word.now }
+fn table_in(argument: Argument<'_>) -> Option<Which>
+    ensures { result ≡ table_in (argument_shown argument.entry) }
 {
-    if same(word, b"hopeless") {
-        Some(Claim::Hopeless)
-    } else if same(word, b"possible") {
-        Some(Claim::Possible)
-    } else if same(word, b"sure") {
-        Some(Claim::Sure)
-    } else if same(word, b"unsure") {
-        Some(Claim::Unsure)
-    } else {
-        None
+    match argument {
+        Argument::Table(table) => Some(table),
+        _ => None,
     }
 }
 
-/// Returns the verdicts that words spell.
-fn claims_of(alloc: Global, words: &[&[u8]]) -> Result<Option<Vec<Claim>>, AllocError>
-    ensures { IfOk result (λ found. option_map (λ claims. claims.items) found ≡ claims_of (texts words.now)) }
-{
-    let mut claims = Vec::new(alloc);
-    for word in words {
-        let Some(claim) = claim_named(word) else {
-            return Ok(None);
-        };
-        claims.push(claim)?;
-    }
-    Ok(Some(claims))
-}
-
-/// Returns the assertion of a word about the page as a whole.
-fn state_named(word: &[u8]) -> Option<Assertion>
-    ensures { option_map assertion_shown result ≡ state_named word.now }
-{
-    if same(word, b"full") {
-        Some(Assertion::Full)
-    } else if same(word, b"settled") {
-        Some(Assertion::Settled)
-    } else {
-        None
-    }
-}
-
-/// Returns the assertion of words about a vertex, with its verdicts.
-fn verdicts_of<'t>(
-    alloc: Global,
-    first: &'t [u8],
-    more: &[&[u8]],
-) -> Result<Option<Assertion<'t>>, AllocError>
-    ensures { IfOk result (λ found. option_map assertion_shown found
-        ≡ verdicts_of (vertex_named first.now) (claims_of (texts more.now))) }
-{
-    let Some(vertex) = vertex_named(first) else {
-        return Ok(None);
-    };
-    match claims_of(alloc, more)? {
-        Some(claims) => Ok(Some(Assertion::Verdicts(vertex, claims))),
-        None => Ok(None),
-    }
-}
-
-/// Returns the assertion of words: about the page as a whole, or about a vertex.
-pub(crate) fn assertion_of<'t>(
-    alloc: Global,
-    first: &'t [u8],
-    more: &[&[u8]],
-) -> Result<Option<Assertion<'t>>, AllocError>
-    ensures { IfOk result (λ found.
-        option_map assertion_shown found ≡ assertion_of first.now (texts more.now)) }
+/// Returns a lift of a table and a vertex.
+fn lift_of<'t>(first: Argument<'t>, more: &[Argument<'t>]) -> Option<Command<'t>>
+    ensures { option_map command_shown result
+        ≡ lift_of (argument_shown first.entry) (map argument_shown more.now) }
 {
     match more {
-        [] => Ok(state_named(first)),
-        [_, ..] => verdicts_of(alloc, first, more),
+        [] => None,
+        [second] => {
+            let table = table_in(first)?;
+            let vertex = vertex_in(*second)?;
+            Some(Command::Lift(table, vertex))
+        }
+        [_, _, ..] => None,
     }
 }
 
 /// Returns the command of a verb and its arguments.
-fn command_of<'t>(
+fn command_from<'t>(
     alloc: Global,
     verb: Verb,
-    args: &[&'t [u8]],
+    arguments: &[Argument<'t>],
 ) -> Result<Option<Command<'t>>, AllocError>
-    ensures { IfOk result (λ found. option_map command_shown found ≡ command_of verb (texts args.now)) }
+    ensures { IfOk result (λ found. option_map command_shown found
+        ≡ command_from verb (map argument_shown arguments.now)) }
 {
-    let [first, more @ ..] = args else {
+    let [first, more @ ..] = arguments else {
         return Ok(bare_command(verb));
     };
     match verb {
-        Verb::Show => match vertices_of(alloc, args)? {
+        Verb::Show => match vertices_in(alloc, arguments)? {
             Some(vertices) => Ok(Some(Command::Look(Lookup::Vertices(vertices)))),
             None => Ok(None),
         },
-        Verb::Assert => Ok(assert_command(alloc, first, more)?),
-        _ => Ok(command_with_few(verb, first, more)),
+        Verb::Lift => Ok(lift_of(*first, more)),
+        Verb::Assert => assert_command(alloc, *first, more),
+        _ => Ok(command_with_few(verb, *first, more)),
+    }
+}
+
+/// Returns the command of a verb, and of words behind it that fit its form.
+fn command_of<'t>(
+    alloc: Global,
+    verb: Verb,
+    words: &[&'t [u8]],
+) -> Result<Option<Command<'t>>, AllocError>
+    ensures { IfOk result (λ found. option_map command_shown found ≡ command_of verb (texts words.now)) }
+{
+    match arguments_of(alloc, &form_of(verb), words)? {
+        Some(arguments) => command_from(alloc, verb, &arguments),
+        None => Ok(None),
     }
 }
 

@@ -1,9 +1,10 @@
-//! Assertions of exact verdicts.
-ghost use Rattle.std.specs.Prelude.{◌≡◌, IfOk, option_map};
-ghost use Rattle.vpg_script.specs.Script.{assert_command, exact_named, exact_of};
-ghost use Rattle.vpg_script.specs.View.{command_shown, inquiry_shown, texts};
+//! Assertions.
+ghost use Rattle.std.specs.Prelude.{◌≡◌, IfOk, map, option_map};
+ghost use Rattle.vpg_script.specs.Script.{assert_command, asserted, claim_in, claims_in, exact_in, exact_named, exact_or, state_command, verdicts_command};
+ghost use Rattle.vpg_script.specs.View.{argument_shown, command_shown, vertex_shown};
 
-use crate::command::{Command, Inquiry, Lookup, assertion_of, same, vertex_named};
+use crate::arguments::{Argument, State, same};
+use crate::command::{Assertion, Claim, Command, Inquiry, Lookup, Vertex};
 use std::alloc::{AllocError, Global};
 
 /// An exact verdict of a vertex, that a line asserts.
@@ -17,7 +18,7 @@ pub enum ExactVerdict {
     Mixed,
 }
 
-fn exact_named(word: &[u8]) -> Option<ExactVerdict>
+pub(crate) fn exact_named(word: &[u8]) -> Option<ExactVerdict>
     ensures { result ≡ exact_named word.now }
 {
     if same(word, b"won") {
@@ -31,34 +32,112 @@ fn exact_named(word: &[u8]) -> Option<ExactVerdict>
     }
 }
 
-/// Returns the question whether a vertex has an exact verdict, if the words spell one.
-fn exact_of<'t>(first: &'t [u8], more: &[&[u8]]) -> Option<Inquiry<'t>>
-    ensures { option_map inquiry_shown result ≡ exact_of first.now (texts more.now) }
+fn exact_in(argument: Argument<'_>) -> Option<ExactVerdict>
+    ensures { result ≡ exact_in (argument_shown argument.entry) }
 {
-    match more {
-        [] => None,
-        [word] => {
-            let verdict = exact_named(word)?;
-            let vertex = vertex_named(first)?;
-            Some(Inquiry::OfExact(verdict, vertex))
-        }
-        [_, _, ..] => None,
+    match argument {
+        Argument::Exact(verdict) => Some(verdict),
+        _ => None,
     }
 }
 
-/// Returns the command that asserts what the words say: an exact verdict, or else what a lookup shows.
+fn claim_in(argument: Argument<'_>) -> Option<Claim>
+    ensures { result ≡ claim_in (argument_shown argument.entry) }
+{
+    match argument {
+        Argument::Claim(claim) => Some(claim),
+        _ => None,
+    }
+}
+
+/// Returns the verdicts that arguments name, if each names one.
+fn claims_in(alloc: Global, arguments: &[Argument<'_>]) -> Result<Option<Vec<Claim>>, AllocError>
+    ensures { IfOk result (λ found. option_map (λ claims. claims.items) found
+        ≡ claims_in (map argument_shown arguments.now)) }
+{
+    let mut claims = Vec::new(alloc);
+    for argument in arguments {
+        let Some(claim) = claim_in(*argument) else {
+            return Ok(None);
+        };
+        claims.push(claim)?;
+    }
+    Ok(Some(claims))
+}
+
+/// Returns the assertion about the page as a whole.
+fn state_command<'t>(state: State) -> Command<'t>
+    ensures { command_shown result ≡ state_command state }
+{
+    match state {
+        State::Full => Command::Look(Lookup::Assert(Assertion::Full)),
+        State::Settled => Command::Look(Lookup::Assert(Assertion::Settled)),
+    }
+}
+
+/// Returns the assertion of the verdicts of a vertex that arguments name.
+fn verdicts_command<'t>(
+    alloc: Global,
+    vertex: Vertex<'t>,
+    arguments: &[Argument<'_>],
+) -> Result<Option<Command<'t>>, AllocError>
+    ensures { IfOk result (λ found. option_map command_shown found
+        ≡ option_map (verdicts_command (vertex_shown vertex.entry)) (claims_in (map argument_shown arguments.now))) }
+{
+    let Some(claims) = claims_in(alloc, arguments)? else {
+        return Ok(None);
+    };
+    let assertion = Assertion::Verdicts(vertex, claims);
+    Ok(Some(Command::Look(Lookup::Assert(assertion))))
+}
+
+/// Returns the assertion of a vertex: of the exact verdict if there is one, or else of those that arguments name.
+fn exact_or<'t>(
+    alloc: Global,
+    vertex: Vertex<'t>,
+    exact: Option<ExactVerdict>,
+    arguments: &[Argument<'_>],
+) -> Result<Option<Command<'t>>, AllocError>
+    ensures { IfOk result (λ found. option_map command_shown found
+        ≡ exact_or (vertex_shown vertex.entry) exact (map argument_shown arguments.now)) }
+{
+    match exact {
+        Some(verdict) => Ok(Some(Command::Ask(Inquiry::OfExact(verdict, vertex)))),
+        None => verdicts_command(alloc, vertex, arguments),
+    }
+}
+
+/// Returns the assertion of a word alone, or of a vertex and the verdicts that arguments name.
+fn asserted<'t>(
+    alloc: Global,
+    state: Option<State>,
+    vertex: Vertex<'t>,
+    arguments: &[Argument<'_>],
+) -> Result<Option<Command<'t>>, AllocError>
+    ensures { IfOk result (λ found. option_map command_shown found
+        ≡ asserted state (vertex_shown vertex.entry) (map argument_shown arguments.now)) }
+{
+    match arguments {
+        [] => match state {
+            Some(state) => Ok(Some(state_command(state))),
+            None => Ok(None),
+        },
+        [verdict] => exact_or(alloc, vertex, exact_in(*verdict), arguments),
+        [_, _, ..] => verdicts_command(alloc, vertex, arguments),
+    }
+}
+
+/// Returns the command that asserts what its arguments say.
 pub(crate) fn assert_command<'t>(
     alloc: Global,
-    first: &'t [u8],
-    more: &[&[u8]],
+    first: Argument<'t>,
+    more: &[Argument<'_>],
 ) -> Result<Option<Command<'t>>, AllocError>
-    ensures { IfOk result (λ found. option_map command_shown found ≡ assert_command first.now (texts more.now)) }
+    ensures { IfOk result (λ found. option_map command_shown found
+        ≡ assert_command (argument_shown first.entry) (map argument_shown more.now)) }
 {
-    if let Some(inquiry) = exact_of(first, more) {
-        return Ok(Some(Command::Ask(inquiry)));
-    }
-    match assertion_of(alloc, first, more)? {
-        Some(assertion) => Ok(Some(Command::Look(Lookup::Assert(assertion)))),
-        None => Ok(None),
+    match first {
+        Argument::Asserted(state, vertex) => asserted(alloc, state, vertex, more),
+        _ => Ok(None),
     }
 }

@@ -10,6 +10,9 @@
 //! a new `VertexQuestion`, and one about the page as a whole a new `PageQuestion`. The crate of answers has to know it;
 //! the crate of runs does not.
 //!
+//! The forms of commands are one table, `VERBS` with `form_of`: lines are read by it, messages and help are made of it.
+//! `verb_named` returns the command that a word names, and `argument_of` what a word says as an argument.
+//!
 //! A vertex is named by its identifier, or by a name. `Callings` are the names of vertices, and `meant` returns the
 //! request with the identifier of each vertex in place of its name.
 //!
@@ -21,18 +24,20 @@
 //! `Ending`, or a `RunFault` if the script was not carried out to its end. Tones decide what goes on and how a script
 //! ends: no text is read for it. `Device` makes a `Source` of each reader, and a `Sink` of each writer.
 //!
-//! The meaning of a line is defined in `specs/Script`, that of its names in `specs/Calling`, the next line of a text in
-//! `specs/Lines`, and a failed write in `specs/Devices`. Answers are defined in `specs/Answer`, their forms in
-//! `specs/Framing`, the output in `specs/Output`, that of scripts in a manner in `specs/Manners`, and results in
-//! `specs/Results`. All are this project's own.
+//! The meaning of a line is defined in `specs/Script`, by the forms of `specs/Forms`, and that of its names in
+//! `specs/Calling`; the next line of a text in `specs/Lines`, and a failed write in `specs/Devices`. `specs/Answer`
+//! defines answers, `specs/Framing` their forms, `specs/Output` the output, `specs/Manners` that of scripts in a
+//! manner, and `specs/Results` results. All are this project's own.
 #![tactic(auto)]
 
 mod answering;
+mod arguments;
 mod calling;
 mod command;
 mod device;
 mod exact;
 mod fault;
+mod forms;
 mod framing;
 pub mod laws;
 mod lines;
@@ -41,6 +46,7 @@ mod serving;
 mod tone;
 mod words;
 
+pub use arguments::{Argument, State, argument_of};
 pub use calling::Callings;
 pub use command::{
     Assertion, Claim, Command, Inquiry, LONGEST_LINE, LineFault, Lookup, PageQuestion, ReadFault,
@@ -49,6 +55,7 @@ pub use command::{
 pub use device::{Device, Failed, Sink, Source};
 pub use exact::ExactVerdict;
 pub use fault::RunFault;
+pub use forms::{CommandForm, Parameter, VERBS, Verb, form_of, verb_named};
 pub use framing::Form;
 pub use lines::{MOST_READS, Next, NextFault, next_line, pass_line};
 pub use meaning::meant;

@@ -1,8 +1,9 @@
 //! The program's side to a person: the words that it is called with, and a script that is typed.
 //!
 //! `read` takes the words, with the program's name first, and returns a `Task` and whether its faults are explained. If
-//! there is no task it returns what `clap` prints: help, the version, or the words' fault. `docs/FORMATS.md` lists
-//! words and options. No contract says which words ask for which task: tests do.
+//! there is no task it returns what `clap` prints: help, the version, or the words' fault. `help_end` is the end of the
+//! help, with the list of commands, `command_list`; their lines are those of the forms of `vpg_script`.
+//! `docs/FORMATS.md` lists words and options. No contract says which words ask for which task: tests do.
 //!
 //! `Typed` is a script that is typed in: it hands each line on as it comes, and carries out `help`, `goals` and `quit`
 //! itself. After some answers it hands on lines of its own. They ask why a decision is refused, and what a settled page
@@ -28,4 +29,4 @@ pub use hearing::{Ear, Heard};
 pub use reading::{not_text, read};
 pub use task::{Invocation, Picture, Task};
 pub use typing::{Setting, Typed};
-pub use usage::command_list;
+pub use usage::{command_list, help_end};

@@ -1,6 +1,6 @@
 //! The parser of the program's words.
 use crate::task::{Invocation, Picture, Task};
-use crate::usage::{ABOUT, AFTER, SHORT_AFTER};
+use crate::usage::{ABOUT, SHORT_AFTER};
 use crate::verbs::{Argument, Kind, VERBS, Verb, verb_of};
 use clap::builder::ValueParser;
 use clap::error::ErrorKind;
@@ -99,20 +99,20 @@ fn with_verbs<'a>(alloc: Global, command: Command<'a>) -> Result<Command<'a>, Al
     Ok(command)
 }
 
-/// Returns the command with everything that the program may be called with.
-fn command<'a>(alloc: Global) -> Result<Command<'a>, AllocError> {
+/// Returns the command with everything that the program may be called with. Its long help ends with this text.
+fn command<'a>(alloc: Global, help_end: &'a str) -> Result<Command<'a>, AllocError> {
     let command = Command::new(alloc, "vpgdesk")
         .version("0.1.0")
         .about("Configures a product family whose behaviour is a variability parity game")
         .long_about(ABOUT)
         .after_help(SHORT_AFTER)
-        .after_long_help(AFTER);
+        .after_long_help(help_end);
     with_verbs(alloc, command)
 }
 
 /// Returns the message about words that are wrong.
 fn wrong(alloc: Global, kind: ErrorKind, why: &str) -> Result<Error, AllocError> {
-    match command(alloc) {
+    match command(alloc, "") {
         Ok(mut command) => command.error(kind, why),
         Err(fault) => Err(fault),
     }
@@ -141,7 +141,7 @@ fn unexpected(alloc: Global, name: &str, word: &str) -> Result<Error, AllocError
     let told = format!(in alloc; "unexpected argument '{word}' found")?;
     let command = match verb_of(name) {
         Some(verb) => command_of(alloc, &verb),
-        None => command(alloc),
+        None => command(alloc, ""),
     };
     match command {
         Ok(mut command) => command.error(ErrorKind::UnknownArgument, told.as_str()),
@@ -428,9 +428,13 @@ fn accepted<'a>(alloc: Global, matches: &ArgMatches<'a>) -> Result<Invocation<'a
 }
 
 /// Parses the words, the first of them being the program's name; `Err` is what `clap` prints, also help and the
-/// version.
-pub fn read<'a>(alloc: Global, words: &'a [String]) -> Result<Invocation<'a>, Error> {
-    match command(alloc)?.try_get_matches_from(words) {
+/// version. The help ends with the text of `help_end`.
+pub fn read<'a>(
+    alloc: Global,
+    words: &'a [String],
+    help_end: &'a str,
+) -> Result<Invocation<'a>, Error> {
+    match command(alloc, help_end)?.try_get_matches_from(words) {
         Ok(matches) => accepted(alloc, &matches),
         Err(told) => Err(told),
     }

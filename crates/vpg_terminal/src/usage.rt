@@ -1,4 +1,6 @@
 //! The text of the help.
+use std::alloc::{AllocError, Global};
+use vpg_script::{VERBS, form_of};
 
 /// The program's purpose, in a few lines.
 pub(crate) const ABOUT: &str = "\
@@ -16,62 +18,27 @@ requirements, formulas of the mu-calculus. Each requirement is a vertex of their
 game: it is sure where it holds in every product that is left, and hopeless
 where it holds in none.";
 
-/// More than the words say: scripts, statuses, examples.
-pub(crate) const AFTER: &str = "\
+/// What the help says of scripts before the commands.
+const BEFORE: &str = "\
 Without a command a script is read from standard input and carried out on a
 small family that is built in: the features r (the root), f and g, and the
 vertices 0 and 1.
 
-Scripts, one command a line (F a feature, S a change's number, V a vertex: its
+Scripts, ";
+
+/// The first lines of the list of commands.
+const LIST_BEGIN: &str = "\
+one command a line (F a feature, S a change's number, V a vertex: its
 identifier, the name of its requirement, or its name in quotes, K a harvest's
-number, N a number):
-  select F, exclude F    decide that F is in or out
-  retract F, reset       take that decision back; take all of them back
-  undo [S], redo [S]     the latest change, or the change S
-  keep S                 give up the right to undo S and all before it
-  forget S               give up the right to redo S and all behind it
-  settle [N]             raise both tables until they are settled, or in at most
-                         N sweeps
-  lift hopeful V         raise one vertex of one table;
-  lift dual V            the same of the other
-  harvest, commit K      settle copies of the tables; take them into the page
-  show, trail            verdicts; the page's entries
-  show V ..              the verdicts of these vertices
-  products, plan         known features; Even's moves, where all is known
-  count                  how many vertices have which verdict; whether the page
-                         is settled, full or empty
-  draw                   a picture of the game, for Graphviz;
-  draw V                 the same of what can be reached from V, by moves that
-                         win in every product left, where V is hopeless or sure
-  changed                verdicts that are other than at the last `changed`
-  known F                whether F is known to be in or out
-  assert V WORD ..       whether V is hopeless, possible, sure or unsure, and
-                         stays so
-  assert V won           whether a product is left, and Even wins at V in each;
-                         lost: Odd in each; mixed: each of them in some
-  assert full            whether each feature is known;
-  assert settled         whether the page is settled
-  why V, why F           decisions that make V's verdicts so, or F known
-  why +F, why -F         decisions that contradict one more
-  example V              the first product left in which Even wins at V
-  counterexample V       the same of Odd
-  lost V                 decisions because of which Even wins at V in no product
-  won V                  the same of Odd
-  offer V                what each further decision would make of V
-  needs V                what every product has that is left and won at V
-  repair V               what to retract so that Even wins at V in some product
-  spoil V                moves of Odd that win at V in every product left;
-  plan V                 the same of Even
-  trace V                where V is hopeless or sure, how the winner wins there,
-                         as steps of the system that stands in place of a game
-  winners V              which products that are left Even wins at V, and which
-                         Odd, in parts
-  decide V               who wins at V in the products that are left, exactly
-  forced                 what every product has that is left
-  empty                  decisions that leave no product; else the first left
-  number                 how many products are left
+number, N a number):";
+
+/// The lines of the list after those of the commands.
+const LIST_END: &str = "
   # ..                   a comment
-  N: COMMAND             session N (1 to 64) gives the command
+  N: COMMAND             session N (1 to 64) gives the command";
+
+/// What the help says after the commands: statuses, examples.
+const BEHIND: &str = "
 
 Status: 0; 1 where the input is refused or something fails (an answer
 `refused ..` to a line leaves 0), told by one line on standard error, and with
@@ -92,11 +59,29 @@ Examples:
 
 All formats, commands, answers and faults: docs/FORMATS.md";
 
-/// Returns the help on the commands of scripts: the lines about them.
-pub fn command_list() -> &'static str {
-    let (_, behind) = AFTER.split_once("Scripts, ").unwrap_or(("", AFTER));
-    let (list, _) = behind.split_once("\n\n").unwrap_or((behind, ""));
-    list
+/// Appends the list of commands of scripts.
+fn put_commands(list: &mut String) -> Result<(), AllocError> {
+    list.push_str(LIST_BEGIN)?;
+    for verb in VERBS {
+        list.push_str(form_of(verb).help)?;
+    }
+    list.push_str(LIST_END)
+}
+
+/// Returns the help on the commands of scripts: a list of them.
+pub fn command_list(alloc: Global) -> Result<String, AllocError> {
+    let mut list = String::new(alloc);
+    put_commands(&mut list)?;
+    Ok(list)
+}
+
+/// Returns the end of the long help, more than the words say: scripts, statuses, examples.
+pub fn help_end(alloc: Global) -> Result<String, AllocError> {
+    let mut text = String::new(alloc);
+    text.push_str(BEFORE)?;
+    put_commands(&mut text)?;
+    text.push_str(BEHIND)?;
+    Ok(text)
 }
 
 /// The end of the short help, a line for each subject.

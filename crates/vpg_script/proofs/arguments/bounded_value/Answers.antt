@@ -2,7 +2,7 @@ use Rattle.std.proofs.Common.{ℕ, ◌+◌, ◌*◌, min, ap, sym, take, ◌∙�
 use Rattle.std.specs.Str.Parse.{digits_value}
 use Rattle.std.proofs.lemmas.Int.Digits.{digits_value_more}
 use Rattle.vpg_script.proofs.Commands.{capped}
-use Rattle.vpg_script.proofs.command.bounded_value.Goals as goal
+use Rattle.vpg_script.proofs.arguments.bounded_value.Goals as goal
 
 pub loop-b-preserved : goal.loop-b-preserved
 loop-b-preserved c =
