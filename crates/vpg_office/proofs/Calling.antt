@@ -1,6 +1,6 @@
 -- What a call of the desk means for the log.
-use Rattle.std.proofs.Common.{Result, Ok, Err, IfOk, IfErr, ◌≡◌, ℕ, ◌+◌, ◌<◌, ◌≤◌, Bool, List, [], ◌∷◌, ◌++◌, length, drop, Option, Some, None, IfSome, refl, sym, ap, ◌∙◌, subst, arith, append_assoc, append-nil, length-append}
-use Rattle.std.specs.Prelude.{IfNone, OnOk}
+use Rattle.std.proofs.Common.{Result, Ok, Err, IfOk, IfErr, ◌≡◌, ℕ, ◌+◌, ◌<◌, ◌≤◌, List, [], ◌∷◌, ◌++◌, length, drop, Option, Some, None, IfSome, refl, sym, ap, ◌∙◌, subst, arith, append_assoc, append-nil, length-append, eq-eqb}
+use Rattle.std.specs.Prelude.{IfNone, OnOk, IsTrue}
 use mathlib.Core.List.{IsPrefix}
 use Rattle.boxcar.specs.Table.{Shelves}
 use Rattle.vpg_diagram.specs.DiagramText.{NamedDiagram}
@@ -10,24 +10,21 @@ use Rattle.vpg_desk.specs.Book as book
 use Rattle.vpg_desk.specs.Book.{Family, Book, Call, Reply, Page, PageIs, opened, next, IsReply}
 use Rattle.vpg_faults.specs.declared.refusal.Refusal.{Refusal}
 use Rattle.vpg_desk.specs.Desk.{family_of}
-use Rattle.vpg_desk.specs.History.{Event, book_after}
+use Rattle.vpg_desk.specs.History.{Event, book_after, gives_undo}
 use Rattle.vpg_desk.specs.Lawful.{HandsIn, IsLawful}
 use Rattle.vpg_desk.specs.State.{DeskState, IsStep, Replies, setting_of}
 use Rattle.vpg_desk.proofs.Tokens.{counts_are_limited}
-use Rattle.vpg_measure.specs.Orders.{HarvestView}
-use Rattle.vpg_faults.specs.declared.fault.CommitFault.{CommitFault}
-use Rattle.vpg_office.specs.Faults.{Stops, StandsFor, Tells, CommitTells, Begins, logged}
+use Rattle.vpg_office.specs.Faults.{Stops, StandsFor, RefusedFor, TellsOf, Begins, logged}
 use Rattle.vpg_office.specs.Fronts.{IsHistory, Extends, calls_by, event, family_between}
-use Rattle.vpg_office.specs.Kept.{IsChronicle}
+use Rattle.vpg_office.specs.Kept.{HasOwn, IsChronicle}
 use Rattle.vpg_office.specs.Locked.{IsLog}
-use Rattle.vpg_office.specs.Made.{IsEntered, IsRefused, Leaves}
+use Rattle.vpg_office.specs.Made.{IsEntered, IsLast, IsRefused, Leaves}
 use Rattle.vpg_office.specs.Story.{IsNamed, call_of, reply_of}
-use Rattle.vpg_office.specs.Token.{EndsWith}
 use Rattle.vpg_office.specs.declared.asked.Answer.{Answer}
-use Rattle.vpg_office.specs.declared.asked.Answer.TheVariants.{Refused, PageIs as Paged, VerdictIs as Judged}
+use Rattle.vpg_office.specs.declared.asked.Answer.TheVariants.{Changed, Refused}
 use Rattle.vpg_office.specs.declared.asked.SessionCall.{SessionCall}
-use Rattle.vpg_office.specs.declared.asked.SessionCall.TheVariants as ask
 use Rattle.vpg_office.specs.declared.chronicle.Chronicle.{Chronicle}
+use Rattle.vpg_office.specs.declared.front.Own.{Own}
 use Rattle.vpg_office.specs.declared.fault.Fault.{Fault}
 use Rattle.vpg_office.specs.declared.fault.Fault.TheVariants.{LogFull, Doubled, Refused as DeskRefuses, Memory}
 use Rattle.vpg_office.proofs.Stories.{book_more}
@@ -97,45 +94,34 @@ pub kept_history : (row : Shelves) (game : NamedGame) (diagram : NamedDiagram) (
 kept_history row game diagram c newest kept = subst (IsHistory (family_between game diagram)) (sym kept.newest_is) kept.is_story.history
 
 -- a call that was made extends the front
-pub entered_extends : {game : NamedGame} {diagram : NamedDiagram} {log front : List Event} {session : ℕ} {asked : SessionCall} {answer : Answer} {new : List Event} → IsPrefix front log → IsEntered game diagram log front session asked answer new →
-    Extends (family_between game diagram) front session (call_of asked answer) (reply_of (family_between game diagram) (book_after (family_between game diagram) opened log).present answer) new
-entered_extends {game} {diagram} {log} {front} {session} {asked} {answer} p e = record {
+pub entered_extends : {family : Family} {log front : List Event} {session : ℕ} {call : Call} {reply : Reply} {new : List Event} → IsPrefix front log → IsEntered family log front session call reply new → Extends family front session call reply new
+entered_extends {family} {log} {front} {session} {call} {reply} p e = record {
   between = p.0;
-  is = e.is ∙ ap (λ (l : List Event). l ++ event session (call_of asked answer) (reply_of (family_between game diagram) (book_after (family_between game diagram) opened log).present answer) ∷ []) (sym p.1);
+  is = e.is ∙ ap (λ (l : List Event). l ++ event session call reply ∷ []) (sym p.1);
   none = ap (calls_by session) (sym (rest_of front log p)) ∙ e.none;
   history = e.history;
 }
 
--- a page leaves the book
-pub page_leaves : {game : NamedGame} {diagram : NamedDiagram} {log front : List Event} {session : ℕ} {new : List Event} → IsEntered game diagram log front session ask.Page Paged new →
-    book_after (family_between game diagram) opened new ≡ book_after (family_between game diagram) opened log
-page_leaves {game} {diagram} {log} {front} {session} e =
-    ap (book_after (family_between game diagram) opened) e.is ∙ book_more (family_between game diagram) log (event session book.Page (book.PageIs (book_after (family_between game diagram) opened log).present))
+-- after it the log has the front of the call's token
+pub entered_begins : {T E L : Type 0} (family : Family) (log front : List Event) (session : ℕ) (call : Call) (new : List Event) (r : Result T E) (own : Option (Own L)) (reply : T → Reply) → IfSome own (HasOwn log) →
+    IfOk r (λ t. IsEntered family log front session call (reply t) new) → OnOk r (IfSome own (λ o. IsPrefix o.front new))
+entered_begins family log front session call new (Ok t) own reply has e =
+    then_some own (HasOwn log) (λ o. IsPrefix o.front new) (λ o h. prefix_more o.front log new (event session call (reply t)) h.0 e.is) has
+entered_begins family log front session call new (Err e) own reply has h = tt
 
--- and so does a verdict
-pub verdict_leaves : {game : NamedGame} {diagram : NamedDiagram} {log front : List Event} {session v : ℕ} {hopeless sure : Bool} {new : List Event} → IsEntered game diagram log front session (ask.Verdict v) (Judged hopeless sure) new →
-    book_after (family_between game diagram) opened new ≡ book_after (family_between game diagram) opened log
-verdict_leaves {game} {diagram} {log} {front} {session} {v} {hopeless} {sure} e =
-    ap (book_after (family_between game diagram) opened) e.is ∙ book_more (family_between game diagram) log (event session (book.Verdict v) (book.VerdictIs hopeless sure))
+-- a last call that leaves the book
+pub last_leaves : {L : Type 0} {family : Family} {own : Option (Own L)} {book : Book} {call : Call} {reply : Reply} {front : List Event} (last : IsLast family own book call reply front) →
+    next family (book_after family opened last.log) last.session call reply ≡ book_after family opened last.log → book_after family opened front ≡ book
+last_leaves {family = family} {call = call} {reply = reply} last stays = ap (book_after family opened) last.is ∙ book_more family last.log (event last.session call reply) ∙ stays ∙ sym last.leaves
 
--- and ends with it
-pub entered_ends : {game : NamedGame} {diagram : NamedDiagram} {log front : List Event} {session : ℕ} {asked : SessionCall} {answer : Answer} {new : List Event} (gives : Reply → Type 0) → IsEntered game diagram log front session asked answer new →
-    gives (reply_of (family_between game diagram) (book_after (family_between game diagram) opened log).present answer) → EndsWith gives new
-entered_ends {game} {diagram} {log} {front} {session} {asked} {answer} gives e gave = record {
-  before = log;
-  own = event session (call_of asked answer) (reply_of (family_between game diagram) (book_after (family_between game diagram) opened log).present answer);
-  is = e.is;
-  gave = gave;
-}
-
-pub stops_tell : {L F : Type 0} (family : Family) (limit : ℕ) (refusal : F → Option Refusal) (call : Call) (session : ℕ) (front newest : List Event) (f : Fault L F) → IsPrefix front newest → IsHistory family newest →
-    Stops limit front session newest f → Tells family limit refusal call session front front f
-stops_tell family limit refusal call session front newest (LogFull g) p h s =
+pub stops_tell : {L F : Type 0} (family : Family) (limit : ℕ) (refusal : F → Option Refusal) (Means : Refusal → Type 0) (session : ℕ) (front newest : List Event) (f : Fault L F) → IsPrefix front newest → IsHistory family newest →
+    Stops limit front session newest f → TellsOf family limit refusal Means session front front f
+stops_tell family limit refusal Means session front newest (LogFull g) p h s =
     (refl, subst (λ (l : List Event). IsPrefix front l) (sym s.0) p, ap length s.0 ∙ (omega (arith, s.1, s.2)), subst (IsHistory family) (sym s.0) h)
-stops_tell family limit refusal call session front newest (Doubled g) p h s =
+stops_tell family limit refusal Means session front newest (Doubled g) p h s =
     (refl, subst (λ (l : List Event). length l < limit) (sym s.0) s.1, record { between = p.0; is = s.0 ∙ sym p.1; some = subst (λ (l : List Event). 0 < calls_by session l) (rest_of front newest p) s.2; history = subst (IsHistory family) (sym s.0) h })
-stops_tell family limit refusal call session front newest (DeskRefuses fault) p h s = absurd s
-stops_tell family limit refusal call session front newest Memory p h s = refl
+stops_tell family limit refusal Means session front newest (DeskRefuses fault) p h s = absurd s
+stops_tell family limit refusal Means session front newest Memory p h s = refl
 
 module _ {row : Shelves} {game : NamedGame} {diagram : NamedDiagram} {limit : ℕ} {chronicle : Chronicle} {newest : List Event} {desk : DeskState} {room total left : ℕ} {shown : List Event}
     (i : IsLog row game diagram limit chronicle newest desk room total left shown) where
@@ -234,18 +220,9 @@ pub page_is : (state : DeskState) (entries : List Step) → Replies state Page (
 page_is state entries (None, (refuses, told)) = cc told
 page_is state entries (Some r, (refuses, told)) = absurd (cc told)
 
-pub commit_stops : {L : Type 0} (game : NamedGame) (diagram : NamedDiagram) (limit : ℕ) (harvest : HarvestView) (session : ℕ) (front newest : List Event) (f : Fault L CommitFault) → IsPrefix front newest →
-    IsHistory (family_between game diagram) newest → Stops limit front session newest f → CommitTells game diagram limit harvest session front front f
-commit_stops game diagram limit harvest session front newest (LogFull g) p h s =
-    (refl, subst (λ (l : List Event). IsPrefix front l) (sym s.0) p, ap length s.0 ∙ (omega (arith, s.1, s.2)), subst (IsHistory (family_between game diagram)) (sym s.0) h)
-commit_stops game diagram limit harvest session front newest (Doubled g) p h s =
-    (refl, subst (λ (l : List Event). length l < limit) (sym s.0) s.1, record { between = p.0; is = s.0 ∙ sym p.1; some = subst (λ (l : List Event). 0 < calls_by session l) (rest_of front newest p) s.2; history = subst (IsHistory (family_between game diagram)) (sym s.0) h })
-commit_stops game diagram limit harvest session front newest (DeskRefuses fault) p h s = absurd s
-commit_stops game diagram limit harvest session front newest Memory p h s = refl
-
 -- what the desk's own fault leaves
 leaves_refused : {L F : Type 0} (game : NamedGame) (diagram : NamedDiagram) (limit : ℕ) (refusal : F → Option Refusal) (log front : List Event) (session : ℕ) (asked : SessionCall) (new : List Event) (r : Refusal) (told : Fault L F) → StandsFor refusal r told →
-    IsNamed game diagram asked (Refused r) → IsEntered game diagram log front session asked (Refused r) new → Leaves game diagram limit refusal log front session asked new told
+    IsNamed game diagram asked (Refused r) → IsEntered (family_between game diagram) log front session (call_of asked (Refused r)) (book.Refused r) new → Leaves game diagram limit refusal log front session asked new told
 leaves_refused game diagram limit refusal log front session asked new r (LogFull g) s named entered = absurd s
 leaves_refused game diagram limit refusal log front session asked new r (Doubled g) s named entered = absurd s
 leaves_refused game diagram limit refusal log front session asked new r (DeskRefuses fault) s named entered = (r, (s, (named, entered)))
@@ -272,16 +249,27 @@ stops_leave game diagram limit refusal log front session asked (Doubled g) h s =
 stops_leave game diagram limit refusal log front session asked (DeskRefuses fault) h s = absurd s
 stops_leave game diagram limit refusal log front session asked Memory h s = (refl, (h, s))
 
--- what a call that gives nothing tells, of calls that the desk's answer doesn't change
-pub leaves_tells : {L F : Type 0} (game : NamedGame) (diagram : NamedDiagram) (limit : ℕ) (refusal : F → Option Refusal) (log front : List Event) (session : ℕ) (asked : SessionCall) (new : List Event) (call : Call) (f : Fault L F) →
-    ((r : Refusal) → call_of asked (Refused r) ≡ call) → IsPrefix front log → Leaves game diagram limit refusal log front session asked new f → Tells (family_between game diagram) limit refusal call session front new f
-leaves_tells {L} {F} game diagram limit refusal log front session asked new call (LogFull g) of p l =
-    subst (λ (n : List Event). Tells {L = L} (family_between game diagram) limit refusal call session front n (LogFull g)) (sym l.0) (stops_tell {L = L} (family_between game diagram) limit refusal call session front log (LogFull g) p l.1.0 l.1.1)
-leaves_tells {L} {F} game diagram limit refusal log front session asked new call (Doubled g) of p l =
-    subst (λ (n : List Event). Tells {L = L} (family_between game diagram) limit refusal call session front n (Doubled g)) (sym l.0) (stops_tell {L = L} (family_between game diagram) limit refusal call session front log (Doubled g) p l.1.0 l.1.1)
-leaves_tells game diagram limit refusal log front session asked new call (DeskRefuses fault) of p (r, (why, (named, entered))) =
-    (r, (why, coe 0 1 (k. Extends (family_between game diagram) front session (of r k) (book.Refused r) new) (entered_extends p entered)))
-leaves_tells game diagram limit refusal log front session asked new call Memory of p l = l.0
+-- what a call that gives nothing tells
+pub leaves_tells : {L F : Type 0} (game : NamedGame) (diagram : NamedDiagram) (limit : ℕ) (refusal : F → Option Refusal) (log front : List Event) (session : ℕ) (asked : SessionCall) (new : List Event) (f : Fault L F) → IsPrefix front log →
+    Leaves game diagram limit refusal log front session asked new f → TellsOf (family_between game diagram) limit refusal (λ r. Extends (family_between game diagram) front session (call_of asked (Refused r)) (book.Refused r) new) session front new f
+leaves_tells {L} {F} game diagram limit refusal log front session asked new (LogFull g) p l =
+    let s = stops_tell {L = L} {F = F} (family_between game diagram) limit refusal (λ r. ⊥) session front log (LogFull g) p l.1.0 l.1.1 in
+    (l.0, s.1, s.2, s.3)
+leaves_tells {L} {F} game diagram limit refusal log front session asked new (Doubled g) p l =
+    let s = stops_tell {L = L} {F = F} (family_between game diagram) limit refusal (λ r. ⊥) session front log (Doubled g) p l.1.0 l.1.1 in
+    (l.0, s.1, s.2)
+leaves_tells game diagram limit refusal log front session asked new (DeskRefuses fault) p (r, (why, (named, entered))) = (r, (why, entered_extends p entered))
+leaves_tells game diagram limit refusal log front session asked new Memory p l = l.0
+
+-- what the desk's refusal says of the call
+pub leaves_names : {L F : Type 0} (game : NamedGame) (diagram : NamedDiagram) (limit : ℕ) (refusal : F → Option Refusal) (log front : List Event) (session : ℕ) (asked : SessionCall) (new : List Event) (f : Fault L F) →
+    Leaves game diagram limit refusal log front session asked new f → RefusedFor refusal (λ r. IsNamed game diagram asked (Refused r)) f
+leaves_names game diagram limit refusal log front session asked new (LogFull g) l = tt
+leaves_names game diagram limit refusal log front session asked new (Doubled g) l = tt
+leaves_names game diagram limit refusal log front session asked new (DeskRefuses fault) (r, (why, (named, entered))) = λ q is.
+    let same : Some r ≡ Some q = sym why ∙ is in
+    subst (λ (x : Refusal). IsNamed game diagram asked (Refused x)) (cc same) named
+leaves_names game diagram limit refusal log front session asked new Memory l = tt
 
 -- and of a token's history
 pub leaves_begins : {L F : Type 0} (game : NamedGame) (diagram : NamedDiagram) (limit : ℕ) (refusal : F → Option Refusal) (log front : List Event) (session : ℕ) (asked : SessionCall) (new history : List Event) (f : Fault L F) → IsPrefix history log →
@@ -299,3 +287,7 @@ pub refused_is : (game : NamedGame) (diagram : NamedDiagram) (desk : DeskState) 
 refused_is game diagram desk asked call None of free replies = tt
 refused_is game diagram desk asked call (Some r) of free replies =
     record { told = coe 0 1 (k. Replies desk ((sym (of r)) k) (book.Refused r)) replies; hands = (free r).0; named = (free r).1 }
+
+-- a change gives its undo
+pub changed_fits : (family : Family) (page : List Step) (token : ℕ) (answer : Answer) → answer ≡ Changed token → IsTrue (gives_undo token (reply_of family page answer))
+changed_fits family page token answer is = subst (λ (a : Answer). IsTrue (gives_undo token (reply_of family page a))) (sym is) (eq-eqb token token refl)

@@ -1,5 +1,5 @@
 -- Why calls of sessions are not made.
-use Rattle.std.specs.Prelude.{◌≡◌, ℕ, ◌<◌, ◌≤◌, Bool, List, length, drop, Option, Some, ⊤}
+use Rattle.std.specs.Prelude.{◌≡◌, ℕ, ◌<◌, ◌≤◌, Bool, true, List, length, drop, Option, Some, ⊤}
 use mathlib.Core.List.{IsPrefix}
 use Rattle.std.specs.Bool.{Decides}
 use Rattle.vpg_diagram.specs.DiagramText.{NamedDiagram}
@@ -24,17 +24,39 @@ Stops limit front session log (Doubled f) =
 Stops limit front session log (DeskRefuses fault) = ⊥
 Stops limit front session log Memory = ⊤
 
--- A call with this front returns a fault and leaves the new front. The desk's own refusal is logged. Else the front
--- stays: the log is full, or it has room and a further call of this session, or memory ran out.
+-- A call with this front returns a fault and leaves the new front. The desk's own refusal is logged, and has this
+-- meaning. Else the front stays: the log is full, or it has room and a further call of this session, or memory ran out.
+abbrev pub TellsOf : {L F : Type 0} → Family → ℕ → (F → Option Refusal) → (Refusal → Type 0) → ℕ → List Event →
+    List Event → Fault L F → Type 0
+TellsOf family limit refusal Means session front new (LogFull f) =
+    (new ≡ front) × IsPrefix front f × (length f ≡ limit) × IsHistory family f
+TellsOf family limit refusal Means session front new (Doubled f) =
+    (new ≡ front) × (length f < limit) × Overtakes family front session f
+TellsOf family limit refusal Means session front new (DeskRefuses fault) =
+    (r : Refusal) × ((refusal fault ≡ Some r) × Means r)
+TellsOf family limit refusal Means session front new Memory = new ≡ front
+
+-- As `TellsOf`: the desk refused this call.
 abbrev pub Tells : {L F : Type 0} → Family → ℕ → (F → Option Refusal) → Call → ℕ → List Event → List Event → Fault L F →
     Type 0
-Tells family limit refusal call session front new (LogFull f) =
-    (new ≡ front) × IsPrefix front f × (length f ≡ limit) × IsHistory family f
-Tells family limit refusal call session front new (Doubled f) =
-    (new ≡ front) × (length f < limit) × Overtakes family front session f
-Tells family limit refusal call session front new (DeskRefuses fault) =
-    (r : Refusal) × ((refusal fault ≡ Some r) × Extends family front session call (Refused r) new)
-Tells family limit refusal call session front new Memory = new ≡ front
+Tells family limit refusal call session front new fault =
+    TellsOf family limit refusal (λ r. Extends family front session call (Refused r) new) session front new fault
+
+-- As `Tells`, for a commit: the desk's own refusal says whether the harvest is of the office's game and diagram.
+abbrev pub CommitTells : {L : Type 0} → NamedGame → NamedDiagram → ℕ → HarvestView → ℕ → List Event → List Event →
+    Fault L CommitFault → Type 0
+CommitTells {L} game diagram limit harvest session front new (DeskRefuses fault) =
+    (b : Bool) ×
+    (Decides b (IsOf game diagram harvest.order) ×
+    Tells {L = L} (family_between game diagram) limit commit_refusal (Commit (handed_in b harvest)) session front new
+    (DeskRefuses fault))
+CommitTells {L} game diagram limit harvest session front new fault =
+    Tells (family_between game diagram) limit commit_refusal (Commit (handed_in true harvest)) session front new fault
+
+-- each refusal that the fault stands for has this meaning
+abbrev pub RefusedFor : {L F : Type 0} → (F → Option Refusal) → (Refusal → Type 0) → Fault L F → Type 0
+RefusedFor refusal Means (DeskRefuses fault) = (r : Refusal) → refusal fault ≡ Some r → Means r
+RefusedFor refusal Means _ = ⊤
 
 -- the fault is the desk's own, and stands for this refusal
 abbrev pub StandsFor : {L F : Type 0} → (F → Option Refusal) → Refusal → Fault L F → Type 0
@@ -50,18 +72,3 @@ logged _ = 0
 abbrev pub Begins : {L F : Type 0} → List Event → List Event → Fault L F → Type 0
 Begins history new (DeskRefuses fault) = IsPrefix history new
 Begins history new _ = ⊤
-
--- As `Tells`, for a commit: the desk's own refusal says whether the harvest is of the office's game and diagram.
-abbrev pub CommitTells : {L : Type 0} → NamedGame → NamedDiagram → ℕ → HarvestView → ℕ → List Event → List Event →
-    Fault L CommitFault → Type 0
-CommitTells game diagram limit harvest session front new (LogFull f) =
-    (new ≡ front) × IsPrefix front f × (length f ≡ limit) × IsHistory (family_between game diagram) f
-CommitTells game diagram limit harvest session front new (Doubled f) =
-    (new ≡ front) × (length f < limit) × Overtakes (family_between game diagram) front session f
-CommitTells game diagram limit harvest session front new (DeskRefuses fault) =
-    (b : Bool) ×
-    (Decides b (IsOf game diagram harvest.order) ×
-    ((r : Refusal) ×
-    ((commit_refusal fault ≡ Some r) ×
-    Extends (family_between game diagram) front session (Commit (handed_in b harvest)) (Refused r) new)))
-CommitTells game diagram limit harvest session front new Memory = new ≡ front

@@ -1,8 +1,10 @@
-//! Calls that change the page: deciding and retracting.
+//! Calls that decide and retract.
 
-use crate::calls::{Call, Issued, Made, issue_token};
+use crate::asked::SessionCall;
+use crate::calls::{Asked, Call, Issued, Made, issue_token};
 use crate::purse::Purse;
 use crate::terms::Terms;
+use crate::undo_token::Undo;
 use std::alloc::Global;
 use vpg_desk::{DecideFault, Desk, ResetFault, RetractFault};
 use vpg_faults::Returned;
@@ -10,27 +12,40 @@ use vpg_faults::Returned;
 /// Decides a feature in or out.
 #[derive(Drop)]
 pub struct DecideCall {
-    pub(crate) alloc: Global,
-    pub(crate) feature: u16,
-    pub(crate) value: bool,
+    pub alloc: Global,
+    pub feature: u16,
+    pub value: bool,
 }
 
 impl<L: Terms> Call<L> for DecideCall {
-    ghost use Rattle.std.specs.Prelude.{◌≡◌, ⊤};
-    ghost use Rattle.vpg_office.specs.declared.asked.Answer.TheVariants as answer;
+    ghost use Rattle.std.specs.Prelude.{◌≡◌};
+    ghost use Rattle.vpg_desk.specs.Book as book;
     ghost use Rattle.vpg_office.specs.declared.asked.SessionCall.TheVariants as ask;
 
-    type Given = Issued<L, vpg_desk::Undo>;
+    type Given = Undo<L>;
+
+    type Made = Issued<L, vpg_desk::Undo>;
 
     type Refused = DecideFault;
 
     ghost asks = { λ c. ask.Decide c.feature c.value };
 
-    ghost answers = { λ g. answer.Changed g.token };
+    ghost means = { λ c. book.Decide c.feature c.value };
 
-    ghost Takes = { λ c. ⊤ };
+    ghost replies = { λ undo. book.Changed undo.serial };
 
-    ghost Gives = { λ c b g. (g.share.amount ≡ 1) × (g.share.parts ≡ 1) };
+    ghost Gives = { λ c front undo. undo.history ≡ front };
+
+    fn asked(&self) -> Asked<L> {
+        Asked {
+            call: SessionCall::Decide {
+                feature: self.feature,
+                value: self.value,
+            },
+            own: None,
+            sheet: Some(self.alloc),
+        }
+    }
 
     fn carry_out(
         self,
@@ -51,26 +66,38 @@ impl<L: Terms> Call<L> for DecideCall {
 /// Retracts the decision on a feature.
 #[derive(Drop)]
 pub struct RetractCall {
-    pub(crate) alloc: Global,
-    pub(crate) feature: u16,
+    pub alloc: Global,
+    pub feature: u16,
 }
 
 impl<L: Terms> Call<L> for RetractCall {
-    ghost use Rattle.std.specs.Prelude.{◌≡◌, ⊤};
-    ghost use Rattle.vpg_office.specs.declared.asked.Answer.TheVariants as answer;
+    ghost use Rattle.std.specs.Prelude.{◌≡◌};
+    ghost use Rattle.vpg_desk.specs.Book as book;
     ghost use Rattle.vpg_office.specs.declared.asked.SessionCall.TheVariants as ask;
 
-    type Given = Issued<L, vpg_desk::Undo>;
+    type Given = Undo<L>;
+
+    type Made = Issued<L, vpg_desk::Undo>;
 
     type Refused = RetractFault;
 
     ghost asks = { λ c. ask.Retract c.feature };
 
-    ghost answers = { λ g. answer.Changed g.token };
+    ghost means = { λ c. book.Retract c.feature };
 
-    ghost Takes = { λ c. ⊤ };
+    ghost replies = { λ undo. book.Changed undo.serial };
 
-    ghost Gives = { λ c b g. (g.share.amount ≡ 1) × (g.share.parts ≡ 1) };
+    ghost Gives = { λ c front undo. undo.history ≡ front };
+
+    fn asked(&self) -> Asked<L> {
+        Asked {
+            call: SessionCall::Retract {
+                feature: self.feature,
+            },
+            own: None,
+            sheet: Some(self.alloc),
+        }
+    }
 
     fn carry_out(
         self,
@@ -91,25 +118,35 @@ impl<L: Terms> Call<L> for RetractCall {
 /// Retracts every decision.
 #[derive(Drop)]
 pub struct ResetCall {
-    pub(crate) alloc: Global,
+    pub alloc: Global,
 }
 
 impl<L: Terms> Call<L> for ResetCall {
-    ghost use Rattle.std.specs.Prelude.{◌≡◌, ⊤};
-    ghost use Rattle.vpg_office.specs.declared.asked.Answer.TheVariants as answer;
+    ghost use Rattle.std.specs.Prelude.{◌≡◌};
+    ghost use Rattle.vpg_desk.specs.Book as book;
     ghost use Rattle.vpg_office.specs.declared.asked.SessionCall.TheVariants as ask;
 
-    type Given = Issued<L, vpg_desk::Undo>;
+    type Given = Undo<L>;
+
+    type Made = Issued<L, vpg_desk::Undo>;
 
     type Refused = ResetFault;
 
     ghost asks = { λ c. ask.Reset };
 
-    ghost answers = { λ g. answer.Changed g.token };
+    ghost means = { λ c. book.Reset };
 
-    ghost Takes = { λ c. ⊤ };
+    ghost replies = { λ undo. book.Changed undo.serial };
 
-    ghost Gives = { λ c b g. (g.share.amount ≡ 1) × (g.share.parts ≡ 1) };
+    ghost Gives = { λ c front undo. undo.history ≡ front };
+
+    fn asked(&self) -> Asked<L> {
+        Asked {
+            call: SessionCall::Reset,
+            own: None,
+            sheet: Some(self.alloc),
+        }
+    }
 
     fn carry_out(
         self,

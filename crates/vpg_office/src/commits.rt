@@ -6,8 +6,8 @@ ghost use Rattle.vpg_desk.specs.Commit.{IsOrderOf, handed_in};
 ghost use Rattle.vpg_faults.specs.Refusals.{commit_refusal};
 ghost use Rattle.vpg_desk.specs.State.{IsStep, Replies};
 
-use crate::asked::Answer;
-use crate::calls::{Call, Made};
+use crate::asked::{Answer, SessionCall};
+use crate::calls::{Asked, Call, Made};
 use crate::purse::Purse;
 use crate::terms::Terms;
 use std::alloc::Global;
@@ -45,29 +45,43 @@ fn hand_in(
 /// Commits a harvest; `own` if it is known to be of the desk's game and diagram.
 #[derive(Drop)]
 pub struct CommitCall {
-    pub(crate) alloc: Global,
-    pub(crate) harvest: Harvest,
-    pub(crate) shown: Snapshot<Harvest>,
-    pub(crate) own: bool,
+    pub alloc: Global,
+    pub harvest: Harvest,
+    pub own: bool,
 }
 
 impl<L: Terms> Call<L> for CommitCall {
     ghost use Rattle.std.specs.Prelude.{◌≡◌, true};
+    ghost use Rattle.vpg_desk.specs.Book as book;
+    ghost use Rattle.vpg_desk.specs.Commit.{handed_in};
     ghost use Rattle.vpg_office.specs.Story.{IsOf};
-    ghost use Rattle.vpg_office.specs.declared.asked.Answer.TheVariants as answer;
     ghost use Rattle.vpg_office.specs.declared.asked.SessionCall.TheVariants as ask;
 
     type Given = u32;
 
+    type Made = u32;
+
     type Refused = CommitFault;
 
-    ghost asks = { λ c. ask.Commit c.shown };
+    ghost asks = { λ c. ask.Commit (record { marker = record {}; value = c.harvest }) };
 
-    ghost answers = { λ entries. answer.Added entries };
+    ghost means = { λ c. book.Commit (handed_in true c.harvest) };
 
-    ghost Takes = { λ c. (c.shown.value ≡ c.harvest) × (c.own ≡ true → IsOf L.game L.diagram c.harvest.order) };
+    ghost replies = { λ entries. book.Added entries };
 
-    ghost Gives = { λ c b entries. IsOf L.game L.diagram c.harvest.order };
+    ghost Takes = { λ c. c.own ≡ true → IsOf L.game L.diagram c.harvest.order };
+
+    ghost Gives = { λ c front entries. IsOf L.game L.diagram c.harvest.order };
+
+    fn asked(&self) -> Asked<L> {
+        Asked {
+            call: SessionCall::Commit {
+                harvest: Snapshot::of(&self.harvest),
+            },
+            own: None,
+            sheet: Some(self.alloc),
+        }
+    }
 
     fn carry_out(
         self,
@@ -78,7 +92,6 @@ impl<L: Terms> Call<L> for CommitCall {
         let CommitCall {
             alloc,
             harvest,
-            shown,
             own,
         } = self;
         let _ = harvest.order();
@@ -87,18 +100,29 @@ impl<L: Terms> Call<L> for CommitCall {
                 given: entries,
                 answer: Answer::Added { entries },
             }),
-            Err(refused) => {
-                let CommitRefused { fault, harvest } = refused;
-                Err(Returned {
-                    fault: Some(fault),
-                    value: CommitCall {
-                        alloc,
-                        harvest,
-                        shown,
-                        own,
-                    },
-                })
-            }
+            Err(CommitRefused { fault, harvest }) => Err(Returned {
+                fault: Some(fault),
+                value: CommitCall {
+                    alloc,
+                    harvest,
+                    own,
+                },
+            }),
         }
+    }
+}
+
+impl From<CommitCall> for Harvest {
+    ghost use Rattle.std.specs.Prelude.{◌≡◌};
+
+    ghost from_gives = { λ call harvest. harvest ≡ call.harvest };
+
+    fn from(call: CommitCall) -> Harvest {
+        let CommitCall {
+            alloc: _,
+            harvest,
+            own: _,
+        } = call;
+        harvest
     }
 }

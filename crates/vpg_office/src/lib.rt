@@ -1,12 +1,13 @@
 //! Offices: one desk that several sessions share, each of their calls one event under a lock.
 //!
-//! A session lends a front to each call: a beginning of the log, which contracts see as a legal history of the desk
-//! (`vpg_desk`). The front grows to end with the call. Tokens carry the place of the call that gave them. `with_office`
-//! opens an office for a caller's work; `close` and `end` end it. Each change of the page publishes a sheet, which
-//! watches (`Office::watch`) read without the lock (`read`). Definitions: `specs/Fronts.antt` (histories and how a call
-//! extends them), `specs/Faults.antt` (refused calls), `specs/Token.antt`, `specs/Sheets.antt` (the meaning of a
-//! sheet). The parts under the lock are in `specs/Kept.antt`, `specs/Locked.antt`, `specs/Story.antt` and
-//! `specs/Told.antt`, and the effect of a call on them in `specs/Made.antt`.
+//! A session makes each [`Call`] by `Session::call`, and lends it a front: a beginning of the log, which contracts see
+//! as a legal history of the desk (`vpg_desk`). The front grows to end with the call. Tokens carry the place of the
+//! call that gave them. `with_office` opens an office for a caller's work; `close` and `end` end it. Each change of
+//! the page publishes a sheet, which watches (`Office::watch`) read without the lock (`read`). Definitions:
+//! `specs/Fronts.antt` (histories and how a call extends them), `specs/Faults.antt` (refused calls),
+//! `specs/Token.antt`, `specs/Sheets.antt` (the meaning of a sheet). The parts under the lock are in
+//! `specs/Kept.antt`, `specs/Locked.antt`, `specs/Story.antt` and `specs/Told.antt`, and the effect of a call on them
+//! in `specs/Made.antt`.
 #![tactic(auto)]
 
 mod alike;
@@ -35,9 +36,13 @@ mod undo_token;
 mod unshared;
 mod work;
 
+pub use calls::Call;
+pub use changes::{DecideCall, ResetCall, RetractCall};
+pub use commits::CommitCall;
 pub use ended::{Ended, no_redo_is_out, no_undo_is_out};
 pub use fault::{Fault, NotWatched};
 pub use front::Front;
+pub use looks::{OrderCall, PageCall, SettledCall, VerdictCall};
 pub use office::{NotOpened, Office, TokensOut, TooManySessions};
 pub use publishing::read;
 pub use redo_token::Redo;
@@ -45,6 +50,7 @@ pub use session::Session;
 pub use sharing::may_be_shared;
 pub use site::Site;
 pub use terms::Terms;
+pub use tokens::{ForgetCall, KeepCall, RedoCall, UndoCall};
 pub use undo_token::Undo;
 pub use unshared::Unshared;
 pub use work::{NotBegun, Work, with_office};

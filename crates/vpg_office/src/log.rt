@@ -10,12 +10,12 @@ ghost use Rattle.vpg_desk.specs.Lawful.{HandsIn, IsLawful};
 ghost use Rattle.vpg_faults.specs.Refusals.{told_by};
 ghost use Rattle.vpg_office.specs.Faults.{StandsFor, Stops, logged};
 ghost use Rattle.vpg_office.specs.Fronts.{IsHistory, calls_by, event, family_between};
-ghost use Rattle.vpg_office.specs.Kept.{HasRoom, IsChronicle, IsEntryOf, IsLacking, lines_of};
+ghost use Rattle.vpg_office.specs.Kept.{HasOwn, HasRoom, IsChronicle, IsEntryOf, IsLacking, lines_of};
 ghost use Rattle.vpg_office.specs.Made.{IsEntered, Leaves};
 ghost use Rattle.vpg_office.specs.Story.{IsNamed, call_of, reply_of};
 
 use crate::asked::{Answer, SessionCall};
-use crate::calls::{Call, Made};
+use crate::calls::{AtFront, Call, Made};
 use crate::chronicle::{Chronicle, Row, has_call_since};
 use crate::fault::Fault;
 use crate::front::{Front, Place};
@@ -309,11 +309,12 @@ impl<L: Terms> Log<L> {
         requires row { row.now ≡ L.shelves }
         requires seen { IsPrefix front.old self.old }
         requires asked { asked ≡ C.asks call }
+        requires own { IfSome (C.owns call) (HasOwn self.old) }
         requires takes { C.Takes call }
         ensures done { IfOk result
-            (λ g. IsEntered L.game L.diagram self.old front.old session (C.asks call) (C.answers g) front.new) }
-        ensures gives { IfOk result
-            (C.Gives call (book_after (family_between L.game L.diagram) opened self.old)) }
+            (λ given. IsEntered (family_between L.game L.diagram) self.old front.old session (C.means call)
+            (C.replies given) front.new) }
+        ensures gives { IfOk result (C.Gives call front.new) }
         ensures leaves { IfErr result
             (λ b. Leaves L.game L.diagram L.limit C.Refused.refusal_of self.old front.old session (C.asks call)
             front.new b.fault) }
@@ -340,7 +341,7 @@ impl<L: Terms> Log<L> {
             Ok(done) => {
                 let Made { given, answer } = done;
                 self.calls.enter(&request, made, front, place, answer);
-                Ok(given)
+                Ok(given.at(front))
             }
             Err(back) => {
                 let Returned { fault, value } = back;

@@ -1,7 +1,7 @@
 //! Tokens of changes that sessions undid.
 ghost use Rattle.std.specs.Prelude.{◌≡◌};
 
-use crate::calls::Issued;
+use crate::calls::{AtFront, Issued};
 use crate::front::Front;
 use crate::terms::Terms;
 use std::marker::Model;
@@ -39,20 +39,6 @@ impl<L: Terms> Redo<L> {
     ghost use Rattle.vpg_desk.specs.History.{gives_redo};
     ghost use Rattle.vpg_office.specs.Token.{EndsWith};
 
-    /// Returns the token that the last call of the front gave.
-    pub(crate) fn of(issued: Issued<L, vpg_desk::Redo>, front: &Front<L>) -> Redo<L>
-        requires share { (issued.share.amount ≡ 1) × (issued.share.parts ≡ 1) }
-        requires ends { EndsWith (λ reply. IsTrue (gives_redo issued.token reply)) front.now }
-        ensures { result ≡ record { serial = issued.token; history = front.now } }
-    {
-        let Issued { token, share } = issued;
-        Redo {
-            token,
-            place: front.copy(),
-            share,
-        }
-    }
-
     /// Returns the serial of the change.
     pub fn serial(&self) -> u64
         ensures serial { result ≡ self.now.serial }
@@ -60,5 +46,24 @@ impl<L: Terms> Redo<L> {
         ensures own { EndsWith (λ reply. IsTrue (gives_redo self.now.serial reply)) self.now.history }
     {
         self.token.serial()
+    }
+}
+
+impl<L: Terms> AtFront<L, Redo<L>> for Issued<L, vpg_desk::Redo> {
+    ghost use Rattle.std.specs.Prelude.{◌≡◌, IsTrue};
+    ghost use Rattle.vpg_desk.specs.History.{gives_redo};
+
+    ghost Fits = { λ issued reply. (issued.share.amount ≡ 1) × (issued.share.parts ≡ 1) ×
+        IsTrue (gives_redo issued.token reply) };
+
+    ghost placed = { λ issued front. record { serial = issued.token; history = front } };
+
+    fn at(self, front: &Front<L>) -> Redo<L> {
+        let Issued { token, share } = self;
+        Redo {
+            token,
+            place: front.copy(),
+            share,
+        }
     }
 }

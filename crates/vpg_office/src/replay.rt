@@ -1,13 +1,16 @@
 //! The desk that replays the log, with the verdicts last read of its page.
 ghost use Rattle.std.specs.Arc.{arc_value};
 ghost use Rattle.std.specs.List.{list_any};
-ghost use Rattle.std.specs.Prelude.{◌≡◌, ◌≤◌, length, IfOk, IfErr, IfSome, IsTrue, OnErr};
+ghost use Rattle.std.specs.Prelude.{◌≡◌, ◌≤◌, List, length, IfOk, IfErr, IfSome, IsTrue, OnErr};
 ghost use Rattle.vpg_desk.specs.Book.{Book, Settled, IsSettled};
 ghost use Rattle.vpg_desk.specs.Desk.{family_of};
 ghost use Rattle.vpg_desk.specs.State.{IsOpened, Replies, setting_of};
 ghost use Rattle.vpg_trail.specs.Shown.{entry_of};
 ghost use Rattle.vpg_faults.specs.Refusals.{told_by};
-ghost use Rattle.vpg_office.specs.Made.{IsMade, IsRefused};
+ghost use Rattle.vpg_desk.specs.History.{Event};
+ghost use Rattle.vpg_office.specs.Fronts.{family_between};
+ghost use Rattle.vpg_office.specs.Made.{IsLast, IsMade, IsRefused};
+ghost use Rattle.vpg_office.specs.Story.{call_of, reply_of};
 ghost use Rattle.vpg_office.specs.Told.{AgreeOnTops, AreAlike, AreVerdictsOf, Leads, only_appends, raises_to_top as to_top};
 ghost use Rattle.vpg_office.specs.declared.asked.Answer.{Answer};
 
@@ -198,7 +201,7 @@ pub(crate) fn carry_out<L: Terms, C: Call<L>>(
     desk: &mut Replay,
     purse: &mut Purse<L>,
     session: u32,
-) -> Result<Made<C::Given>, Returned<Option<C::Refused>, C>>
+) -> Result<Made<C::Made>, Returned<Option<C::Refused>, C>>
     requires of { (desk.old.game ≡ L.game) × (desk.old.diagram ≡ L.diagram) }
     requires opens { IsOpened L.game L.diagram }
     requires counted { purse.old ≡ desk.old.book.tokens }
@@ -207,8 +210,19 @@ pub(crate) fn carry_out<L: Terms, C: Call<L>>(
     requires asked { asked.now ≡ C.asks call }
     ensures made { IfOk result
         (λ m. IsMade L.game L.diagram desk.old session (C.asks call) m.answer desk.new) }
-    ensures answer { IfOk result (λ m. m.answer ≡ C.answers m.given) }
-    ensures gives { IfOk result (λ m. C.Gives call desk.old.book m.given) }
+    ensures means { IfOk result (λ m. call_of (C.asks call) m.answer ≡ C.means call) }
+    ensures replies { IfOk result
+        (λ m. (front : List Event) →
+        reply_of (family_between L.game L.diagram) desk.old.book.present m.answer
+        ≡ C.replies (C.Made.placed m.given front)) }
+    ensures fits { IfOk result
+        (λ m. C.Made.Fits m.given
+        (reply_of (family_between L.game L.diagram) desk.old.book.present m.answer)) }
+    ensures gives { IfOk result
+        (λ m. (front : List Event) →
+        IsLast (family_between L.game L.diagram) (C.owns call) desk.old.book (C.means call)
+        (C.replies (C.Made.placed m.given front)) front →
+        C.Gives call front (C.Made.placed m.given front)) }
     ensures counted { purse.new ≡ desk.new.book.tokens }
     ensures refused { IfErr result
         (λ u. IfSome (told_by C.Refused.refusal_of u.fault)

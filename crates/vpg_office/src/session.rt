@@ -1,6 +1,6 @@
 //! Sessions and their calls.
 ghost use Rattle.std.specs.Arc.{arc_value};
-ghost use Rattle.std.specs.Prelude.{◌≡◌, ◌+◌, ◌<◌, ◌≤◌, List, true, length, IfOk, IfErr, IfSome, OnOk};
+ghost use Rattle.std.specs.Prelude.{◌≡◌, ◌+◌, ◌<◌, ◌≤◌, true, length, IfOk, IfErr, IfSome, OnOk};
 ghost use mathlib.Core.List.{IsPrefix};
 ghost use Rattle.vpg_desk.specs.Book as book;
 ghost use Rattle.vpg_desk.specs.Commit.{handed_in};
@@ -8,24 +8,22 @@ ghost use Rattle.vpg_game.specs.Game.{graph_of};
 ghost use Rattle.vpg_measure.specs.Games.{ArePageGames};
 ghost use Rattle.vpg_trail.specs.Page.{Hopeful, Dual, choices_of, decisions_of, table_of};
 ghost use Rattle.vpg_desk.specs.Headline.{Tells as PageTells, VerdictMeans};
-ghost use Rattle.vpg_desk.specs.History.{Event, book_after, page_after};
+ghost use Rattle.vpg_desk.specs.History.{book_after, page_after};
 ghost use Rattle.vpg_desk.specs.Lawful.{PageIsBelow};
 ghost use Rattle.vpg_desk.specs.Setting.{IsSetting};
 ghost use Rattle.vpg_desk.specs.State.{IsReached, setting_between};
 ghost use Rattle.vpg_faults.specs.Refusals.{decide_refusal, redo_refusal, reset_refusal, retract_refusal, undo_refusal};
-ghost use Rattle.vpg_office.specs.Faults.{Begins, CommitTells, Tells, logged};
+ghost use Rattle.vpg_office.specs.Faults.{Begins, CommitTells, RefusedFor, Tells, TellsOf, logged};
 ghost use Rattle.vpg_faults.specs.Refusals.{never_refused};
 ghost use Rattle.vpg_office.specs.Fronts.{Extends, GoesBackTo, family_between};
-ghost use Rattle.vpg_office.specs.Kept.{HasOwn};
-ghost use Rattle.vpg_office.specs.Made.{IsEntered, Leaves};
-ghost use Rattle.vpg_office.specs.Story.{IsOf};
+ghost use Rattle.vpg_office.specs.Story.{IsNamed, IsOf, call_of};
+ghost use Rattle.vpg_office.specs.declared.asked.Answer.TheVariants as told;
 
-use crate::asked::SessionCall;
-use crate::calls::Call;
+use crate::calls::{Asked, Call};
 use crate::changes::{DecideCall, ResetCall, RetractCall};
 use crate::commits::CommitCall;
 use crate::fault::Fault;
-use crate::front::{Front, Own};
+use crate::front::Front;
 use crate::looks::{OrderCall, PageCall, SettledCall, VerdictCall};
 use crate::office::Office;
 use crate::redo_token::Redo;
@@ -34,7 +32,6 @@ use crate::tokens::{ForgetCall, KeepCall, RedoCall, UndoCall};
 use crate::undo_token::Undo;
 use std::alloc::Global;
 use std::marker::Model;
-use std::snapshot::Snapshot;
 use std::sync::ledger::Share;
 use std::sync::{Arc, MutexGuard, Wait};
 use vpg_desk::{CommitFault, DecideFault, RedoFault, ResetFault, RetractFault, UndoFault};
@@ -94,6 +91,51 @@ impl<L: Terms> Session<L> {
         self.number
     }
 
+    /// Makes a call, once the log has the front and that of the call's token. The front grows to end with the call. If
+    /// it isn't made, it comes back, and the fault says why: the log is full, or has a further call of this session, or
+    /// the desk refuses it, or memory ran out. A call that changes the page publishes its sheet.
+    pub fn call<C: Call<L>, R: Wait>(
+        &mut self,
+        rt: &R,
+        office: &Office<L>,
+        front: &mut Front<L>,
+        call: C,
+    ) -> Result<C::Given, Returned<Fault<L, C::Refused>, C>>
+        requires takes { C.Takes call }
+        ensures done { IfOk result
+            (λ given. Extends (family_between L.game L.diagram) front.old self.old.number (C.means call)
+            (C.replies given) front.new) }
+        ensures gives { IfOk result (C.Gives call front.new) }
+        ensures begins { OnOk result (IfSome (C.owns call) (λ own. IsPrefix own.front front.new)) }
+        ensures fault { IfErr result
+            (λ b. TellsOf (family_between L.game L.diagram) L.limit C.Refused.refusal_of
+            (λ r. Extends (family_between L.game L.diagram) front.old self.old.number
+            (call_of (C.asks call) (told.Refused r)) (book.Refused r) front.new)
+            self.old.number front.old front.new b.fault) }
+        // A harvest is refused as one of another game exactly if it is one.
+        ensures named { IfErr result
+            (λ b. RefusedFor C.Refused.refusal_of
+            (λ r. IsNamed L.game L.diagram (C.asks call) (told.Refused r)) b.fault) }
+        ensures refused { IfErr result
+            (λ b. IfSome (C.owns call) (λ own. Begins own.front front.new b.fault)) }
+        ensures back { IfErr result (λ b. b.value ≡ call) }
+        ensures same { self.new.number ≡ self.old.number }
+        ensures counted { OnOk result (self.new.calls ≡ self.old.calls + 1) }
+        ensures fault_counted { IfErr result (λ b. self.new.calls ≡ self.old.calls + logged b.fault) }
+    {
+        let number = self.number;
+        let Asked {
+            call: asked,
+            own,
+            sheet,
+        } = call.asked();
+        let mut log = office.log_with(rt, front, &own);
+        let answer = log.make(rt, &office.row, number, &mut self.made, front, asked, call);
+        log.publish(rt, sheet, answer.is_ok());
+        MutexGuard::unlock(log);
+        answer
+    }
+
     /// Decides a feature in or out, as `Desk::decide`.
     pub fn decide<R: Wait>(
         &mut self,
@@ -114,15 +156,18 @@ impl<L: Terms> Session<L> {
         ensures counted { OnOk result (self.new.calls ≡ self.old.calls + 1) }
         ensures fault_counted { IfErr result (λ fault. self.new.calls ≡ self.old.calls + logged fault) }
     {
-        let asked = SessionCall::Decide { feature, value };
-        let call = DecideCall {
-            alloc,
-            feature,
-            value,
-        };
-        match self.make(rt, office, front, None, asked, call, Some(alloc)) {
-            Ok(issued) => Ok(Undo::of(issued, front)),
-            Err(back) => Err(back.into_fault()),
+        match self.call(
+            rt,
+            office,
+            front,
+            DecideCall {
+                alloc,
+                feature,
+                value,
+            },
+        ) {
+            Ok(undo) => Ok(undo),
+            Err(Returned { fault, value: _ }) => Err(fault),
         }
     }
 
@@ -145,11 +190,9 @@ impl<L: Terms> Session<L> {
         ensures counted { OnOk result (self.new.calls ≡ self.old.calls + 1) }
         ensures fault_counted { IfErr result (λ fault. self.new.calls ≡ self.old.calls + logged fault) }
     {
-        let asked = SessionCall::Retract { feature };
-        let call = RetractCall { alloc, feature };
-        match self.make(rt, office, front, None, asked, call, Some(alloc)) {
-            Ok(issued) => Ok(Undo::of(issued, front)),
-            Err(back) => Err(back.into_fault()),
+        match self.call(rt, office, front, RetractCall { alloc, feature }) {
+            Ok(undo) => Ok(undo),
+            Err(Returned { fault, value: _ }) => Err(fault),
         }
     }
 
@@ -171,11 +214,9 @@ impl<L: Terms> Session<L> {
         ensures counted { OnOk result (self.new.calls ≡ self.old.calls + 1) }
         ensures fault_counted { IfErr result (λ fault. self.new.calls ≡ self.old.calls + logged fault) }
     {
-        let asked = SessionCall::Reset;
-        let call = ResetCall { alloc };
-        match self.make(rt, office, front, None, asked, call, Some(alloc)) {
-            Ok(issued) => Ok(Undo::of(issued, front)),
-            Err(back) => Err(back.into_fault()),
+        match self.call(rt, office, front, ResetCall { alloc }) {
+            Ok(undo) => Ok(undo),
+            Err(Returned { fault, value: _ }) => Err(fault),
         }
     }
 
@@ -203,23 +244,12 @@ impl<L: Terms> Session<L> {
         ensures counted { OnOk result (self.new.calls ≡ self.old.calls + 1) }
         ensures fault_counted { IfErr result (λ b. self.new.calls ≡ self.old.calls + logged b.fault) }
     {
-        let serial = token.serial();
-        let own = Own {
-            front: token.place.copy(),
-            serial: Some(serial),
-        };
-        let asked = SessionCall::Undo { serial };
-        let call = UndoCall { alloc, token };
-        match self.make(rt, office, front, Some(own), asked, call, Some(alloc)) {
-            Ok(issued) => Ok(Redo::of(issued, front)),
-            Err(back) => {
-                let Returned { fault, value } = back;
-                let UndoCall { alloc: _, token } = value;
-                Err(Returned {
-                    fault,
-                    value: token,
-                })
-            }
+        match self.call(rt, office, front, UndoCall { alloc, token }) {
+            Ok(redo) => Ok(redo),
+            Err(Returned { fault, value }) => Err(Returned {
+                fault,
+                value: Undo::from(value),
+            }),
         }
     }
 
@@ -247,23 +277,12 @@ impl<L: Terms> Session<L> {
         ensures counted { OnOk result (self.new.calls ≡ self.old.calls + 1) }
         ensures fault_counted { IfErr result (λ b. self.new.calls ≡ self.old.calls + logged b.fault) }
     {
-        let serial = token.serial();
-        let own = Own {
-            front: token.place.copy(),
-            serial: Some(serial),
-        };
-        let asked = SessionCall::Redo { serial };
-        let call = RedoCall { alloc, token };
-        match self.make(rt, office, front, Some(own), asked, call, Some(alloc)) {
-            Ok(issued) => Ok(Undo::of(issued, front)),
-            Err(back) => {
-                let Returned { fault, value } = back;
-                let RedoCall { alloc: _, token } = value;
-                Err(Returned {
-                    fault,
-                    value: token,
-                })
-            }
+        match self.call(rt, office, front, RedoCall { alloc, token }) {
+            Ok(undo) => Ok(undo),
+            Err(Returned { fault, value }) => Err(Returned {
+                fault,
+                value: Redo::from(value),
+            }),
         }
     }
 
@@ -287,24 +306,12 @@ impl<L: Terms> Session<L> {
         ensures counted { OnOk result (self.new.calls ≡ self.old.calls + 1) }
         ensures fault_counted { IfErr result (λ b. self.new.calls ≡ self.old.calls + logged b.fault) }
     {
-        let own = Own {
-            front: token.place.copy(),
-            serial: None,
-        };
-        let asked = SessionCall::Keep {
-            serial: token.serial(),
-        };
-        let call = KeepCall { token };
-        match self.make(rt, office, front, Some(own), asked, call, None) {
+        match self.call(rt, office, front, KeepCall { token }) {
             Ok(()) => Ok(()),
-            Err(back) => {
-                let Returned { fault, value } = back;
-                let KeepCall { token } = value;
-                Err(Returned {
-                    fault,
-                    value: token,
-                })
-            }
+            Err(Returned { fault, value }) => Err(Returned {
+                fault,
+                value: Undo::from(value),
+            }),
         }
     }
 
@@ -328,24 +335,12 @@ impl<L: Terms> Session<L> {
         ensures counted { OnOk result (self.new.calls ≡ self.old.calls + 1) }
         ensures fault_counted { IfErr result (λ b. self.new.calls ≡ self.old.calls + logged b.fault) }
     {
-        let own = Own {
-            front: token.place.copy(),
-            serial: None,
-        };
-        let asked = SessionCall::Forget {
-            serial: token.serial(),
-        };
-        let call = ForgetCall { token };
-        match self.make(rt, office, front, Some(own), asked, call, None) {
+        match self.call(rt, office, front, ForgetCall { token }) {
             Ok(()) => Ok(()),
-            Err(back) => {
-                let Returned { fault, value } = back;
-                let ForgetCall { token } = value;
-                Err(Returned {
-                    fault,
-                    value: token,
-                })
-            }
+            Err(Returned { fault, value }) => Err(Returned {
+                fault,
+                value: Redo::from(value),
+            }),
         }
     }
 
@@ -366,10 +361,9 @@ impl<L: Terms> Session<L> {
         ensures counted { OnOk result (self.new.calls ≡ self.old.calls + 1) }
         ensures fault_counted { IfErr result (λ fault. self.new.calls ≡ self.old.calls + logged fault) }
     {
-        let asked = SessionCall::Settled;
-        match self.make(rt, office, front, None, asked, SettledCall, None) {
+        match self.call(rt, office, front, SettledCall) {
             Ok(settled) => Ok(settled),
-            Err(back) => Err(back.into_fault()),
+            Err(Returned { fault, value: _ }) => Err(fault),
         }
     }
 
@@ -397,10 +391,9 @@ impl<L: Terms> Session<L> {
         ensures counted { OnOk result (self.new.calls ≡ self.old.calls + 1) }
         ensures fault_counted { IfErr result (λ fault. self.new.calls ≡ self.old.calls + logged fault) }
     {
-        let asked = SessionCall::Verdict { vertex };
-        match self.make(rt, office, front, None, asked, VerdictCall { vertex }, None) {
+        match self.call(rt, office, front, VerdictCall { vertex }) {
             Ok(verdict) => Ok(verdict),
-            Err(back) => Err(back.into_fault()),
+            Err(Returned { fault, value: _ }) => Err(fault),
         }
     }
 
@@ -431,17 +424,9 @@ impl<L: Terms> Session<L> {
         ensures counted { OnOk result (self.new.calls ≡ self.old.calls + 1) }
         ensures fault_counted { IfErr result (λ fault. self.new.calls ≡ self.old.calls + logged fault) }
     {
-        match self.make(
-            rt,
-            office,
-            front,
-            None,
-            SessionCall::Page,
-            PageCall { alloc },
-            None,
-        ) {
+        match self.page_with_games(rt, alloc, office, front) {
             Ok((page, _games)) => Ok(page),
-            Err(back) => Err(back.into_fault()),
+            Err(fault) => Err(fault),
         }
     }
 
@@ -474,17 +459,9 @@ impl<L: Terms> Session<L> {
         ensures counted { OnOk result (self.new.calls ≡ self.old.calls + 1) }
         ensures fault_counted { IfErr result (λ fault. self.new.calls ≡ self.old.calls + logged fault) }
     {
-        match self.make(
-            rt,
-            office,
-            front,
-            None,
-            SessionCall::Page,
-            PageCall { alloc },
-            None,
-        ) {
+        match self.call(rt, office, front, PageCall { alloc }) {
             Ok(both) => Ok(both),
-            Err(back) => Err(back.into_fault()),
+            Err(Returned { fault, value: _ }) => Err(fault),
         }
     }
 
@@ -507,17 +484,9 @@ impl<L: Terms> Session<L> {
         ensures counted { OnOk result (self.new.calls ≡ self.old.calls + 1) }
         ensures fault_counted { IfErr result (λ fault. self.new.calls ≡ self.old.calls + logged fault) }
     {
-        match self.make(
-            rt,
-            office,
-            front,
-            None,
-            SessionCall::Order,
-            OrderCall { alloc },
-            None,
-        ) {
+        match self.call(rt, office, front, OrderCall { alloc }) {
             Ok(order) => Ok(order),
-            Err(back) => Err(back.into_fault()),
+            Err(Returned { fault, value: _ }) => Err(fault),
         }
     }
 
@@ -590,70 +559,21 @@ impl<L: Terms> Session<L> {
         ensures counted { OnOk result (self.new.calls ≡ self.old.calls + 1) }
         ensures fault_counted { IfErr result (λ b. self.new.calls ≡ self.old.calls + logged b.fault) }
     {
-        let asked = SessionCall::Commit {
-            harvest: Snapshot::of(&harvest),
-        };
-        let shown = Snapshot::of(&harvest);
-        let call = CommitCall {
-            alloc,
-            harvest,
-            shown,
-            own,
-        };
-        match self.make(rt, office, front, None, asked, call, Some(alloc)) {
+        match self.call(
+            rt,
+            office,
+            front,
+            CommitCall {
+                alloc,
+                harvest,
+                own,
+            },
+        ) {
             Ok(entries) => Ok(entries),
-            Err(back) => {
-                let Returned { fault, value } = back;
-                let CommitCall {
-                    alloc: _,
-                    harvest,
-                    shown: _,
-                    own: _,
-                } = value;
-                Err(Returned {
-                    fault,
-                    value: harvest,
-                })
-            }
+            Err(Returned { fault, value }) => Err(Returned {
+                fault,
+                value: Harvest::from(value),
+            }),
         }
-    }
-
-    /// Makes a call on a log that has the front and a token's. With an allocator the sheet of a call that is made is
-    /// published.
-    fn make<C: Call<L>, R: Wait>(
-        &mut self,
-        rt: &R,
-        office: &Office<L>,
-        front: &mut Front<L>,
-        own: Option<Own<L>>,
-        asked: SessionCall,
-        call: C,
-        sheet: Option<Global>,
-    ) -> Result<C::Given, Returned<Fault<L, C::Refused>, C>>
-        requires asked { asked ≡ C.asks call }
-        requires takes { C.Takes call }
-        ensures made { IfOk result
-            (λ g. (log : List Event) ×
-            (IsPrefix front.old log ×
-            (IfSome own (HasOwn log) ×
-            (IsEntered L.game L.diagram log front.old self.old.number (C.asks call) (C.answers g) front.new ×
-            C.Gives call (book_after (family_between L.game L.diagram) book.opened log) g)))) }
-        ensures leaves { IfErr result
-            (λ b. (log : List Event) ×
-            (IsPrefix front.old log ×
-            (IfSome own (HasOwn log) ×
-            Leaves L.game L.diagram L.limit C.Refused.refusal_of log front.old self.old.number (C.asks call)
-            front.new b.fault))) }
-        ensures back { IfErr result (λ b. b.value ≡ call) }
-        ensures same { self.new.number ≡ self.old.number }
-        ensures counted { OnOk result (self.new.calls ≡ self.old.calls + 1) }
-        ensures fault_counted { IfErr result (λ b. self.new.calls ≡ self.old.calls + logged b.fault) }
-    {
-        let number = self.number;
-        let mut log = office.log_with(rt, front, &own);
-        let answer = log.make(rt, &office.row, number, &mut self.made, front, asked, call);
-        log.publish(rt, sheet, answer.is_ok());
-        MutexGuard::unlock(log);
-        answer
     }
 }

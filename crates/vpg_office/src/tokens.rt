@@ -1,11 +1,11 @@
 //! Calls that take a token.
-ghost use Rattle.std.specs.Prelude.{◌≡◌, IfErr, IfSome, OnOk};
+ghost use Rattle.std.specs.Prelude.{◌≡◌, Some, IfErr, IfSome, OnOk};
 ghost use mathlib.Core.List.{IsPrefix};
 ghost use Rattle.vpg_office.specs.Fronts.{family_between};
 ghost use Rattle.vpg_office.specs.Kept.{HasOwn, IsChronicle, IsLastGiven, Lacking, OwnIsLacking};
 
-use crate::asked::Answer;
-use crate::calls::{Call, Issued, Made};
+use crate::asked::{Answer, SessionCall};
+use crate::calls::{Asked, Call, Issued, Made};
 use crate::chronicle::Row;
 use crate::closing::{forget_one, keep_one};
 use crate::front::{Front, Own, Place};
@@ -80,32 +80,54 @@ impl<L: Terms> Calls<L> {
     }
 }
 
+/// Returns the front that the log has to have for a token. With a serial, it has to end with the log's last call that
+/// gave a token of it.
+fn own_of<L: Terms>(place: &Front<L>, serial: Option<u64>) -> Option<Own<L>>
+    ensures { result ≡ Some (record { front = place.now; serial = serial }) }
+{
+    Some(Own {
+        front: place.copy(),
+        serial,
+    })
+}
+
 /// Undoes a token's change.
 pub struct UndoCall<L: Terms> {
-    pub(crate) alloc: Global,
-    pub(crate) token: Undo<L>,
+    pub alloc: Global,
+    pub token: Undo<L>,
 }
 
 impl<L: Terms> Call<L> for UndoCall<L> {
-    ghost use Rattle.std.specs.Prelude.{◌≡◌, ⊤, IsTrue};
-    ghost use Rattle.vpg_desk.specs.History.{gives_undo};
-    ghost use Rattle.vpg_office.specs.Token.{EndsWith};
-    ghost use Rattle.vpg_office.specs.declared.asked.Answer.TheVariants as answer;
+    ghost use Rattle.std.specs.Prelude.{◌≡◌, Some};
+    ghost use Rattle.vpg_desk.specs.Book as book;
+    ghost use Rattle.vpg_office.specs.Fronts.{GoesBackTo, family_between};
     ghost use Rattle.vpg_office.specs.declared.asked.SessionCall.TheVariants as ask;
 
-    type Given = Issued<L, vpg_desk::Redo>;
+    type Given = Redo<L>;
+
+    type Made = Issued<L, vpg_desk::Redo>;
 
     type Refused = UndoFault;
 
     ghost asks = { λ c. ask.Undo c.token.serial };
 
-    ghost answers = { λ g. answer.Undone g.token };
+    ghost means = { λ c. book.Undo c.token.serial };
 
-    ghost Takes = { λ c. ⊤ };
+    ghost replies = { λ token. book.Undone token.serial };
 
-    ghost Gives = { λ c b g. (g.share.amount ≡ 1) × ((g.share.parts ≡ 1) ×
-        ((g.token ≡ c.token.serial) ×
-        EndsWith (λ reply. IsTrue (gives_undo c.token.serial reply)) c.token.history)) };
+    ghost owns = { λ c. Some (record { front = c.token.history; serial = Some c.token.serial }) };
+
+    ghost Gives = { λ c front token. (token.history ≡ front) ×
+        GoesBackTo (family_between L.game L.diagram) front c.token.history };
+
+    fn asked(&self) -> Asked<L> {
+        let serial = self.token.serial();
+        Asked {
+            call: SessionCall::Undo { serial },
+            own: own_of(&self.token.place, Some(serial)),
+            sheet: Some(self.alloc),
+        }
+    }
 
     fn carry_out(
         self,
@@ -130,8 +152,7 @@ impl<L: Terms> Call<L> for UndoCall<L> {
                     answer,
                 })
             }
-            Err(refused) => {
-                let UndoRefused { fault, token } = refused;
+            Err(UndoRefused { fault, token }) => {
                 let token = Undo {
                     token,
                     place,
@@ -146,32 +167,54 @@ impl<L: Terms> Call<L> for UndoCall<L> {
     }
 }
 
+impl<L: Terms> From<UndoCall<L>> for Undo<L> {
+    ghost use Rattle.std.specs.Prelude.{◌≡◌};
+
+    ghost from_gives = { λ call token. token ≡ call.token };
+
+    fn from(call: UndoCall<L>) -> Undo<L> {
+        let UndoCall { alloc: _, token } = call;
+        token
+    }
+}
+
 /// Redoes a token's change.
 pub struct RedoCall<L: Terms> {
-    pub(crate) alloc: Global,
-    pub(crate) token: Redo<L>,
+    pub alloc: Global,
+    pub token: Redo<L>,
 }
 
 impl<L: Terms> Call<L> for RedoCall<L> {
-    ghost use Rattle.std.specs.Prelude.{◌≡◌, ⊤, IsTrue};
-    ghost use Rattle.vpg_desk.specs.History.{gives_redo};
-    ghost use Rattle.vpg_office.specs.Token.{EndsWith};
-    ghost use Rattle.vpg_office.specs.declared.asked.Answer.TheVariants as answer;
+    ghost use Rattle.std.specs.Prelude.{◌≡◌, Some};
+    ghost use Rattle.vpg_desk.specs.Book as book;
+    ghost use Rattle.vpg_office.specs.Fronts.{GoesBackTo, family_between};
     ghost use Rattle.vpg_office.specs.declared.asked.SessionCall.TheVariants as ask;
 
-    type Given = Issued<L, vpg_desk::Undo>;
+    type Given = Undo<L>;
+
+    type Made = Issued<L, vpg_desk::Undo>;
 
     type Refused = RedoFault;
 
     ghost asks = { λ c. ask.Redo c.token.serial };
 
-    ghost answers = { λ g. answer.Redone g.token };
+    ghost means = { λ c. book.Redo c.token.serial };
 
-    ghost Takes = { λ c. ⊤ };
+    ghost replies = { λ token. book.Redone token.serial };
 
-    ghost Gives = { λ c b g. (g.share.amount ≡ 1) × ((g.share.parts ≡ 1) ×
-        ((g.token ≡ c.token.serial) ×
-        EndsWith (λ reply. IsTrue (gives_redo c.token.serial reply)) c.token.history)) };
+    ghost owns = { λ c. Some (record { front = c.token.history; serial = Some c.token.serial }) };
+
+    ghost Gives = { λ c front token. (token.history ≡ front) ×
+        GoesBackTo (family_between L.game L.diagram) front c.token.history };
+
+    fn asked(&self) -> Asked<L> {
+        let serial = self.token.serial();
+        Asked {
+            call: SessionCall::Redo { serial },
+            own: own_of(&self.token.place, Some(serial)),
+            sheet: Some(self.alloc),
+        }
+    }
 
     fn carry_out(
         self,
@@ -196,8 +239,7 @@ impl<L: Terms> Call<L> for RedoCall<L> {
                     answer,
                 })
             }
-            Err(refused) => {
-                let RedoRefused { fault, token } = refused;
+            Err(RedoRefused { fault, token }) => {
                 let token = Redo {
                     token,
                     place,
@@ -212,27 +254,50 @@ impl<L: Terms> Call<L> for RedoCall<L> {
     }
 }
 
+impl<L: Terms> From<RedoCall<L>> for Redo<L> {
+    ghost use Rattle.std.specs.Prelude.{◌≡◌};
+
+    ghost from_gives = { λ call token. token ≡ call.token };
+
+    fn from(call: RedoCall<L>) -> Redo<L> {
+        let RedoCall { alloc: _, token } = call;
+        token
+    }
+}
+
 /// Spends the token of a change.
 pub struct KeepCall<L: Terms> {
-    pub(crate) token: Undo<L>,
+    pub token: Undo<L>,
 }
 
 impl<L: Terms> Call<L> for KeepCall<L> {
-    ghost use Rattle.std.specs.Prelude.{⊤};
-    ghost use Rattle.vpg_office.specs.declared.asked.Answer.TheVariants as answer;
+    ghost use Rattle.std.specs.Prelude.{Some, None};
+    ghost use Rattle.vpg_desk.specs.Book as book;
     ghost use Rattle.vpg_office.specs.declared.asked.SessionCall.TheVariants as ask;
 
     type Given = ();
+
+    type Made = ();
 
     type Refused = Never;
 
     ghost asks = { λ c. ask.Keep c.token.serial };
 
-    ghost answers = { λ g. answer.Spent };
+    ghost means = { λ c. book.Keep c.token.serial };
 
-    ghost Takes = { λ c. ⊤ };
+    ghost replies = { λ nothing. book.Spent };
 
-    ghost Gives = { λ c b g. ⊤ };
+    ghost owns = { λ c. Some (record { front = c.token.history; serial = None }) };
+
+    fn asked(&self) -> Asked<L> {
+        Asked {
+            call: SessionCall::Keep {
+                serial: self.token.serial(),
+            },
+            own: own_of(&self.token.place, None),
+            sheet: None,
+        }
+    }
 
     fn carry_out(
         self,
@@ -249,27 +314,50 @@ impl<L: Terms> Call<L> for KeepCall<L> {
     }
 }
 
+impl<L: Terms> From<KeepCall<L>> for Undo<L> {
+    ghost use Rattle.std.specs.Prelude.{◌≡◌};
+
+    ghost from_gives = { λ call token. token ≡ call.token };
+
+    fn from(call: KeepCall<L>) -> Undo<L> {
+        let KeepCall { token } = call;
+        token
+    }
+}
+
 /// Spends the token of a change that was undone.
 pub struct ForgetCall<L: Terms> {
-    pub(crate) token: Redo<L>,
+    pub token: Redo<L>,
 }
 
 impl<L: Terms> Call<L> for ForgetCall<L> {
-    ghost use Rattle.std.specs.Prelude.{⊤};
-    ghost use Rattle.vpg_office.specs.declared.asked.Answer.TheVariants as answer;
+    ghost use Rattle.std.specs.Prelude.{Some, None};
+    ghost use Rattle.vpg_desk.specs.Book as book;
     ghost use Rattle.vpg_office.specs.declared.asked.SessionCall.TheVariants as ask;
 
     type Given = ();
+
+    type Made = ();
 
     type Refused = Never;
 
     ghost asks = { λ c. ask.Forget c.token.serial };
 
-    ghost answers = { λ g. answer.Spent };
+    ghost means = { λ c. book.Forget c.token.serial };
 
-    ghost Takes = { λ c. ⊤ };
+    ghost replies = { λ nothing. book.Spent };
 
-    ghost Gives = { λ c b g. ⊤ };
+    ghost owns = { λ c. Some (record { front = c.token.history; serial = None }) };
+
+    fn asked(&self) -> Asked<L> {
+        Asked {
+            call: SessionCall::Forget {
+                serial: self.token.serial(),
+            },
+            own: own_of(&self.token.place, None),
+            sheet: None,
+        }
+    }
 
     fn carry_out(
         self,
@@ -283,5 +371,16 @@ impl<L: Terms> Call<L> for ForgetCall<L> {
             given: (),
             answer: Answer::Spent,
         })
+    }
+}
+
+impl<L: Terms> From<ForgetCall<L>> for Redo<L> {
+    ghost use Rattle.std.specs.Prelude.{◌≡◌};
+
+    ghost from_gives = { λ call token. token ≡ call.token };
+
+    fn from(call: ForgetCall<L>) -> Redo<L> {
+        let ForgetCall { token } = call;
+        token
     }
 }

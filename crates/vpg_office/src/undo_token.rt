@@ -1,7 +1,7 @@
 //! Tokens of changes that sessions can undo.
 ghost use Rattle.std.specs.Prelude.{◌≡◌};
 
-use crate::calls::Issued;
+use crate::calls::{AtFront, Issued};
 use crate::front::Front;
 use crate::terms::Terms;
 use std::marker::Model;
@@ -38,20 +38,6 @@ impl<L: Terms> Undo<L> {
     ghost use Rattle.vpg_desk.specs.History.{gives_undo};
     ghost use Rattle.vpg_office.specs.Token.{EndsWith};
 
-    /// Returns the token that the last call of the front gave.
-    pub(crate) fn of(issued: Issued<L, vpg_desk::Undo>, front: &Front<L>) -> Undo<L>
-        requires share { (issued.share.amount ≡ 1) × (issued.share.parts ≡ 1) }
-        requires ends { EndsWith (λ reply. IsTrue (gives_undo issued.token reply)) front.now }
-        ensures { result ≡ record { serial = issued.token; history = front.now } }
-    {
-        let Issued { token, share } = issued;
-        Undo {
-            token,
-            place: front.copy(),
-            share,
-        }
-    }
-
     /// Returns the serial of the change.
     pub fn serial(&self) -> u64
         ensures serial { result ≡ self.now.serial }
@@ -59,5 +45,24 @@ impl<L: Terms> Undo<L> {
         ensures own { EndsWith (λ reply. IsTrue (gives_undo self.now.serial reply)) self.now.history }
     {
         self.token.serial()
+    }
+}
+
+impl<L: Terms> AtFront<L, Undo<L>> for Issued<L, vpg_desk::Undo> {
+    ghost use Rattle.std.specs.Prelude.{◌≡◌, IsTrue};
+    ghost use Rattle.vpg_desk.specs.History.{gives_undo};
+
+    ghost Fits = { λ issued reply. (issued.share.amount ≡ 1) × (issued.share.parts ≡ 1) ×
+        IsTrue (gives_undo issued.token reply) };
+
+    ghost placed = { λ issued front. record { serial = issued.token; history = front } };
+
+    fn at(self, front: &Front<L>) -> Undo<L> {
+        let Issued { token, share } = self;
+        Undo {
+            token,
+            place: front.copy(),
+            share,
+        }
     }
 }

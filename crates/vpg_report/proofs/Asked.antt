@@ -1,10 +1,10 @@
 -- A request's calls, its answer, and what is held then.
-use Rattle.std.proofs.Common.{◌≡◌, ℕ, ◌+◌, ◌<◌, Bool, true, false, List, [], ◌∷◌, ◌++◌, Option, Some, Result, Ok, Err, refl, sym, ap, ◌∙◌, subst, inl, inr, arith}
+use Rattle.std.proofs.Common.{◌≡◌, ℕ, ◌+◌, ◌<◌, Bool, true, false, List, [], ◌∷◌, Option, Some, Result, Ok, Err, refl, sym, ap, ◌∙◌, subst, inl, inr, arith}
 use Rattle.std.specs.Prelude.{length, codes, IfOk, OnOk}
 use Rattle.vpg_features.specs.Names.{index_of}
 use Rattle.vpg_diagram.specs.DiagramText.{NamedDiagram}
 use Rattle.vpg_trail.specs.Page.{Which, Decision, Entry}
-use Rattle.vpg_desk.specs.Book.{Harvest, Call, Reply, Decide, Order, Commit, Settled, Page, Changed, Ordered, Added, IsSettled, PageIs, Refused}
+use Rattle.vpg_desk.specs.Book.{Harvest, Call, Reply, Decide, Order, Commit, Settled, Page, Ordered, Added, IsSettled, PageIs, Refused}
 use Rattle.vpg_faults.specs.declared.refusal.Refusal.{Refusal}
 use Rattle.vpg_desk.specs.Desk.{family_of}
 use Rattle.vpg_desk.specs.History.{Event, IsLegalFrom, book_after}
@@ -196,28 +196,29 @@ module _ (limit : ℕ) (limit_is : limit ≡ room) (label : ℕ) where
       (subst (λ c. Begins (scene_at old) old.held old.client.calls label P c [] full_log new.held) (sym begins) (inr (omega (arith, is, limit_is), (refl, refl, held))))
       (none old.client new.client client) appended
 
-  pub full : {tone : Tone} (old new : EngineState) (command : script.Command) (call : Call) (before after : List ℕ) → first_call (scene_at old) old.held command ≡ Ok call → old.client.calls ≡ limit →
-      new.client ≡ old.client → new.held ≡ old.held → IsGiven full_log tone before after → AnswersTo old (record { label = label; command = command }) tone before after new
-  full old new command call before after first is client held appended =
-      record { by = full_by old new (first_call (scene_at old) old.held command) (Continues (scene_at old) old.held (old.client.calls + 1) label command) call before after first is client held appended }
-
   -- the desk's refusal leaves what is held
-  pub refused : {tone : Tone} (old new : EngineState) (command : script.Command) (call : Call) (r : Refusal) (names : List (List ℕ)) (before after : List ℕ) → first_call (scene_at old) old.held command ≡ Ok call →
+  refused_by : {tone : Tone} (old new : EngineState) (first : Result Call Own) (P : Reply → Rest) (call : Call) (r : Refusal) (names : List (List ℕ)) (before after : List ℕ) → first ≡ Ok call →
       IsLogged limit old.client label call (Refused r) new.client → new.held ≡ old.held → names ≡ new.client.desk.diagram.names →
-      IsGiven (refusal_of (refusal_text names r)) tone before after → AnswersTo old (record { label = label; command = command }) tone before after new
-  refused {tone = tone} old new command call r names before after first logged held names_are told =
-      asked old new command call (Refused r) (refusal_of (refusal_text old.client.desk.diagram.names r)) before after first logged (refl, refl, held)
+      IsGiven (refusal_of (refusal_text names r)) tone before after → AnswersBy old label first P tone before after new
+  refused_by {tone = tone} old new first P call r names before after begins logged held names_are told =
+      asked_by old new first P call (Refused r) (refusal_of (refusal_text old.client.desk.diagram.names r)) before after begins logged (refl, refl, held)
       (subst (λ (ns : List (List ℕ)). IsGiven (refusal_of (refusal_text ns r)) tone before after) (names_are ∙ ap (λ (d : NamedDiagram). d.names) logged.step.diagram) told)
 
   -- what the client tells of a call that it doesn't make
+  pub unanswered_by : {F : Type 0} {tone : Tone} (refusal : F → Option Refusal) (old new : EngineState) (first : Result Call Own) (P : Reply → Rest) (call : Call) (fault : ClientFault F) (names : List (List ℕ)) (before after : List ℕ) →
+      first ≡ Ok call → Tells limit refusal old.client label call new.client fault → UnlessStray fault (new.held ≡ old.held) →
+      names ≡ new.client.desk.diagram.names → TellsFault names refusal fault tone before after → AnswersBy old label first P tone before after new
+  unanswered_by refusal old new first P call faults.LogFull names before after begins tells held names_are told = full_by old new first P call before after begins tells.0 tells.1 held told
+  unanswered_by {tone = tone} refusal old new first P call (faults.Refused fault) names before after begins tells held names_are told =
+      refused_by old new first P call tells.0 names before after begins tells.1.1 held names_are (subst (λ (x : Option Refusal). TellsRefusal names x tone before after) tells.1.0 told)
+  unanswered_by refusal old new first P call faults.Stray names before after begins tells held names_are told = absurd told
+  unanswered_by refusal old new first P call faults.Memory names before after begins tells held names_are told = absurd told
+
   pub unanswered : {F : Type 0} {tone : Tone} (refusal : F → Option Refusal) (old new : EngineState) (command : script.Command) (call : Call) (fault : ClientFault F) (names : List (List ℕ)) (before after : List ℕ) →
       first_call (scene_at old) old.held command ≡ Ok call → Tells limit refusal old.client label call new.client fault → UnlessStray fault (new.held ≡ old.held) →
       names ≡ new.client.desk.diagram.names → TellsFault names refusal fault tone before after → AnswersTo old (record { label = label; command = command }) tone before after new
-  unanswered refusal old new command call faults.LogFull names before after first tells held names_are told = full old new command call before after first tells.0 tells.1 held told
-  unanswered {tone = tone} refusal old new command call (faults.Refused fault) names before after first tells held names_are told =
-      refused old new command call tells.0 names before after first tells.1.1 held names_are (subst (λ (x : Option Refusal). TellsRefusal names x tone before after) tells.1.0 told)
-  unanswered refusal old new command call faults.Stray names before after first tells held names_are told = absurd told
-  unanswered refusal old new command call faults.Memory names before after first tells held names_are told = absurd told
+  unanswered refusal old new command call fault names before after first tells held names_are told =
+      record { by = unanswered_by refusal old new (first_call (scene_at old) old.held command) (Continues (scene_at old) old.held (old.client.calls + 1) label command) call fault names before after first tells held names_are told }
 
   -- the same of a call that the desk never refuses
   pub log_full_by : {F : Type 0} {tone : Tone} (refusal : F → Option Refusal) (old new : EngineState) (first : Result Call Own) (P : Reply → Rest) (call : Call) (fault : ClientFault F) (before after : List ℕ) →
@@ -355,8 +356,3 @@ module _ (limit : ℕ) (limit_is : limit ≡ room) (label : ℕ) where
 pub named_first : (scene : Scene) (held : Held) (value : Bool) (name : List ℕ) → first_call scene held (deciding value name) ≡ call_or NoFeature (λ f. Decide f value) (index_of scene.names name)
 named_first scene held true name = refl
 named_first scene held false name = refl
-
-pub continues_decided : (scene : Scene) (held new : Held) (made label s : ℕ) (value : Bool) (name : List ℕ) → new ≡ record held { undos = held.undos ++ s ∷ [] } →
-    Continues scene held made label (deciding value name) (Changed s) [] (done (numbered (codes "done") s)) new
-continues_decided scene held new made label s true name is = (refl, refl, is)
-continues_decided scene held new made label s false name is = (refl, refl, is)

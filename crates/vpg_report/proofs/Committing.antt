@@ -11,7 +11,7 @@ use Rattle.vpg_trail.specs.Page.{Literal, stands, choices_of}
 use Rattle.vpg_desk.specs.Book.{Harvest, Commit, Added, Refused, first_missing, outdated_at, refuses_commit}
 use Rattle.vpg_faults.specs.declared.refusal.Refusal.{Refusal}
 use Rattle.vpg_faults.specs.declared.refusal.Refusal.TheVariants.{Outdated}
-use Rattle.vpg_desk.specs.Commit.{IsOrderOf, handed_in}
+use Rattle.vpg_desk.specs.Commit.{handed_in}
 use Rattle.vpg_faults.specs.Refusals.{commit_refusal}
 use Rattle.vpg_faults.specs.declared.fault.CommitFault.{CommitFault}
 use Rattle.vpg_faults.specs.declared.fault.CommitFault.TheVariants as commits
@@ -19,7 +19,7 @@ use Rattle.vpg_desk.specs.State.{DeskState, Replies}
 use Rattle.vpg_script.specs.Answer.{IsGiven, done, refused}
 use Rattle.vpg_script.specs.declared.tone.Tone.{Tone}
 use Rattle.vpg_report.specs.Client.{ClientState, IsLogged}
-use Rattle.vpg_report.specs.Faults.{Tells, CommitTells, UnlessStray}
+use Rattle.vpg_report.specs.Faults.{Tells, UnlessStray}
 use Rattle.vpg_report.specs.declared.fault.ClientFault.{ClientFault}
 use Rattle.vpg_report.specs.declared.fault.ClientFault.TheVariants as faults
 use Rattle.vpg_report.specs.declared.fault.ClientFault.TheVariants.{LogFull, Refused as Refuses, Stray, Memory}
@@ -53,19 +53,11 @@ module _ (old : EngineState) (session number : ℕ) (harvests : List (Option Har
     committed added logged held appended =
         asked limit limit_is session old new (script.Commit number) (Commit (handed_in true harvest)) (Added added) (done (numbered (codes "added") added)) before after commit_first logged (refl, refl, held) appended
 
-    -- a kept harvest is of the desk
-    of_own : (fault : ClientFault CommitFault) → IsOrderOf old.client.desk harvest.order → CommitTells limit old.client session harvest new.client fault →
-        Tells limit commit_refusal old.client session (Commit (handed_in true harvest)) new.client fault
-    of_own (faults.Refused fault) own (b, (tells, told)) = subst (λ (x : Bool). Tells limit commit_refusal old.client session (Commit (handed_in x harvest)) new.client (faults.Refused fault)) (tells.1 own) told
-    of_own faults.LogFull own told = told
-    of_own faults.Stray own told = told
-    of_own faults.Memory own told = told
-
-    pub commit_refused : {tone : Tone} (fault : ClientFault CommitFault) (names : List (List ℕ)) → IsOrderOf old.client.desk harvest.order → CommitTells limit old.client session harvest new.client fault →
+    pub commit_refused : {tone : Tone} (fault : ClientFault CommitFault) (names : List (List ℕ)) → Tells limit commit_refusal old.client session (Commit (handed_in true harvest)) new.client fault →
         UnlessStray fault (new.held ≡ old.held) → names ≡ new.client.desk.diagram.names → TellsFault names commit_refusal fault tone before after →
         AnswersTo old (record { label = session; command = script.Commit number }) tone before after new
-    commit_refused fault names own tells held names_are told =
-        unanswered limit limit_is session commit_refusal old new (script.Commit number) (Commit (handed_in true harvest)) fault names before after commit_first (of_own fault own tells) held names_are told
+    commit_refused fault names tells held names_are told =
+        unanswered limit limit_is session commit_refusal old new (script.Commit number) (Commit (handed_in true harvest)) fault names before after commit_first tells held names_are told
 
 -- ---- the feature that an outdated harvest names
 
@@ -93,19 +85,19 @@ outdated_named desk harvest f b named (Some r, (refuses, told)) = go b (sym refu
 
 -- what the client tells of an outdated harvest
 pub outdated_within : (limit : ℕ) (old new : ClientState) (session : ℕ) (harvest : HarvestView) (f : ℕ) (fault : ClientFault CommitFault) → AreChoicesOf old.desk.diagram.lines (map literal_of harvest.order.decisions) →
-    CommitTells limit old session harvest new fault → fault ≡ faults.Refused (commits.Outdated f) → f < feature_count old.desk.diagram.lines
-outdated_within limit old new session harvest f fault named tells is = go (subst (λ (x : ClientFault CommitFault). CommitTells limit old session harvest new x) is tells)
+    Tells limit commit_refusal old session (Commit (handed_in true harvest)) new fault → fault ≡ faults.Refused (commits.Outdated f) → f < feature_count old.desk.diagram.lines
+outdated_within limit old new session harvest f fault named tells is = go (subst (λ (x : ClientFault CommitFault). Tells limit commit_refusal old session (Commit (handed_in true harvest)) new x) is tells)
   where
-    go : CommitTells limit old session harvest new (faults.Refused (commits.Outdated f)) → f < feature_count old.desk.diagram.lines
-    go (b, (tells, (r, (same, logged)))) =
-        outdated_named old.desk harvest f b named (subst (λ (x : Refusal). Replies old.desk (Commit (handed_in b harvest)) (Refused x)) (refusal_is r same) logged.step.step.0)
+    go : Tells limit commit_refusal old session (Commit (handed_in true harvest)) new (faults.Refused (commits.Outdated f)) → f < feature_count old.desk.diagram.lines
+    go (r, (same, logged)) =
+        outdated_named old.desk harvest f true named (subst (λ (x : Refusal). Replies old.desk (Commit (handed_in true harvest)) (Refused x)) (refusal_is r same) logged.step.step.0)
       where
         refusal_is : (r : Refusal) → Some (Outdated f) ≡ Some r → r ≡ Outdated f
         refusal_is r e = sym (cc e)
 
 -- the features that the client's faults name
 pub committed_within : (limit : ℕ) (old new : ClientState) (session : ℕ) (harvest : HarvestView) (fault : ClientFault CommitFault) → AreChoicesOf old.desk.diagram.lines (map literal_of harvest.order.decisions) →
-    CommitTells limit old session harvest new fault → IsFaultWithin (feature_count old.desk.diagram.lines) commit_refusal fault
+    Tells limit commit_refusal old session (Commit (handed_in true harvest)) new fault → IsFaultWithin (feature_count old.desk.diagram.lines) commit_refusal fault
 committed_within limit old new session harvest LogFull named tells = tt
 committed_within limit old new session harvest (Refuses IsOther) named tells = tt
 committed_within limit old new session harvest (Refuses (IsOutdated f)) named tells = outdated_within limit old new session harvest f (Refuses (IsOutdated f)) named tells refl

@@ -8,9 +8,8 @@ use Rattle.vpg_measure.specs.Orders.{HarvestView}
 use Rattle.vpg_desk.specs.Book.{Call, Reply}
 use Rattle.vpg_faults.specs.declared.refusal.Refusal.{Refusal}
 use Rattle.vpg_desk.specs.State.{DeskState}
-use Rattle.vpg_faults.specs.declared.fault.CommitFault.{CommitFault}
 use Rattle.vpg_report.specs.Client.{ClientState, IsLogged}
-use Rattle.vpg_report.specs.Faults.{Tells, CommitTells, UnlessStray}
+use Rattle.vpg_report.specs.Faults.{Tells, UnlessStray}
 use Rattle.vpg_report.specs.declared.fault.ClientFault.{ClientFault}
 use Rattle.vpg_report.specs.declared.fault.ClientFault.TheVariants.{LogFull, Refused, Stray, Memory}
 use Rattle.vpg_report.specs.EngineFields.{IsEngine, AreOwnHarvests}
@@ -33,12 +32,6 @@ pub answered_stays : {A F : Type 0} (limit : ℕ) (refusal : F → Option Refusa
     IfOk r (λ a. IsLogged limit old label call (reply a) new) → IfErr r (Tells limit refusal old label call new) → Stays old new
 answered_stays limit refusal old label call reply new (Ok a) logged told = (logged.step.game, logged.step.diagram)
 answered_stays limit refusal old label call reply new (Err fault) logged told = stays limit refusal old label call new fault told
-
-pub commit_stays : (limit : ℕ) (old : ClientState) (label : ℕ) (harvest : HarvestView) (new : ClientState) (fault : ClientFault CommitFault) → CommitTells limit old label harvest new fault → Stays old new
-commit_stays limit old label harvest new (Refused fault) told = (told.1.1.1.1.step.game, told.1.1.1.1.step.diagram)
-commit_stays limit old label harvest new LogFull told = same old new told.1
-commit_stays limit old label harvest new Stray told = told.0
-commit_stays limit old label harvest new Memory told = same old new told
 
 -- what holds unless a call strayed
 pub unless_stray : {F : Type 0} (fault : ClientFault F) (P Q : Type 0) → UnlessStray fault P → (P → Q) → UnlessStray fault Q

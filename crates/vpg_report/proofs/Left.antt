@@ -1,5 +1,5 @@
 -- Pages that scripts leave.
-use Rattle.std.proofs.Common.{◌≡◌, ℕ, ◌⊎◌, inl, inr, false, List, [], ◌++◌, length, Option, Some, None, Result, Ok, Err, refl, sym, ap, subst, ◌∙◌}
+use Rattle.std.proofs.Common.{◌≡◌, ℕ, ◌⊎◌, inl, inr, List, length, Option, Some, None, Result, Ok, Err, refl, sym, ap, subst, ◌∙◌}
 use Rattle.std.specs.Prelude.{IfOk, IfErr}
 use Rattle.vpg_diagram.specs.DiagramText.{NamedDiagram}
 use Rattle.vpg_game.specs.Game.{NamedGame, graph_of}
@@ -29,9 +29,9 @@ use Rattle.vpg_report.specs.declared.fault.ClientFault.TheVariants.{LogFull}
 use Rattle.vpg_report.specs.Engine.{EngineState, IsOpenFault, between_of, engine_of}
 use Rattle.vpg_report.specs.Line.{Between}
 use Rattle.vpg_report.specs.Run.{answering_called, begun, called_by, called_in}
-use Rattle.vpg_report.specs.Runs.{Ends, IsRun, TellsOpening}
+use Rattle.vpg_report.specs.Runs.{TellsOpening}
 use Rattle.vpg_report.specs.Server.{IsOpenRefusal}
-use Rattle.vpg_report.specs.Left.{plain, LeavesBook, HandsOver, IsHanded, IsLeft, IsOrderOn, IsRunStopped, IsStopped, IsUnleft}
+use Rattle.vpg_report.specs.Left.{plain, IsHanded, IsLeft, IsOrderOn, IsRunStopped, IsStopped, IsUnleft}
 use Rattle.vpg_report.proofs.Results.{opens as opened, outcome_as}
 use Rattle.vpg_report.proofs.RunEnds.{nothing_ran, run_of_opening}
 

@@ -2,32 +2,31 @@
 use Rattle.std.proofs.Common.{◌≡◌, ℕ, ◌+◌, ◌-◌, ◌<◌, ◌≤◌, Bool, true, List, [], ◌∷◌, ◌++◌, length, take, Option, refl, sym, ap, ◌∙◌, subst, arith, length-append, append-nil, inl, inr}
 use mathlib.Core.List.{IsPrefix}
 use Rattle.std.specs.Bool.{Decides}
-use Rattle.std.specs.Prelude.{slice_index_or, slice_set, Result, Ok, Err, IfOk, IfErr, OnOk, MatchResult}
+use Rattle.std.specs.Prelude.{not, slice_index_or, slice_set, Result, Ok, Err, IfOk, IfErr, OnOk, MatchResult}
 use Rattle.std.proofs.lemmas.List.{get_or_read}
 use Rattle.std.proofs.lemmas.Result.{IfOk-at_ok}
 use Rattle.vpg_diagram.specs.DiagramText.{NamedDiagram}
 use Rattle.vpg_game.specs.Game.{NamedGame}
 use Rattle.vpg_measure.specs.Orders.{HarvestView}
 use Rattle.vpg_desk.specs.Book as book
-use Rattle.vpg_trail.specs.Page.{Entry as Step}
-use Rattle.vpg_desk.specs.Book.{Family, Call, Reply, Commit, Page, PageIs, opened}
+use Rattle.vpg_desk.specs.Book.{Family, Call, Reply, Commit, opened}
 use Rattle.vpg_faults.specs.declared.refusal.Refusal.{Refusal}
-use Rattle.vpg_desk.specs.Commit.{IsOrderOf, handed_in}
+use Rattle.vpg_desk.specs.Commit.{handed_in}
 use Rattle.vpg_faults.specs.Refusals.{commit_refusal}
 use Rattle.vpg_faults.specs.declared.fault.CommitFault.{CommitFault}
-use Rattle.vpg_desk.specs.History.{Event, IsLegal, book_after, page_after}
+use Rattle.vpg_desk.specs.History.{Event, IsLegal, book_after}
 use Rattle.vpg_desk.proofs.UndoRedo.{legal_parts}
-use Rattle.vpg_office.specs.Faults.{Tells as OfficeTells, CommitTells as OfficeCommitTells, logged as entries}
-use Rattle.vpg_office.specs.Fronts.{Extends, GoesBackTo, Overtakes, before_last, calls_by, event, family_between}
-use Rattle.vpg_office.specs.Token.{Caller, TokenView}
+use Rattle.vpg_office.specs.Faults.{TellsOf as OfficeTells, RefusedFor as OfficeRefused, logged as entries}
+use Rattle.vpg_office.specs.Fronts.{Extends, Overtakes, before_last, calls_by, event, family_between}
+use Rattle.vpg_office.specs.Story.{IsOf, tells_other}
+use Rattle.vpg_office.specs.Token.{Caller}
 use Rattle.vpg_office.specs.declared.fault.Fault.{Fault}
 use Rattle.vpg_office.specs.declared.fault.Fault.TheVariants as office
-use Rattle.vpg_office.proofs.Calling.{page_is}
 use Rattle.vpg_office.proofs.Stories.{book_more}
 use Rattle.vpg_report.proofs.Fronts.{none_of, same_front}
 use Rattle.vpg_report.proofs.Seats.{counted_at, seats_stay}
-use Rattle.vpg_report.specs.Client.{ClientState, IsLogged, IsNumbered, IsBeyond, HasForeignCall, IsUnseated, calls_of, unseated_from, client_in, client_after, nobody, page_of}
-use Rattle.vpg_report.specs.Faults.{Tells, CommitTells, HasStrayed, Sorts, IsAbsent, UnlessStray, shown_by, shown_after}
+use Rattle.vpg_report.specs.Client.{ClientState, IsLogged, IsFrontOf, IsNumbered, IsBeyond, calls_of, unseated_from, client_in, client_after, nobody}
+use Rattle.vpg_report.specs.Faults.{RefusedFor, Tells, TellsOf, HasStrayed, Sorts, IsAbsent, UnlessStray, shown_by, shown_after}
 use Rattle.vpg_report.specs.declared.fault.ClientFault.{ClientFault}
 use Rattle.vpg_report.specs.declared.fault.ClientFault.TheVariants.{LogFull, Refused, Stray, Memory}
 
@@ -69,23 +68,12 @@ said_of_ok {T} {E} answer made P Q is p = subst (λ (a : Result T E). MatchResul
 pub said_of_err : {T E : Type 0} (answer : Result T E) (fault : E) (P : T → Type 0) (Q : E → Type 0) → answer ≡ Err fault → Q fault → MatchResult answer P Q
 said_of_err {T} {E} answer fault P Q is q = subst (λ (a : Result T E). MatchResult a P Q) (sym is) q
 
--- the same comes back with each refusal
-pub same_back : {U D T E G X : Type 0} (result : Result U D) (answer : Result T E) (told_of : D → ClientFault G) (value_of : D → X) (Sorted : D → E → Type 0) (value : X) (Longer : Type 0) →
-    IfErr result (λ d. MatchResult answer (λ _. (told_of d ≡ Stray) × Longer) (λ e. Sorted d e × (value_of d ≡ value))) → IfErr result (λ d. UnlessStray (told_of d) (value_of d ≡ value))
-same_back (Ok u) answer told_of value_of Sorted value Longer is = tt
-same_back (Err d) (Ok t) told_of value_of Sorted value Longer is = subst (λ told. UnlessStray told (value_of d ≡ value)) (sym is.0) tt
-same_back (Err d) (Err e) told_of value_of Sorted value Longer is = unless_stray (told_of d) is.1
-
 -- what the answer gives back comes back
 pub comes_back : {U D T E G V X : Type 0} (result : Result U D) (answer : Result T E) (told_of : D → ClientFault G) (value_of : D → X) (Sorted : D → E → Type 0) (wrapped : V → X) (back : E → V) (value : V) (Longer : Type 0) →
     IfErr result (λ d. MatchResult answer (λ _. (told_of d ≡ Stray) × Longer) (λ e. Sorted d e × (value_of d ≡ wrapped (back e)))) → IfErr answer (λ e. back e ≡ value) → IfErr result (λ d. UnlessStray (told_of d) (value_of d ≡ wrapped value))
 comes_back (Ok u) answer told_of value_of Sorted wrapped back value Longer is same = tt
 comes_back (Err d) (Ok t) told_of value_of Sorted wrapped back value Longer is same = subst (λ told. UnlessStray told (value_of d ≡ wrapped value)) (sym is.0) tt
 comes_back (Err d) (Err e) told_of value_of Sorted wrapped back value Longer is same = unless_stray (told_of d) (is.1 ∙ ap wrapped same)
-
-pub on_made : {T D E : Type 0} (result : Result T D) (answer : Result T E) (P Q : Type 0) → IfOk result (λ t. answer ≡ Ok t) → OnOk answer P → (P → Q) → OnOk result Q
-on_made {T} (Ok t) answer P Q is p then = then (IfOk-at_ok (λ (_ : T). P) is p)
-on_made (Err d) answer P Q is p then = tt
 
 -- ---- logs that are longer than the front
 
@@ -108,11 +96,6 @@ pub grew : {T E : Type 0} (family : Family) (front : List Event) (session : ℕ)
     OnOk answer (length front < length new)
 grew family front session call reply new (Ok t) done = grows family front session call (reply t) new done
 grew family front session call reply new (Err e) done = tt
-
-pub token_grew : {E : Type 0} (family : Family) (front : List Event) (session : ℕ) (call : Call) (reply : TokenView → Reply) (new : List Event) (answer : Result TokenView E) →
-    IfOk answer (λ t. Extends family front session call (reply t) new × (t.history ≡ new)) → OnOk answer (length front < length new)
-token_grew family front session call reply new (Ok t) done = grows family front session call (reply t) new done.0
-token_grew family front session call reply new (Err e) done = tt
 
 -- ---- counts of calls
 
@@ -164,9 +147,6 @@ module _ (game : NamedGame) (diagram : NamedDiagram) (room : ℕ) (first session
           seats = seats;
         }
 
-    stood : (own : List Event) → own ≡ new → page_after F (before_last own) ≡ page_after F front
-    stood own same = ap (λ (l : List Event). page_after F (before_last l)) (same ∙ grown) ∙ ap (page_after F) (before_more front (event label call reply))
-
   module _ (label : ℕ) (within : place < length sessions) (at : mine ≡ slice_index_or sessions place mine) (is_seat : (slice_index_or sessions place nobody).number ≡ label) (own : calls_of sessions ≡ calls_of first)
       (seated : unseated_from 1 sessions ≡ unseated_from 1 first) (kept : made.number ≡ mine.number) (old : ClientState) (view : before front ≡ old) where
     by : mine.number ≡ label
@@ -188,20 +168,6 @@ module _ (game : NamedGame) (diagram : NamedDiagram) (room : ℕ) (first session
     pub accepted : (call : Call) (reply : Reply) → length new ≤ room → length new ≡ length front + 1 → made.calls ≡ mine.calls + 1 → Extends F front mine.number call reply new → IsLogged room old label call reply (here new)
     accepted call reply fits more counts is = subst (λ (s : ClientState). IsLogged room s label call reply (here new)) view (logged label call reply more (here_by call reply is) fits (own_after 1 counts) seats_are)
 
-    -- a token of the call stands for the page that was present
-    pub stands_for : (call : Call) (reply : Reply) (token : TokenView) → length new ≡ length front + 1 → Extends F front mine.number call reply new → token.history ≡ new → page_of (here new).desk token ≡ old.desk.book.present
-    stands_for call reply token more is same = stood label call reply more (here_by call reply is) token.history same ∙ ap (λ (s : ClientState). s.desk.book.present) view
-
-    pub restored : (token : TokenView) → GoesBackTo F new token.history → (here new).desk.book.present ≡ page_of old.desk token
-    restored token goes = subst (λ (s : ClientState). (here new).desk.book.present ≡ page_of s.desk token) view goes
-
-    -- a page is the present one, and leaves the book
-    pub page_present : (entries : List Step) → length new ≤ room → length new ≡ length front + 1 → made.calls ≡ mine.calls + 1 → Extends F front mine.number Page (PageIs entries) new → entries ≡ old.desk.book.present
-    page_present entries fits more counts is = page_is old.desk entries (accepted Page (PageIs entries) fits more counts is).step.step.0
-
-    pub page_stays : (entries : List Step) → length new ≤ room → length new ≡ length front + 1 → made.calls ≡ mine.calls + 1 → Extends F front mine.number Page (PageIs entries) new → book_after F opened new ≡ old.desk.book
-    page_stays entries fits more counts is = (accepted Page (PageIs entries) fits more counts is).step.step.1
-
     module _ (calls : ℕ) (calls_is : calls ≡ length front) where
       -- the log grew by a call that no session of the client made
       strayed : (last : List Event) (n : ℕ) → length front + n < length last → made.calls ≡ mine.calls + n → (((here last).desk.game ≡ old.desk.game) × ((here last).desk.diagram ≡ old.desk.diagram)) × HasStrayed old label (here last)
@@ -213,8 +179,9 @@ module _ (game : NamedGame) (diagram : NamedDiagram) (room : ℕ) (first session
       stays log same counts = (λ k. client_in game diagram (own_same counts k) (seats_are k) (same k)) ∙ view
 
       -- what the client tells of the office's fault
-      pub tells : {T G : Type 0} (refusal : G → Option Refusal) (call : Call) (fault : Fault T G) (told : ClientFault G) → length (shown_by fault new) ≤ room → Sorts calls (length (shown_by fault new)) fault told →
-          made.calls ≡ mine.calls + entries fault → OfficeTells F room refusal call mine.number front new fault → Tells room refusal old label call (here (shown_by fault new)) told
+      pub tells : {T G : Type 0} (refusal : G → Option Refusal) (call : Refusal → Call) (fault : Fault T G) (told : ClientFault G) → length (shown_by fault new) ≤ room → Sorts calls (length (shown_by fault new)) fault told →
+          made.calls ≡ mine.calls + entries fault → OfficeTells F room refusal (λ r. Extends F front mine.number (call r) (book.Refused r) new) mine.number front new fault →
+          TellsOf room refusal (λ r. IsLogged room old label (call r) (book.Refused r) (here (shown_by fault new))) old label (here (shown_by fault new)) told
       tells refusal call (office.LogFull log) LogFull fits same counts said =
           (subst (λ (s : ClientState). s.calls ≡ room) view (sym calls_is ∙ sym same ∙ said.2), stays log (same_front front log said.1 (same ∙ calls_is)) counts)
       tells refusal call (office.LogFull log) (Refused other) fits sorts counts said = absurd sorts
@@ -226,81 +193,32 @@ module _ (game : NamedGame) (diagram : NamedDiagram) (room : ℕ) (first session
       tells refusal call (office.Doubled log) Memory fits sorts counts said = absurd sorts
       tells refusal call (office.Refused fault) LogFull fits sorts counts said = absurd sorts
       tells refusal call (office.Refused fault) (Refused other) fits (is, more) counts said =
-          (said.0, (ap refusal is ∙ said.1.0, accepted call (book.Refused said.0) fits (more ∙ ap (λ (n : ℕ). n + 1) calls_is) counts said.1.1))
+          (said.0, (ap refusal is ∙ said.1.0, accepted (call said.0) (book.Refused said.0) fits (more ∙ ap (λ (n : ℕ). n + 1) calls_is) counts said.1.1))
       tells refusal call (office.Refused fault) Stray fits other counts said =
-          strayed new 1 (no_other (length front) (length new) (length new) calls (grows F front mine.number call (book.Refused said.0) new said.1.1) other refl calls_is) counts
+          strayed new 1 (no_other (length front) (length new) (length new) calls (grows F front mine.number (call said.0) (book.Refused said.0) new said.1.1) other refl calls_is) counts
       tells refusal call (office.Refused fault) Memory fits sorts counts said = absurd sorts
       tells refusal call office.Memory LogFull fits sorts counts said = absurd sorts
       tells refusal call office.Memory (Refused other) fits sorts counts said = absurd sorts
       tells refusal call office.Memory Stray fits sorts counts said = absurd sorts
       tells refusal call office.Memory Memory fits sorts counts said = stays new said counts
 
-      pub commit_tells : {T : Type 0} (harvest : HarvestView) (fault : Fault T CommitFault) (told : ClientFault CommitFault) → length (shown_by fault new) ≤ room → Sorts calls (length (shown_by fault new)) fault told →
-          made.calls ≡ mine.calls + entries fault → OfficeCommitTells game diagram room harvest mine.number front new fault → CommitTells room old label harvest (here (shown_by fault new)) told
-      commit_tells harvest (office.LogFull log) LogFull fits same counts said =
-          (subst (λ (s : ClientState). s.calls ≡ room) view (sym calls_is ∙ sym same ∙ said.2), stays log (same_front front log said.1 (same ∙ calls_is)) counts)
-      commit_tells harvest (office.LogFull log) (Refused other) fits sorts counts said = absurd sorts
-      commit_tells harvest (office.LogFull log) Stray fits other counts said = strayed log 0 (none_made (length front) (length log) (longer front log calls calls_is said.1 other)) counts
-      commit_tells harvest (office.LogFull log) Memory fits sorts counts said = absurd sorts
-      commit_tells harvest (office.Doubled log) LogFull fits sorts counts said = absurd sorts
-      commit_tells harvest (office.Doubled log) (Refused other) fits sorts counts said = absurd sorts
-      commit_tells harvest (office.Doubled log) Stray fits sorts counts said = strayed log 0 (none_made (length front) (length log) (overtaken F front mine.number log said.2)) counts
-      commit_tells harvest (office.Doubled log) Memory fits sorts counts said = absurd sorts
-      commit_tells harvest (office.Refused fault) LogFull fits sorts counts said = absurd sorts
-      commit_tells harvest (office.Refused fault) (Refused other) fits (is, more) counts said =
-          let logs = accepted (Commit (handed_in said.0 harvest)) (book.Refused said.1.1.0) fits (more ∙ ap (λ (n : ℕ). n + 1) calls_is) counts said.1.1.1.1 in
-          (said.0, (subst (λ (s : ClientState). Decides said.0 (IsOrderOf s.desk harvest.order)) view said.1.0, (said.1.1.0, (ap commit_refusal is ∙ said.1.1.1.0, logs))))
-      commit_tells harvest (office.Refused fault) Stray fits other counts said =
-          strayed new 1 (no_other (length front) (length new) (length new) calls (grows F front mine.number (Commit (handed_in said.0 harvest)) (book.Refused said.1.1.0) new said.1.1.1.1) other refl calls_is) counts
-      commit_tells harvest (office.Refused fault) Memory fits sorts counts said = absurd sorts
-      commit_tells harvest office.Memory LogFull fits sorts counts said = absurd sorts
-      commit_tells harvest office.Memory (Refused other) fits sorts counts said = absurd sorts
-      commit_tells harvest office.Memory Stray fits sorts counts said = absurd sorts
-      commit_tells harvest office.Memory Memory fits sorts counts said = stays new said counts
-
       -- ---- what is said of an answer; after it the client's front is the log that it shows
 
       pub all_told : {U D T E G L : Type 0} (answer : Result T E) (fault_of : E → Fault L G) → OnOk answer (made.calls ≡ mine.calls + 1) → IfErr answer (λ e. made.calls ≡ mine.calls + entries (fault_of e)) →
           (last : List Event) → last ≡ shown_after answer fault_of new → (result : Result U D) (told_of : D → ClientFault G) (Back : D → E → Type 0)
-          (refusal : G → Option Refusal) (call : Call) → length last ≤ room → OnOk answer (length front < length new) →
+          (refusal : G → Option Refusal) (call : Refusal → Call) → length last ≤ room → OnOk answer (length front < length new) →
           IfErr result (λ d. MatchResult answer (λ _. (told_of d ≡ Stray) × ¬ (length last ≡ calls + 1)) (λ e. Sorts calls (length last) (fault_of e) (told_of d) × Back d e)) →
-          IfErr answer (λ e. OfficeTells F room refusal call mine.number front new (fault_of e)) → IfErr result (λ d. Tells room refusal old label call (here last) (told_of d))
+          IfErr answer (λ e. OfficeTells F room refusal (λ r. Extends F front mine.number (call r) (book.Refused r) new) mine.number front new (fault_of e)) →
+          IfErr result (λ d. TellsOf room refusal (λ r. IsLogged room old label (call r) (book.Refused r) (here last)) old label (here last) (told_of d))
       all_told answer fault_of counted uncounted last last_is (Ok u) told_of Back refusal call fits more is said = tt
       all_told {U} {D} {T} {E} {G} {L} (Ok t) fault_of counted uncounted last last_is (Err d) told_of Back refusal call fits more is said =
-          subst (λ (told : ClientFault G). Tells room refusal old label call (here last) told) (sym is.0)
+          subst (λ (told : ClientFault G). TellsOf room refusal (λ r. IsLogged room old label (call r) (book.Refused r) (here last)) old label (here last) told) (sym is.0)
           (strayed last 1 (no_other (length front) (length last) (length last) calls (omega (arith, more, ap length last_is)) is.1 refl calls_is) counted)
       all_told (Err e) fault_of counted uncounted last last_is (Err d) told_of Back refusal call fits more is said =
           let sorts = subst (λ (l : List Event). Sorts calls (length l) (fault_of e) (told_of d)) last_is is.0 in
           let room_for = subst (λ (l : List Event). length l ≤ room) last_is fits in
-          subst (λ (l : List Event). Tells room refusal old label call (here l) (told_of d)) (sym last_is) (tells refusal call (fault_of e) (told_of d) room_for sorts uncounted said)
-
-      pub look_told : {U T G L : Type 0} (answer : Result T (Fault L G)) → OnOk answer (made.calls ≡ mine.calls + 1) → IfErr answer (λ e. made.calls ≡ mine.calls + entries e) →
-          (last : List Event) → last ≡ shown_after answer (λ e. e) new → (result : Result U (ClientFault G)) (refusal : G → Option Refusal) (call : Call) → length last ≤ room →
-          OnOk answer (length front < length new) →
-          IfErr result (λ d. MatchResult answer (λ _. (d ≡ Stray) × ¬ (length last ≡ calls + 1)) (λ e. Sorts calls (length last) e d)) → IfErr answer (OfficeTells F room refusal call mine.number front new) →
-          IfErr result (Tells room refusal old label call (here last))
-      look_told answer counted uncounted last last_is (Ok u) refusal call fits more is said = tt
-      look_told {U} {T} {G} {L} (Ok t) counted uncounted last last_is (Err d) refusal call fits more is said =
-          subst (λ (told : ClientFault G). Tells room refusal old label call (here last) told) (sym is.0)
-          (strayed last 1 (no_other (length front) (length last) (length last) calls (omega (arith, more, ap length last_is)) is.1 refl calls_is) counted)
-      look_told (Err e) counted uncounted last last_is (Err d) refusal call fits more is said =
-          let sorts = subst (λ (l : List Event). Sorts calls (length l) e d) last_is is in
-          let room_for = subst (λ (l : List Event). length l ≤ room) last_is fits in
-          subst (λ (l : List Event). Tells room refusal old label call (here l) d) (sym last_is) (tells refusal call e d room_for sorts uncounted said)
-
-      pub all_commit_told : {U D T E L : Type 0} (answer : Result T E) (fault_of : E → Fault L CommitFault) → OnOk answer (made.calls ≡ mine.calls + 1) → IfErr answer (λ e. made.calls ≡ mine.calls + entries (fault_of e)) →
-          (last : List Event) → last ≡ shown_after answer fault_of new → (result : Result U D) (told_of : D → ClientFault CommitFault)
-          (Back : D → E → Type 0) (harvest : HarvestView) → length last ≤ room → OnOk answer (length front < length new) →
-          IfErr result (λ d. MatchResult answer (λ _. (told_of d ≡ Stray) × ¬ (length last ≡ calls + 1)) (λ e. Sorts calls (length last) (fault_of e) (told_of d) × Back d e)) →
-          IfErr answer (λ e. OfficeCommitTells game diagram room harvest mine.number front new (fault_of e)) → IfErr result (λ d. CommitTells room old label harvest (here last) (told_of d))
-      all_commit_told answer fault_of counted uncounted last last_is (Ok u) told_of Back harvest fits more is said = tt
-      all_commit_told (Ok t) fault_of counted uncounted last last_is (Err d) told_of Back harvest fits more is said =
-          subst (λ (told : ClientFault CommitFault). CommitTells room old label harvest (here last) told) (sym is.0)
-          (strayed last 1 (no_other (length front) (length last) (length last) calls (omega (arith, more, ap length last_is)) is.1 refl calls_is) counted)
-      all_commit_told (Err e) fault_of counted uncounted last last_is (Err d) told_of Back harvest fits more is said =
-          let sorts = subst (λ (l : List Event). Sorts calls (length l) (fault_of e) (told_of d)) last_is is.0 in
-          let room_for = subst (λ (l : List Event). length l ≤ room) last_is fits in
-          subst (λ (l : List Event). CommitTells room old label harvest (here l) (told_of d)) (sym last_is) (commit_tells harvest (fault_of e) (told_of d) room_for sorts uncounted said)
+          subst (λ (l : List Event). TellsOf room refusal (λ r. IsLogged room old label (call r) (book.Refused r) (here l)) old label (here l) (told_of d)) (sym last_is)
+          (tells refusal call (fault_of e) (told_of d) room_for sorts uncounted said)
 
       module _ {T E L G : Type 0} (answer : Result T E) (fault_of : E → Fault L G) (last : List Event) (last_is : last ≡ shown_after answer fault_of new) where
         at_last : (t : T) → answer ≡ Ok t → last ≡ new
@@ -323,51 +241,61 @@ module _ (game : NamedGame) (diagram : NamedDiagram) (room : ℕ) (first session
             (accepted call (reply t) (fits_new t is fits) (one_more t is more) (counted_once t is counted) (IfOk-at_ok (λ (x : T). Extends F front mine.number call (reply x) new) is done))
         step_made (Err d) call reply counted is more fits done = tt
 
-        pub page_restored : {D : Type 0} (token : TokenView) (result : Result T D) → IfOk result (λ t. answer ≡ Ok t) → OnOk answer (GoesBackTo F new token.history) → OnOk result ((here last).desk.book.present ≡ page_of old.desk token)
-        page_restored token (Ok t) is goes =
-            subst (λ (l : List Event). (here l).desk.book.present ≡ page_of old.desk token) (sym (at_last t is)) (restored token (IfOk-at_ok (λ (_ : T). GoesBackTo F new token.history) is goes))
-        page_restored token (Err d) is goes = tt
+        -- what was made says so of a front that ends with the call
+        pub gives_made : {D : Type 0} (result : Result T D) (call : Call) (reply : T → Reply) (Gives : List Event → T → Type 0) → IfOk result (λ t. answer ≡ Ok t) → OnOk result (length last ≡ calls + 1) →
+            IfOk answer (λ t. Extends F front mine.number call (reply t) new) → IfOk answer (Gives new) →
+            IfOk result (λ t. (f : List Event) × (IsFrontOf old (before_last f) × (IsFrontOf (here last) f × Gives f t)))
+        gives_made (Ok t) call reply Gives is more done gives =
+            let extends = here_by call (reply t) (IfOk-at_ok (λ (x : T). Extends F front mine.number call (reply x) new) is done) in
+            let ends : before_last new ≡ front = ap before_last (grown label call (reply t) (one_more t is more) extends) ∙ before_more front (event label call (reply t)) in
+            let same = sym (at_last t is) in (
+              new,
+              (
+                subst (λ (s : ClientState). IsFrontOf s (before_last new)) view (record { counted = ap length ends; leaves = ap (book_after F opened) ends }),
+                (record { counted = ap length same; leaves = ap (book_after F opened) same }, IfOk-at_ok (Gives new) is gives),
+              ),
+            )
+        gives_made (Err d) call reply Gives is more done gives = tt
 
-        -- what is said of a page, of the present one
-        pub of_present : {D : Type 0} (result : Result T D) (entries_of : T → List Step) (P Q : T → Type 0) → OnOk answer (made.calls ≡ mine.calls + 1) → IfOk result (λ t. answer ≡ Ok t) → OnOk result (length last ≡ calls + 1) → length last ≤ room →
-            IfOk answer (λ t. Extends F front mine.number Page (PageIs (entries_of t)) new) → IfOk answer P → ((t : T) → P t → entries_of t ≡ old.desk.book.present → book_after F opened new ≡ old.desk.book → Q t) → IfOk result Q
-        of_present (Ok t) entries_of P Q counted is more fits done p then =
-            let extends = IfOk-at_ok (λ (x : T). Extends F front mine.number Page (PageIs (entries_of x)) new) is done in
-            let once = counted_once t is counted in
-            then t (IfOk-at_ok P is p) (page_present (entries_of t) (fits_new t is fits) (one_more t is more) once extends) (page_stays (entries_of t) (fits_new t is fits) (one_more t is more) once extends)
-        of_present (Err d) entries_of P Q counted is more fits done p then = tt
+-- what the desk's refusal says of the call
+sorts_for : {L G : Type 0} (before now : ℕ) (refusal : G → Option Refusal) (Means : Refusal → Type 0) (fault : Fault L G) (told : ClientFault G) → Sorts before now fault told →
+    OfficeRefused refusal Means fault → RefusedFor refusal Means told
+sorts_for before now refusal Means fault LogFull sorts named = tt
+sorts_for before now refusal Means fault Stray sorts named = tt
+sorts_for before now refusal Means fault Memory sorts named = tt
+sorts_for before now refusal Means (office.LogFull log) (Refused other) sorts named = absurd sorts
+sorts_for before now refusal Means (office.Doubled log) (Refused other) sorts named = absurd sorts
+sorts_for before now refusal Means (office.Refused fault) (Refused other) sorts named = λ r why. named r (ap refusal (sym sorts.0) ∙ why)
+sorts_for before now refusal Means office.Memory (Refused other) sorts named = absurd sorts
 
-      module _ {E L G : Type 0} (answer : Result TokenView E) (fault_of : E → Fault L G) (last : List Event) (last_is : last ≡ shown_after answer fault_of new) where
-        -- the same of a token
-        pub token_made : {D : Type 0} (call : Call) (reply : TokenView → Reply) (result : Result TokenView D) → OnOk answer (made.calls ≡ mine.calls + 1) → IfOk result (λ t. answer ≡ Ok t) → OnOk result (length last ≡ calls + 1) → length last ≤ room →
-            IfOk answer (λ t. Extends F front mine.number call (reply t) new × (t.history ≡ new)) → IfOk result (λ t. IsLogged room old label call (reply t) (here last))
-        token_made call reply (Ok t) counted is more fits done =
-            subst (λ (l : List Event). IsLogged room old label call (reply t) (here l)) (sym (at_last answer fault_of last last_is t is))
-            (accepted call (reply t) (fits_new answer fault_of last last_is t is fits) (one_more answer fault_of last last_is t is more) (counted_once answer fault_of last last_is t is counted)
-            (IfOk-at_ok (λ (x : TokenView). Extends F front mine.number call (reply x) new × (x.history ≡ new)) is done).0)
-        token_made call reply (Err d) counted is more fits done = tt
+stray_for : {G : Type 0} (refusal : G → Option Refusal) (Means : Refusal → Type 0) (told : ClientFault G) → told ≡ Stray → RefusedFor refusal Means told
+stray_for refusal Means LogFull is = tt
+stray_for refusal Means (Refused fault) is = absurd (cc is)
+stray_for refusal Means Stray is = tt
+stray_for refusal Means Memory is = tt
 
-        pub token_stands : {D : Type 0} (call : Call) (reply : TokenView → Reply) (result : Result TokenView D) → IfOk result (λ t. answer ≡ Ok t) → OnOk result (length last ≡ calls + 1) →
-            IfOk answer (λ t. Extends F front mine.number call (reply t) new × (t.history ≡ new)) → IfOk result (λ t. page_of (here last).desk t ≡ old.desk.book.present)
-        token_stands call reply (Ok t) is more done =
-            let extends = IfOk-at_ok (λ (x : TokenView). Extends F front mine.number call (reply x) new × (x.history ≡ new)) is done in
-            subst (λ (l : List Event). page_of (here l).desk t ≡ old.desk.book.present) (sym (at_last answer fault_of last last_is t is)) (stands_for call (reply t) t (one_more answer fault_of last last_is t is more) extends.0 extends.1)
-        token_stands call reply (Err d) is more done = tt
+pub all_for : {U D T E G L : Type 0} (before now : ℕ) (answer : Result T E) (fault_of : E → Fault L G) (result : Result U D) (told_of : D → ClientFault G) (Back : D → E → Type 0) (Longer : Type 0) (refusal : G → Option Refusal) (Means : Refusal → Type 0) →
+    IfErr result (λ d. MatchResult answer (λ _. (told_of d ≡ Stray) × Longer) (λ e. Sorts before now (fault_of e) (told_of d) × Back d e)) → IfErr answer (λ e. OfficeRefused refusal Means (fault_of e)) →
+    IfErr result (λ d. RefusedFor refusal Means (told_of d))
+all_for before now answer fault_of (Ok u) told_of Back Longer refusal Means is named = tt
+all_for before now (Ok t) fault_of (Err d) told_of Back Longer refusal Means is named = stray_for refusal Means (told_of d) is.0
+all_for before now (Err e) fault_of (Err d) told_of Back Longer refusal Means is named = sorts_for before now refusal Means (fault_of e) (told_of d) is.0 named
+
+pub absent_for : {G : Type 0} (label : ℕ) (old new : Option ℕ) (refusal : G → Option Refusal) (Means : Refusal → Type 0) (told : ClientFault G) → IsAbsent label old new told → RefusedFor refusal Means told
+absent_for label old new refusal Means LogFull absent = tt
+absent_for label old new refusal Means (Refused fault) absent = absurd absent
+absent_for label old new refusal Means Stray absent = tt
+absent_for label old new refusal Means Memory absent = tt
 
 -- of a harvest of the desk's game and diagram
-pub own_tells : (room : ℕ) (old new : ClientState) (label : ℕ) (harvest : HarvestView) (fault : ClientFault CommitFault) → IsOrderOf old.desk harvest.order → CommitTells room old label harvest new fault →
-    Tells room commit_refusal old label (Commit (handed_in true harvest)) new fault
-own_tells room old new label harvest LogFull ours tells = tells
-own_tells room old new label harvest (Refused fault) ours (b, (decides, tells)) =
-    subst (λ (x : Bool). Tells room commit_refusal old label (Commit (handed_in x harvest)) new (Refused fault)) (decides.1 ours) tells
-own_tells room old new label harvest Stray ours tells = tells
-own_tells room old new label harvest Memory ours tells = tells
-
--- the same, where the result says so
-pub all_own_told : {U D : Type 0} (result : Result U D) (room : ℕ) (old new : ClientState) (label : ℕ) (harvest : HarvestView) (told_of : D → ClientFault CommitFault) → IsOrderOf old.desk harvest.order →
-    IfErr result (λ d. CommitTells room old label harvest new (told_of d)) → IfErr result (λ d. Tells room commit_refusal old label (Commit (handed_in true harvest)) new (told_of d))
-all_own_told (Ok u) room old new label harvest told_of ours said = tt
-all_own_told (Err d) room old new label harvest told_of ours said = own_tells room old new label harvest (told_of d) ours said
+pub own_tells : (game : NamedGame) (diagram : NamedDiagram) (room : ℕ) (old new : ClientState) (label : ℕ) (harvest : HarvestView) (fault : ClientFault CommitFault) → IsOf game diagram harvest.order →
+    TellsOf room commit_refusal (λ r. IsLogged room old label (Commit (handed_in (not (tells_other r)) harvest)) (book.Refused r) new) old label new fault →
+    RefusedFor commit_refusal (λ r. Decides (not (tells_other r)) (IsOf game diagram harvest.order)) fault → Tells room commit_refusal old label (Commit (handed_in true harvest)) new fault
+own_tells game diagram room old new label harvest LogFull ours told named = told
+own_tells game diagram room old new label harvest (Refused fault) ours (r, (why, logged)) named =
+    (r, (why, subst (λ (b : Bool). IsLogged room old label (Commit (handed_in b harvest)) (book.Refused r) new) ((named r why).1 ours) logged))
+own_tells game diagram room old new label harvest Stray ours told named = told
+own_tells game diagram room old new label harvest Memory ours told named = told
 
 -- a label has no session: nothing was asked of the office
 module _ (game : NamedGame) (diagram : NamedDiagram) (front : List Event) (before after : List Caller) (own : calls_of after ≡ calls_of before) (label : ℕ) (old : ClientState) (view : client_after game diagram before front ≡ old) where
@@ -383,14 +311,9 @@ module _ (game : NamedGame) (diagram : NamedDiagram) (front : List Event) (befor
     inr (record { desk = ap (λ (s : ClientState). s.desk) view; calls = ap (λ (s : ClientState). s.calls) view; own = own ∙ ap (λ (s : ClientState). s.own) view; beyond = beyond }),
   )
 
-  pub absent_tells : {G : Type 0} (room : ℕ) (refusal : G → Option Refusal) (call : Call) (told : ClientFault G) → IsAbsent label (unseated_from 1 before) (unseated_from 1 after) told → Tells room refusal old label call afterwards told
-  absent_tells room refusal call LogFull absent = absurd absent
-  absent_tells room refusal call (Refused fault) absent = absurd absent
-  absent_tells room refusal call Stray absent = has_none absent
-  absent_tells room refusal call Memory absent = unchanged absent
-
-  pub absent_commit_tells : (room : ℕ) (harvest : HarvestView) (told : ClientFault CommitFault) → IsAbsent label (unseated_from 1 before) (unseated_from 1 after) told → CommitTells room old label harvest afterwards told
-  absent_commit_tells room harvest LogFull absent = absurd absent
-  absent_commit_tells room harvest (Refused fault) absent = absurd absent
-  absent_commit_tells room harvest Stray absent = has_none absent
-  absent_commit_tells room harvest Memory absent = unchanged absent
+  pub absent_tells : {G : Type 0} (room : ℕ) (refusal : G → Option Refusal) (Means : Refusal → Type 0) (told : ClientFault G) → IsAbsent label (unseated_from 1 before) (unseated_from 1 after) told →
+      TellsOf room refusal Means old label afterwards told
+  absent_tells room refusal Means LogFull absent = absurd absent
+  absent_tells room refusal Means (Refused fault) absent = absurd absent
+  absent_tells room refusal Means Stray absent = has_none absent
+  absent_tells room refusal Means Memory absent = unchanged absent

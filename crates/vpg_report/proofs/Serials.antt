@@ -1,5 +1,5 @@
 -- Tokens by their serials.
-use Rattle.std.proofs.Common.{◌≡◌, ℕ, zero, suc, ◌+◌, List, [], ◌∷◌, ◌++◌, length, Option, Some, None, refl, sym, ap, ap₂, ◌∙◌}
+use Rattle.std.proofs.Common.{◌≡◌, ℕ, zero, suc, ◌+◌, List, [], ◌∷◌, ◌++◌, length, Some, None, refl, sym, ap, ap₂, ◌∙◌}
 use Rattle.std.specs.Prelude.{◌==◌, IfOk, Result, Ok, Err, cond, nat_lt, not, position, slice_get, slice_index_or}
 use Rattle.std.specs.List.{position_or_len, remove, insert}
 use Rattle.vpg_office.specs.Token.{TokenView as Token}

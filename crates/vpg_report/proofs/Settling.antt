@@ -1,6 +1,6 @@
 -- A harvest that sweeps made, as the book sees it.
-use Rattle.std.proofs.Common.{◌≡◌, ℕ, ◌+◌, ◌<◌, ◌≤◌, List, [], ◌++◌, ◌∷◌, Option, Some, None, length, refl, sym, ap, ◌∙◌, inl, inr, arith, subst, Bool, true, false, eq-eqb}
-use Rattle.std.specs.Prelude.{codes, unwrap_or, if◌then◌else◌, ◌⊎◌, ◌||◌, ◌&&◌, ◌==◌, map, IfSome}
+use Rattle.std.proofs.Common.{◌≡◌, ℕ, ◌+◌, ◌<◌, ◌≤◌, List, [], ◌∷◌, Option, Some, None, length, refl, sym, ap, ◌∙◌, arith, subst, Bool, true, false, eq-eqb}
+use Rattle.std.specs.Prelude.{codes, unwrap_or, if◌then◌else◌, ◌||◌, ◌&&◌, ◌==◌, map}
 use Rattle.std.specs.Bool.{beq}
 use Rattle.std.proofs.lemmas.Bool.{or_right}
 use Rattle.vpg_guards.specs.Known.{kleene}
@@ -38,7 +38,7 @@ use Rattle.vpg_report.specs.Client.{ClientState, IsLogged}
 use Rattle.vpg_report.specs.Faults.{Tells}
 use Rattle.vpg_report.specs.declared.fault.ClientFault.{ClientFault}
 use Rattle.vpg_report.specs.declared.fault.ClientFault.TheVariants.{LogFull}
-use Rattle.vpg_trail.specs.Page.{Literal, Decision, same_literal, stands}
+use Rattle.vpg_trail.specs.Page.{Literal, same_literal, stands}
 use Rattle.vpg_report.specs.Answers.{IsSwept, Checks, full_log, most_sweeps, room, sweeps_of, numbered, settled_text}
 use Rattle.vpg_settle.specs.Sweeping.{IsSweptOrder, Settles}
 use Rattle.vpg_settle.proofs.Repeated.{progress_moves}

@@ -2,7 +2,7 @@
 use Rattle.std.proofs.Common.{◌≡◌, ℕ, true, List, Option, Some, None, Result, Ok, Err, refl, sym, ap, ◌∙◌, subst, inl, inr, arith}
 use Rattle.std.specs.Prelude.{map, IsErrOf, IsOkUnless}
 use Rattle.vpg_measure.specs.Orders.{OrderView, HarvestView}
-use Rattle.vpg_trail.specs.Page.{Decision, Entry, literal_of, choices_of, decisions_of}
+use Rattle.vpg_trail.specs.Page.{Decision, literal_of, choices_of, decisions_of}
 use Rattle.vpg_desk.specs.Book.{Family, Book, Harvest, Call, Reply, Order, Ordered, Commit, Refused as IsRefused, IsReply, first_missing, outdated_at, refuses_commit}
 use Rattle.vpg_faults.specs.declared.refusal.Refusal.{Refusal}
 use Rattle.vpg_desk.specs.Commit.{handed_in}
@@ -11,12 +11,11 @@ use Rattle.vpg_desk.specs.Desk.{family_of}
 use Rattle.vpg_desk.specs.State.{setting_of}
 use Rattle.vpg_faults.specs.declared.fault.CommitFault.{CommitFault}
 use Rattle.vpg_faults.specs.Refusals.{never_refused}
-use Rattle.vpg_script.specs.View.{command_shown}
 use Rattle.vpg_script.specs.declared.serving.ServeFault.{ServeFault}
 use Rattle.vpg_script.specs.declared.serving.ServeFault.TheVariants as unserved
 use Rattle.vpg_report.specs.Client.{ClientState, IsLogged}
 use Rattle.vpg_report.specs.Engine.{EngineState}
-use Rattle.vpg_report.specs.Faults.{Tells, CommitTells, HasStrayed, IsAstray}
+use Rattle.vpg_report.specs.Faults.{Tells, HasStrayed, IsAstray}
 use Rattle.vpg_report.specs.declared.fault.ClientFault.{ClientFault}
 use Rattle.vpg_report.specs.declared.fault.ClientFault.TheVariants.{LogFull, Refused, Stray, Memory}
 use Rattle.vpg_report.proofs.Settling.{none_missing}
@@ -59,14 +58,6 @@ module _ {F : Type 0} (limit : ℕ) (refusal : F → Option Refusal) (old : Clie
 pub never_stray : {F : Type 0} (limit : ℕ) (old : ClientState) (label : ℕ) (call : Call) (new : ClientState) (fault : ClientFault F) → Tells limit never_refused old label call new fault →
     (¬ (fault ≡ LogFull)) × (¬ (fault ≡ Memory)) → IsAstray old label new
 never_stray limit old label call new fault told other = unrefused_stray limit never_refused old label call new fault (λ f told. absurd (cc told.1.0)) told other
-
--- the client tells of the commit of a kept harvest
-pub commit_stray : (limit : ℕ) (old : ClientState) (label : ℕ) (harvest : HarvestView) (new : ClientState) (fault : ClientFault CommitFault) → CommitTells limit old label harvest new fault → fault ≡ Stray →
-    IsAstray old label new
-commit_stray limit old label harvest new LogFull told is = absurd (cc is)
-commit_stray limit old label harvest new (Refused fault) told is = absurd (cc is)
-commit_stray limit old label harvest new Stray told is = of_client old label new told.1
-commit_stray limit old label harvest new Memory told is = absurd (cc is)
 
 -- ---- a harvest of the order that was just given is not refused
 

@@ -2,12 +2,11 @@
 use Rattle.std.specs.Prelude.{◌≡◌, ◌⊎◌, ℕ, ◌+◌, ◌<◌, ◌≤◌, ◌==◌, if◌then◌else◌, List, [], ◌∷◌, length, Option, Some, None, slice_index_or}
 use Rattle.vpg_diagram.specs.DiagramText.{NamedDiagram}
 use Rattle.vpg_game.specs.Game.{NamedGame}
-use Rattle.vpg_trail.specs.Page.{Entry}
 use Rattle.vpg_desk.specs.Book.{Call, Reply, opened}
-use Rattle.vpg_desk.specs.History.{Event, book_after, page_after}
+use Rattle.vpg_desk.specs.History.{Event, book_after}
 use Rattle.vpg_desk.specs.State.{DeskState, IsStep}
-use Rattle.vpg_office.specs.Fronts.{before_last, family_between}
-use Rattle.vpg_office.specs.Token.{Caller, TokenView}
+use Rattle.vpg_office.specs.Fronts.{family_between}
+use Rattle.vpg_office.specs.Token.{Caller}
 
 -- a desk, how many calls stand in its office's log, and whose they are
 pub record ClientState : Type 0 where
@@ -96,7 +95,3 @@ pub record IsFrontOf (client : ClientState) (front : List Event) : Type 0 where
 abbrev pub HasUnknownCall : (Lacks : (log front : List Event) → Type 0) → ClientState → (log : List Event) → Type 0
 HasUnknownCall Lacks client log =
     (client.calls < length log) ⊎ ((front : List Event) × (IsFrontOf client front × Lacks log front))
-
--- the present page just before the call that gave the token
-abbrev pub page_of : DeskState → TokenView → List Entry
-page_of desk token = page_after (family_between desk.game desk.diagram) (before_last token.history)

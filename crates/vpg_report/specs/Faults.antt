@@ -1,13 +1,8 @@
 -- Why a client's calls are not answered. This project's own.
-use Rattle.std.specs.Prelude.{◌≡◌, ◌⊎◌, ℕ, ◌+◌, Bool, true, List, length, Option, Some, Result, Ok, Err, ⊤}
-use Rattle.std.specs.Bool.{Decides}
-use Rattle.vpg_measure.specs.Orders.{HarvestView}
+use Rattle.std.specs.Prelude.{◌≡◌, ◌⊎◌, ℕ, ◌+◌, List, length, Option, Some, Result, Ok, Err, ⊤}
 use Rattle.vpg_desk.specs.Book as book
-use Rattle.vpg_desk.specs.Book.{Call, Commit}
+use Rattle.vpg_desk.specs.Book.{Call}
 use Rattle.vpg_faults.specs.declared.refusal.Refusal.{Refusal}
-use Rattle.vpg_desk.specs.Commit.{IsOrderOf, handed_in}
-use Rattle.vpg_faults.specs.Refusals.{commit_refusal}
-use Rattle.vpg_faults.specs.declared.fault.CommitFault.{CommitFault}
 use Rattle.vpg_desk.specs.History.{Event}
 use Rattle.vpg_office.specs.declared.fault.Fault.{Fault}
 use Rattle.vpg_office.specs.declared.fault.Fault.TheVariants as office
@@ -24,26 +19,28 @@ HasStrayed old label new = HasForeignCall old new ⊎ IsUnseated old label new
 abbrev pub IsAstray : ClientState → ℕ → ClientState → Type 0
 IsAstray old label new = HasForeignCall old new ⊎ IsBeyond label new.unseated
 
--- The log is full exactly if it has as many calls as it takes; then nothing changes. The desk's own refusal is logged.
--- Out of memory, nothing changes. A stray shows in the log, which grew by a call that no session of the client made; or
--- the session of the label, or of one before it, has another number. It leaves the desk's game and diagram.
+-- The log is full exactly if it has as many calls as it takes; then nothing changes. The desk's own refusal is logged,
+-- and has this meaning. Out of memory, nothing changes. A stray shows in the log, which grew by a call that no session
+-- of the client made; or the session of the label, or of one before it, has another number. It leaves the desk's game
+-- and diagram.
+abbrev pub TellsOf : {F : Type 0} → ℕ → (F → Option Refusal) → (Refusal → Type 0) → ClientState → ℕ → ClientState →
+    ClientFault F → Type 0
+TellsOf room refusal Means old label new LogFull = (old.calls ≡ room) × (new ≡ old)
+TellsOf room refusal Means old label new (Refused fault) = (r : Refusal) × ((refusal fault ≡ Some r) × Means r)
+TellsOf room refusal Means old label new Stray =
+    ((new.desk.game ≡ old.desk.game) × (new.desk.diagram ≡ old.desk.diagram)) × HasStrayed old label new
+TellsOf room refusal Means old label new Memory = new ≡ old
+
+-- As `TellsOf`: the desk refused this call.
 abbrev pub Tells : {F : Type 0} → ℕ → (F → Option Refusal) → ClientState → ℕ → Call → ClientState → ClientFault F →
     Type 0
-Tells room refusal old label call new LogFull = (old.calls ≡ room) × (new ≡ old)
-Tells room refusal old label call new (Refused fault) =
-    (r : Refusal) × ((refusal fault ≡ Some r) × IsLogged room old label call (book.Refused r) new)
-Tells room refusal old label call new Stray =
-    ((new.desk.game ≡ old.desk.game) × (new.desk.diagram ≡ old.desk.diagram)) × HasStrayed old label new
-Tells room refusal old label call new Memory = new ≡ old
+Tells room refusal old label call new fault =
+    TellsOf room refusal (λ r. IsLogged room old label call (book.Refused r) new) old label new fault
 
--- As `Tells`, for a commit of a harvest that may be of another game or diagram.
-abbrev pub CommitTells : ℕ → ClientState → ℕ → HarvestView → ClientState → ClientFault CommitFault → Type 0
-CommitTells room old label harvest new (Refused fault) =
-    (b : Bool) ×
-    (Decides b (IsOrderOf old.desk harvest.order) ×
-    Tells room commit_refusal old label (Commit (handed_in b harvest)) new (Refused fault))
-CommitTells room old label harvest new fault =
-    Tells room commit_refusal old label (Commit (handed_in true harvest)) new fault
+-- each refusal that the fault stands for has this meaning
+abbrev pub RefusedFor : {F : Type 0} → (F → Option Refusal) → (Refusal → Type 0) → ClientFault F → Type 0
+RefusedFor refusal Means (Refused fault) = (r : Refusal) → refusal fault ≡ Some r → Means r
+RefusedFor refusal Means _ = ⊤
 
 -- this holds of every fault but a stray call
 abbrev pub UnlessStray : {F : Type 0} → ClientFault F → Type 0 → Type 0

@@ -1,18 +1,23 @@
 //! The engine carries out what a script's lines request. It is an office that this run alone serves, with the tokens
 //! and harvests that lines leave.
 ghost use Rattle.std.specs.Arc.{arc_value};
-ghost use Rattle.std.specs.Prelude.{◌≡◌, ◌+◌, ◌≤◌, OnOk, IfOk, IfErr, IsErrOf, length};
+ghost use Rattle.std.specs.Prelude.{◌≡◌, ◌+◌, ◌≤◌, Ok, OnOk, IfOk, IfErr, IfSome, IsErrOf, length};
 ghost use Rattle.vpg_diagram.specs.FeatureDiagram.{feature_count};
 ghost use Rattle.vpg_measure.specs.Orders.{IsOrder};
 ghost use Rattle.vpg_desk.specs.Book as book;
 ghost use Rattle.vpg_desk.specs.Commit.{IsOrderOf};
-ghost use Rattle.vpg_desk.specs.State.{IsOpened};
+ghost use Rattle.vpg_desk.specs.State.{IsOpened, Replies};
 ghost use Rattle.vpg_faults.specs.Refusals.{never_refused};
+ghost use Rattle.vpg_faults.specs.declared.refusal.Refusal.{Refusal};
 ghost use Rattle.vpg_office.specs.Fronts.{family_between};
 ghost use Rattle.vpg_office.specs.Kept.{IsElsewhere};
+ghost use Rattle.vpg_office.specs.Story.{call_of};
+ghost use Rattle.vpg_office.specs.Token.{TokenView};
+ghost use Rattle.vpg_office.specs.declared.asked.Answer.TheVariants as told;
 ghost use Rattle.vpg_report.specs.Client.{HasUnknownCall, IsLogged};
 ghost use Rattle.vpg_report.specs.Faults.{IsAstray, Tells};
-ghost use Rattle.vpg_report.specs.Engine.{AnswersTo, AnswersWith, SweepsTo, IsOpenFault, deciding, engine_of};
+ghost use Rattle.vpg_report.specs.Answers.{TellsChanged};
+ghost use Rattle.vpg_report.specs.Engine.{AnswersBy, AnswersTo, AnswersWith, SweepsTo, IsNamedWithin, IsOpenFault, deciding, engine_of};
 ghost use Rattle.vpg_script.specs.Script.{Retract, Reset, Undo as Undoes, Redo as Redoes, Keep, Forget, Lift, Harvest as Harvests, Commit, Settle, Look, Changed, Known};
 ghost use Rattle.vpg_script.specs.View.{lookup_shown, vertex_shown};
 
@@ -20,7 +25,7 @@ use crate::answering::LIMITS;
 use crate::client::{Client, NotEnded};
 use crate::fault::ClientFault;
 use crate::held::{
-    hold_redo, hold_redone, hold_strayed, hold_undo, hold_undone, put_back_unspent, redo_place,
+    hold_redo, hold_strayed, hold_undo, put_back_unspent, put_back_unswung, redo_place,
     return_harvest, take_harvest, undo_place,
 };
 use crate::lines;
@@ -37,7 +42,10 @@ use vpg_features::Names;
 use vpg_game::{GuardedGame, VertexNames};
 use vpg_guess::Groundwork;
 use vpg_measure::{Harvest, Order};
-use vpg_office::{NotOpened, Redo, Site, Terms, Undo};
+use vpg_office::{
+    Call, DecideCall, ForgetCall, KeepCall, NotOpened, Redo, RedoCall, ResetCall, RetractCall,
+    SettledCall, Site, Terms, Undo, UndoCall,
+};
 use vpg_script::{Lookup, ServeFault, Tone, Vertex};
 use vpg_settle::swept;
 use vpg_sides::{Verdict, Which};
@@ -101,6 +109,36 @@ impl<L: Terms> Engine<L> {
         self.diagram.names()
     }
 
+    /// Makes a call that changes the page, and holds its undo.
+    fn change<C: Call<L, Given = Undo<L>> + Drop, R: Wait>(
+        &mut self,
+        rt: &R,
+        session: u32,
+        call: C,
+        out: &mut Vec<u8>,
+    ) -> Result<Tone, ServeFault>
+        requires takes { C.Takes call }
+        requires changes { (undo : TokenView) → C.replies undo ≡ book.Changed undo.serial }
+        requires means { (r : Refusal) → call_of (C.asks call) (told.Refused r) ≡ C.means call }
+        // A refusal names features that have names.
+        requires named { (fault : C.Refused) → IfSome (C.Refused.refusal_of fault)
+            (λ r. Replies self.old.client.desk (C.means call) (book.Refused r) →
+            IsNamedWithin (length self.old.client.desk.diagram.names) r) }
+        ensures answer { IfOk result
+            (λ tone. AnswersBy self.old session (Ok (C.means call)) (TellsChanged self.old.held) tone
+            out.old.items out.new.items self.new) }
+        ensures strayed { IsErrOf result ServeFault.Stray → IsAstray self.old.client session self.new.client }
+    {
+        self.undos.reserve(1)?;
+        match self.client.call(rt, session, call) {
+            Ok(undo) => hold_undo(&mut self.undos, undo, b"done", out),
+            Err(Returned { fault, value }) => {
+                hold_strayed(&mut self.undos, value);
+                lines::put_fault(self.names(), fault, out)
+            }
+        }
+    }
+
     /// Decides a feature, by its name.
     pub(crate) fn decide<R: Wait>(
         &mut self,
@@ -118,14 +156,12 @@ impl<L: Terms> Engine<L> {
         let Some(feature) = self.names().get(name) else {
             return lines::refused(b"UnknownFeature", out);
         };
-        self.undos.reserve(1)?;
-        match self.client.decide(rt, alloc, session, feature, value) {
-            Ok(undo) => hold_undo(&mut self.undos, undo, b"done", out),
-            Err(Returned { fault, value }) => {
-                hold_strayed(&mut self.undos, value);
-                lines::put_fault(self.names(), fault, out)
-            }
-        }
+        let call = DecideCall {
+            alloc,
+            feature,
+            value,
+        };
+        self.change(rt, session, call, out)
     }
 
     /// Retracts a feature, by its name.
@@ -144,14 +180,7 @@ impl<L: Terms> Engine<L> {
         let Some(feature) = self.names().get(name) else {
             return lines::refused(b"UnknownFeature", out);
         };
-        self.undos.reserve(1)?;
-        match self.client.retract(rt, alloc, session, feature) {
-            Ok(undo) => hold_undo(&mut self.undos, undo, b"done", out),
-            Err(Returned { fault, value }) => {
-                hold_strayed(&mut self.undos, value);
-                lines::put_fault(self.names(), fault, out)
-            }
-        }
+        self.change(rt, session, RetractCall { alloc, feature }, out)
     }
 
     /// Retracts every decision.
@@ -166,14 +195,7 @@ impl<L: Terms> Engine<L> {
             (record { label = session; command = Reset }) tone out.old.items out.new.items self.new) }
         ensures strayed { IsErrOf result ServeFault.Stray → IsAstray self.old.client session self.new.client }
     {
-        self.undos.reserve(1)?;
-        match self.client.reset(rt, alloc, session) {
-            Ok(undo) => hold_undo(&mut self.undos, undo, b"done", out),
-            Err(Returned { fault, value }) => {
-                hold_strayed(&mut self.undos, value);
-                lines::put_fault(self.names(), fault, out)
-            }
-        }
+        self.change(rt, session, ResetCall { alloc }, out)
     }
 
     /// Undoes the change of the undo that the command means.
@@ -194,10 +216,10 @@ impl<L: Terms> Engine<L> {
         };
         self.redos.reserve(1)?;
         let token = self.undos.remove(place);
-        match self.client.undo(rt, alloc, session, token) {
+        match self.client.call(rt, session, UndoCall { alloc, token }) {
             Ok(redo) => hold_redo(&mut self.redos, redo, b"undone", out),
             Err(Returned { fault, value }) => {
-                hold_undone(&mut self.undos, &mut self.redos, place, value);
+                put_back_unswung(&mut self.undos, &mut self.redos, place, value);
                 lines::put_fault(self.names(), fault, out)
             }
         }
@@ -221,10 +243,10 @@ impl<L: Terms> Engine<L> {
         };
         self.undos.reserve(1)?;
         let token = self.redos.remove(place);
-        match self.client.redo(rt, alloc, session, token) {
+        match self.client.call(rt, session, RedoCall { alloc, token }) {
             Ok(undo) => hold_undo(&mut self.undos, undo, b"redone", out),
             Err(Returned { fault, value }) => {
-                hold_redone(&mut self.undos, &mut self.redos, place, value);
+                put_back_unswung(&mut self.redos, &mut self.undos, place, value);
                 lines::put_fault(self.names(), fault, out)
             }
         }
@@ -246,7 +268,7 @@ impl<L: Terms> Engine<L> {
             return lines::refused(b"NoToken", out);
         };
         let token = self.undos.remove(place);
-        match self.client.keep(rt, session, token) {
+        match self.client.call(rt, session, KeepCall { token }) {
             Ok(()) => lines::numbered(b"kept", serial, out),
             Err(Returned { fault, value }) => {
                 put_back_unspent(&mut self.undos, place, value);
@@ -271,7 +293,7 @@ impl<L: Terms> Engine<L> {
             return lines::refused(b"NoToken", out);
         };
         let token = self.redos.remove(place);
-        match self.client.forget(rt, session, token) {
+        match self.client.call(rt, session, ForgetCall { token }) {
             Ok(()) => lines::numbered(b"forgotten", serial, out),
             Err(Returned { fault, value }) => {
                 put_back_unspent(&mut self.redos, place, value);
@@ -351,7 +373,7 @@ impl<L: Terms> Engine<L> {
         let Some(harvest) = take_harvest(&mut self.harvests, number) else {
             return lines::refused(b"NoHarvest", out);
         };
-        match self.client.commit(rt, alloc, session, harvest) {
+        match self.client.commit_own(rt, alloc, session, harvest) {
             Ok(added) => lines::numbered(b"added", added as u64, out),
             Err(Returned { fault, value }) => {
                 return_harvest(&mut self.harvests, number, &fault, value);
@@ -393,9 +415,9 @@ impl<L: Terms> Engine<L> {
             Ok(added) => added,
             Err(Returned { fault, value: _ }) => return lines::put_unanswered(fault, out),
         };
-        let settled = match self.client.settled(rt, session) {
+        let settled = match self.client.call(rt, session, SettledCall) {
             Ok(settled) => settled,
-            Err(fault) => return lines::put_unanswered(fault, out),
+            Err(Returned { fault, value: _ }) => return lines::put_unanswered(fault, out),
         };
         lines::settled(settled, added, out)
     }

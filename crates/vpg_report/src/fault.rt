@@ -1,12 +1,11 @@
 //! Why a client's calls are not answered, and the values that come back.
-ghost use Rattle.std.specs.Prelude.{◌≡◌, ◌≤◌, length};
-ghost use Rattle.vpg_report.specs.Faults.{Sorts, shown_after, shown_by};
+ghost use Rattle.std.specs.Prelude.{◌≡◌, ◌≤◌, length, IsSomeAnd};
+ghost use Rattle.vpg_report.specs.Faults.{Sorts, shown_by};
 
 use crate::client::has_one_more;
 use std::fmt::Display;
 use thiserror::Error;
-use vpg_faults::Returned;
-use vpg_office::{Fault, Front, Redo, Terms, Undo};
+use vpg_office::{Fault, Front, Terms};
 
 /// Why a call gives no answer. `Refused` is the desk's own refusal, which is logged.
 #[derive(Debug, Drop, Error)]
@@ -26,66 +25,52 @@ pub enum ClientFault<F> {
     Memory,
 }
 
-/// A token of either kind: an undo that strays may have exchanged its token already.
-pub enum Token<L: Terms> {
-    Undo(Undo<L>),
-    Redo(Redo<L>),
+/// What comes back of a call that fails: the call, unless it was made and strayed; then what it gave.
+#[derive(Drop)]
+pub enum Back<C, G> {
+    Call(C),
+    Given(G),
 }
 
-/// Sets the front to the log, if the office's fault has it.
-fn follow<L: Terms, F>(fault: &Fault<L, F>, front: &mut Front<L>)
-    ensures { front.new ≡ shown_by fault.now front.old }
-{
-    match fault {
-        Fault::LogFull { front: log } => *front = log.copy(),
-        Fault::Doubled { front: log } => *front = log.copy(),
-        Fault::Refused { fault: _ } => {}
-        Fault::Memory => {}
+impl<C, G: Drop> Back<C, G> {
+    /// Returns what the call took, unless it was made.
+    pub fn taken<T: From<C>>(self) -> Option<T>
+        ensures { (call : C) → self ≡ Back.Call call → IsSomeAnd result (T.from_gives call) }
+    {
+        match self {
+            Back::Call(call) => Some(T::from(call)),
+            Back::Given(_given) => None,
+        }
     }
 }
 
-/// Sets the front to the log, if the answer has it.
-pub(crate) fn follow_answer<L: Terms, T, F>(answer: &Result<T, Fault<L, F>>, front: &mut Front<L>)
-    ensures { front.new ≡ shown_after answer.now (λ fault. fault) front.old }
-{
-    match answer {
-        Ok(_) => {}
-        Err(fault) => follow(fault, front),
-    }
-}
-
-/// Sets the front to the log, if the answer to a value that was handed in has it.
-pub(crate) fn follow_returned<L: Terms, T, F, V>(
-    answer: &Result<T, Returned<Fault<L, F>, V>>,
-    front: &mut Front<L>,
-)
-    ensures { front.new ≡ shown_after answer.now (λ b. b.fault) front.old }
-{
-    match answer {
-        Ok(_) => {}
-        Err(returned) => follow(&returned.fault, front),
-    }
-}
-
-/// Turns the office's fault into the client's, if its front had `calls` calls before the call.
+/// Turns the office's fault into the client's, if its front had `calls` calls before the call. Sets the front to the
+/// log, if the fault has it.
 pub(crate) fn sorted<L: Terms, F: Drop>(
     fault: Fault<L, F>,
     calls: usize,
-    front: &Front<L>,
+    front: &mut Front<L>,
 ) -> ClientFault<F>
-    ensures sorts { Sorts calls (length front.now) fault result }
-    ensures fits { length front.now ≤ L.limit }
+    ensures shown { front.new ≡ shown_by fault front.old }
+    ensures sorts { Sorts calls (length front.new) fault result }
+    ensures fits { length front.new ≤ L.limit }
 {
     let has_this_call = has_one_more(front, calls);
     match fault {
         Fault::LogFull { front: log } => {
-            if log.len() == calls {
+            let is_known = log.len() == calls;
+            *front = log;
+            if is_known {
                 ClientFault::LogFull
             } else {
                 ClientFault::Stray
             }
         }
-        Fault::Doubled { front: _log } => ClientFault::Stray,
+        Fault::Doubled { front: log } => {
+            let _calls = log.len();
+            *front = log;
+            ClientFault::Stray
+        }
         Fault::Refused { fault } => {
             if has_this_call {
                 ClientFault::Refused { fault }

@@ -2,14 +2,13 @@
 ghost use Rattle.std.specs.Prelude.{◌≡◌, ◌+◌, ◌-◌, ◌<◌, ◌≤◌, ◌==◌, ◌++◌, ◌∷◌, [], ℕ, length, max, position, slice_get, slice_index_or, vec_len, vec_capacity, slice_set, Some, None, IfOk, OnOk, IfSome, IfNone, IsOkUnless};
 ghost use Rattle.std.specs.List.{reduce, remove, insert};
 ghost use Rattle.vpg_report.specs.Faults.{UnlessStray};
-ghost use Rattle.vpg_office.specs.Token.{TokenView};
 ghost use Rattle.vpg_script.specs.Answer.{IsGiven, done};
 ghost use Rattle.vpg_report.specs.Answers.{numbered};
 ghost use Rattle.vpg_report.specs.Engine.{IsPlaceOf};
 ghost use Rattle.vpg_report.specs.Held.{undo_meant, redo_meant, harvest_kept};
 ghost use Rattle.vpg_report.specs.Serials.{serials};
 
-use crate::fault::{ClientFault, Token};
+use crate::fault::{Back, ClientFault};
 use crate::lines;
 use std::alloc::AllocError;
 use vpg_desk::CommitFault;
@@ -91,13 +90,14 @@ pub(crate) fn hold_redo<L: Terms>(
     lines::numbered(word, serial, out)
 }
 
-/// Holds the undo of a change that strayed, if there is one.
-pub(crate) fn hold_strayed<L: Terms>(undos: &mut Vec<Undo<L>>, undo: Option<Undo<L>>)
+/// Holds the undo of a change that strayed.
+pub(crate) fn hold_strayed<L: Terms, C: Drop>(undos: &mut Vec<Undo<L>>, back: Back<C, Undo<L>>)
     requires { vec_len undos.old < vec_capacity undos.old }
-    ensures { IfNone undo (undos.new.items ≡ undos.old.items) }
+    ensures { (call : C) → back ≡ Back.Call call → undos.new.items ≡ undos.old.items }
 {
-    if let Some(undo) = undo {
-        undos.push_reserved(undo);
+    match back {
+        Back::Call(_) => {}
+        Back::Given(undo) => undos.push_reserved(undo),
     }
 }
 
@@ -113,52 +113,40 @@ fn put_back<T>(tokens: &mut Vec<T>, place: usize, token: T)
     }
 }
 
-/// Puts a token back where it was, unless it was spent.
-pub(crate) fn put_back_unspent<T>(tokens: &mut Vec<T>, place: usize, token: Option<T>)
+/// Puts the token of a call back where it was, unless it was spent.
+pub(crate) fn put_back_unspent<T: From<C>, C, G: Drop>(
+    tokens: &mut Vec<T>,
+    place: usize,
+    back: Back<C, G>,
+)
     requires place { place ≤ vec_len tokens.old }
     requires room { vec_len tokens.old < vec_capacity tokens.old }
-    ensures { IfSome token (λ t. tokens.new.items ≡ insert tokens.old.items place t) }
+    ensures { (call : C) → back ≡ Back.Call call →
+        (token : T) × (T.from_gives call token × (tokens.new.items ≡ insert tokens.old.items place token)) }
 {
-    if let Some(token) = token {
-        put_back(tokens, place, token);
+    match back {
+        Back::Call(call) => put_back(tokens, place, T::from(call)),
+        Back::Given(_given) => {}
     }
 }
 
-/// Holds the token that an undo returned: its own, where it was, or the redo of an undo that strayed.
-pub(crate) fn hold_undone<L: Terms>(
-    undos: &mut Vec<Undo<L>>,
-    redos: &mut Vec<Redo<L>>,
+/// Holds the token of an undo or a redo that failed: its own, where it was, or if it strayed the one that it gave.
+pub(crate) fn put_back_unswung<T: From<C>, C, G>(
+    tokens: &mut Vec<T>,
+    others: &mut Vec<G>,
     place: usize,
-    token: Token<L>,
+    back: Back<C, G>,
 )
-    requires place { place ≤ vec_len undos.old }
-    requires room { vec_len undos.old < vec_capacity undos.old }
-    requires redo_room { vec_len redos.old < vec_capacity redos.old }
-    ensures { (undo : TokenView) → token ≡ Token.Undo undo → (undos.new.items ≡ insert undos.old.items place undo) ×
-        (redos.new.items ≡ redos.old.items) }
+    requires place { place ≤ vec_len tokens.old }
+    requires room { vec_len tokens.old < vec_capacity tokens.old }
+    requires other_room { vec_len others.old < vec_capacity others.old }
+    ensures { (call : C) → back ≡ Back.Call call →
+        (token : T) × (T.from_gives call token × ((tokens.new.items ≡ insert tokens.old.items place token) ×
+        (others.new.items ≡ others.old.items))) }
 {
-    match token {
-        Token::Undo(undo) => put_back(undos, place, undo),
-        Token::Redo(redo) => redos.push_reserved(redo),
-    }
-}
-
-/// Holds the token that a redo returned: its own, where it was, or the undo of a redo that strayed.
-pub(crate) fn hold_redone<L: Terms>(
-    undos: &mut Vec<Undo<L>>,
-    redos: &mut Vec<Redo<L>>,
-    place: usize,
-    token: Token<L>,
-)
-    requires place { place ≤ vec_len redos.old }
-    requires room { vec_len redos.old < vec_capacity redos.old }
-    requires undo_room { vec_len undos.old < vec_capacity undos.old }
-    ensures { (redo : TokenView) → token ≡ Token.Redo redo → (redos.new.items ≡ insert redos.old.items place redo) ×
-        (undos.new.items ≡ undos.old.items) }
-{
-    match token {
-        Token::Redo(redo) => put_back(redos, place, redo),
-        Token::Undo(undo) => undos.push_reserved(undo),
+    match back {
+        Back::Call(call) => put_back(tokens, place, T::from(call)),
+        Back::Given(other) => others.push_reserved(other),
     }
 }
 

@@ -16,9 +16,9 @@
 //!
 //! Runs are built of clients and engines. A [`Client`] is one caller who serves an office alone, for several labels.
 //! Each label is a session of the office: label N is session number N. A client joins the sessions as their labels
-//! first come, lends one front to all of them, and has one method a call. Contracts see it as the desk that it serves,
-//! with a count of calls. Each answered call is one step of that desk, as of a desk without an office. A
-//! [`ClientFault`] is what a desk alone never meets: the log is full, or it has a call that this client did not make.
+//! first come, lends one front to all of them, and makes their calls (`vpg_office::Call`). Contracts see it as the desk
+//! that it serves, with a count of calls. Each answered call is one step of that desk, as of a desk without an office.
+//! A [`ClientFault`] is what a desk alone never meets: the log is full, or it has a call that this client did not make.
 //! (No contract of an office says that nobody else is in its log, so the client finds out as the calls come.)
 //!
 //! An [`Engine`] is a client with what lines leave to later ones. It holds tokens and harvests until later lines use
@@ -60,7 +60,7 @@ pub use drawing::{drawn_after, system_drawn_after, traced_after};
 pub use ending::{End, end_of, ended, refused_line, status};
 pub use engine::Engine;
 pub use exporting::exported_after;
-pub use fault::{ClientFault, Token};
+pub use fault::{Back, ClientFault};
 pub use lines::{Missing, put_missing, put_unanswered};
 pub use running::run_script;
 pub use runs::{run, run_as, run_called};

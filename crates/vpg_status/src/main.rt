@@ -16,7 +16,7 @@ use std::thread::Threads;
 use vpg_family::{Fault, Texts, line_of};
 use vpg_program::{carry_out, program};
 use vpg_report::{End, refused_line};
-use vpg_terminal::read;
+use vpg_terminal::{help_end, read};
 
 /// Returns the words of a line.
 fn words_of(alloc: Global, line: &str) -> Result<Vec<String>> {
@@ -46,7 +46,8 @@ fn carry_out_line<T: Threads + Wait + Sync>(
 ) -> Result<()> {
     println!(rt; "{line}")?;
     let words = words_of(rt.alloc(), line)?;
-    let asked = read(rt.alloc(), &words);
+    let help = help_end(rt.alloc())?;
+    let asked = read(rt.alloc(), &words, &help);
     let mut texts = Texts::none(rt.alloc());
     let ended = carry_out(rt, threads, rt.alloc(), &asked, &mut texts);
     let text = text_of(rt.alloc(), &ended)?;

@@ -1,9 +1,6 @@
 use Rattle.std.proofs.Common.{refl}
-use Rattle.vpg_report.proofs.Logged.{said_of_ok, said_of_err}
+use Rattle.vpg_report.proofs.Logged.{said_of_ok}
 use Rattle.vpg_report.proofs.answers.answered.Goals as goal
 
-pub returns-else-is_next-clause-fault : goal.returns-else-is_next-clause-fault
-returns-else-is_next-clause-fault g c = said_of_ok c.args.answer c.in-Ok.made _ _ c.in-Ok.is (refl, c.has_one_more-is_next.ensures.no c.if-is_next.false)
-
-pub returns-in-Err-clause-fault : goal.returns-in-Err-clause-fault
-returns-in-Err-clause-fault g c = said_of_err c.args.answer c.in-Err.fault _ _ c.in-Err.is (c.sorted.ensures.sorts, refl)
+pub returns-else-has_one_more-clause-fault : goal.returns-else-has_one_more-clause-fault
+returns-else-has_one_more-clause-fault g c = said_of_ok c.args.answer c.in-Ok.made _ _ c.in-Ok.is (refl, c.has_one_more.ensures.no c.if-has_one_more.false)

@@ -1,4 +1,4 @@
-use Rattle.std.proofs.Common.{ℕ, List, Option, ap, subst, ◌∙◌, []}
+use Rattle.std.proofs.Common.{ℕ, Option, ap, subst, ◌∙◌, []}
 use Rattle.std.specs.Prelude.{◌<◌, length, IfSome}
 use Rattle.vpg_diagram.specs.DiagramText.{NamedDiagram}
 use Rattle.vpg_answers.specs.Answers.{IsOver}

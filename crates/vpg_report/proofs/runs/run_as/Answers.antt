@@ -1,7 +1,4 @@
-use Rattle.std.proofs.Common.{[], subst}
 use Rattle.std.specs.Arc.{arc_value}
-use Rattle.vpg_script.specs.Calling.{Calling}
-use Rattle.vpg_report.specs.Server.{IsOpenRefusal}
 use Rattle.vpg_report.proofs.Results.{uncalled}
 use Rattle.vpg_report.proofs.runs.run_as.Goals as goal
 

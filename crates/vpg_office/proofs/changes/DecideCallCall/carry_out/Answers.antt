@@ -3,13 +3,17 @@ use Rattle.vpg_desk.specs.Book as book
 use Rattle.vpg_desk.specs.Book.{Book}
 use Rattle.vpg_faults.specs.Refusals.{decide_refusal}
 use Rattle.vpg_office.specs.Made.{IsMade}
+use Rattle.vpg_office.specs.declared.asked.Answer.TheVariants as answer
 use Rattle.vpg_office.specs.declared.asked.SessionCall.TheVariants as ask
-use Rattle.vpg_office.proofs.Calling.{refused_is}
+use Rattle.vpg_office.specs.Fronts.{family_between}
+use Rattle.vpg_office.specs.Story.{reply_of}
+use Rattle.vpg_office.proofs.Calling.{changed_fits, refused_is}
 use Rattle.vpg_office.proofs.changes.DecideCallCall.carry_out.Goals as goal
 
 pub returns-in-Ok-clause-made : goal.returns-in-Ok-clause-made
 returns-in-Ok-clause-made g c =
-    coe 0 1 (k. IsMade g.L.Terms.game g.L.Terms.diagram c.args.desk.now c.args.session (ask.Decide c.args.self.feature c.args.self.value) ((sym c.issue_token.ensures.answer) k) c.decide.new.self) (record { step = c.in-Ok.ensures.accepted; hands = tt; named = tt })
+    let is = c.issue_token.ensures.answer ∙ (λ j. answer.Changed (c.issue_token.ensures.token j)) in
+    coe 0 1 (k. IsMade g.L.Terms.game g.L.Terms.diagram c.args.desk.now c.args.session (ask.Decide c.args.self.feature c.args.self.value) ((sym is) k) c.decide.new.self) (record { step = c.in-Ok.ensures.accepted; hands = tt; named = tt })
 
 pub returns-in-Ok-clause-counted : goal.returns-in-Ok-clause-counted
 returns-in-Ok-clause-counted g c =
@@ -22,3 +26,10 @@ returns-in-Err-clause-refused g c =
 
 pub returns-in-Err-clause-counted : goal.returns-in-Err-clause-counted
 returns-in-Err-clause-counted g c = c.requires.counted ∙ (λ k. ((sym c.in-Err.ensures.err) k).book.tokens)
+
+pub returns-in-Ok-clause-replies : goal.returns-in-Ok-clause-replies
+returns-in-Ok-clause-replies g c = λ front. ap (reply_of (family_between g.L.Terms.game g.L.Terms.diagram) c.args.desk.now.book.present) c.issue_token.ensures.answer
+
+pub returns-in-Ok-clause-fits : goal.returns-in-Ok-clause-fits
+returns-in-Ok-clause-fits g c =
+    (c.issue_token.ensures.share.0, c.issue_token.ensures.share.1, changed_fits (family_between g.L.Terms.game g.L.Terms.diagram) c.args.desk.now.book.present c.issue_token.result.given.token c.issue_token.result.answer c.issue_token.ensures.answer)

@@ -1,13 +1,14 @@
-use Rattle.std.proofs.Common.{arith, IfSome, sym, ap, ◌∙◌}
+use Rattle.std.proofs.Common.{◌≡◌, [], ◌∷◌, ◌++◌, length, drop, arith, IfSome, sym, ap, ◌∙◌, subst}
 use Rattle.vpg_desk.specs.Book as book
 use Rattle.vpg_desk.specs.Book.{Book, opened, IsReply}
 use Rattle.vpg_desk.specs.History.{book_after}
 use Rattle.vpg_faults.specs.Refusals.{told_by}
 use Rattle.vpg_desk.specs.Lawful.{HandsIn, IsLawful}
-use Rattle.vpg_office.specs.Fronts.{family_between}
-use Rattle.vpg_office.specs.Made.{IsEntered, IsMade, IsRefused, Leaves}
-use Rattle.vpg_office.specs.Story.{IsNamed, call_of}
+use Rattle.vpg_office.specs.Fronts.{calls_by, event, family_between}
+use Rattle.vpg_office.specs.Made.{IsMade, IsRefused, Leaves}
+use Rattle.vpg_office.specs.Story.{IsNamed, call_of, reply_of}
 use Rattle.vpg_office.specs.declared.asked.Answer.TheVariants.{Refused}
+use Rattle.vpg_office.specs.declared.asked.SessionCall.{SessionCall}
 use Rattle.vpg_office.proofs.Calling.{admitted, few_tokens, log_history, log_made, log_refused, more_left, refused_leaves, reply_here, seen_here, stops_leave, then_some, told_here}
 use Rattle.vpg_office.proofs.log.Log.make.Goals as goal
 
@@ -91,16 +92,51 @@ invariant_of-self-in-Ok-carry_out g c =
     log_made i c.enter.new.self.chronicle c.enter.new.self.newest c.enter.new.self.room c.carry_out.new.desk c.carry_out.new.purse c.enter.new.self.left.parts c.args.session c.args.asked c.in-Ok-carry_out.done.answer
     c.enter.ensures.kept c.enter.ensures.newest c.enter.ensures.limit made.step c.carry_out.ensures.counted c.enter.ensures.left
 
+pub at-requires : goal.at-requires
+at-requires g c =
+    let F = family_between g.L.Terms.game g.L.Terms.diagram in
+    let log = c.admit.new.self.newest in
+    let answer = c.in-Ok-carry_out.done.answer in
+    let now : c.self.inside.desk.book ≡ book_after F opened log = c.self.invariant.replay.book ∙ ap (book_after F opened) (sym c.admit.ensures.newest) in
+    record {
+      before = log;
+      own = event c.args.session (call_of c.args.asked answer) (reply_of F (book_after F opened log).present answer);
+      is = c.enter.ensures.front ∙ c.enter.ensures.newest;
+      gave = subst (λ (b : Book). g.C.Made.AtFront.Fits c.in-Ok-carry_out.done.given (reply_of F b.present answer)) now c.in-Ok-carry_out.ensures.fits;
+    }
+
 pub returns-in-Ok-carry_out-clause-done : goal.returns-in-Ok-carry_out-clause-done
 returns-in-Ok-carry_out-clause-done g c =
+    let F = family_between g.L.Terms.game g.L.Terms.diagram in
     let log = c.admit.ensures.newest ∙ c.self.view_is in
-    coe 0 1 (k. IsEntered g.L.Terms.game g.L.Terms.diagram (log k) c.args.front.now c.args.session (c.requires.asked k) (c.in-Ok-carry_out.ensures.answer k) c.enter.new.front)
-    (record { is = c.enter.ensures.front ∙ c.enter.ensures.newest; none = c.in-Ok.ensures.none; history = c.enter.ensures.history })
+    let answer = c.in-Ok-carry_out.done.answer in
+    let now : c.self.inside.desk.book ≡ book_after F opened c.admit.new.self.newest = c.self.invariant.replay.book ∙ ap (book_after F opened) (sym c.admit.ensures.newest) in
+    let call_is = ap (λ (a : SessionCall). call_of a answer) c.requires.asked ∙ c.in-Ok-carry_out.ensures.means in
+    let reply_is = ap (λ (b : Book). reply_of F b.present answer) (sym now) ∙ c.in-Ok-carry_out.ensures.replies c.enter.new.front ∙ (λ k. g.C.Call.replies ((sym c.at.ensures) k)) in
+    record {
+      is = c.enter.ensures.front ∙ c.enter.ensures.newest ∙ (λ k. log k ++ event c.args.session (call_is k) (reply_is k) ∷ []);
+      none = coe 0 1 (k. calls_by c.args.session (drop (length c.args.front.now) (log k)) ≡ 0) c.in-Ok.ensures.none;
+      history = c.enter.ensures.history;
+    }
 
 pub returns-in-Ok-carry_out-clause-gives : goal.returns-in-Ok-carry_out-clause-gives
 returns-in-Ok-carry_out-clause-gives g c =
-    let now = c.self.invariant.replay.book ∙ ap (book_after (family_between g.L.Terms.game g.L.Terms.diagram) opened) c.self.view_is in
-    coe 0 1 (k. g.C.Call.Gives c.args.call (now k) c.in-Ok-carry_out.done.given) c.in-Ok-carry_out.ensures.gives
+    let F = family_between g.L.Terms.game g.L.Terms.diagram in
+    let log = c.admit.ensures.newest ∙ c.self.view_is in
+    let answer = c.in-Ok-carry_out.done.answer in
+    let front = c.enter.new.front in
+    let now : c.self.inside.desk.book ≡ book_after F opened c.admit.new.self.newest = c.self.invariant.replay.book ∙ ap (book_after F opened) (sym c.admit.ensures.newest) in
+    let call_is = ap (λ (a : SessionCall). call_of a answer) c.requires.asked ∙ c.in-Ok-carry_out.ensures.means in
+    let reply_is = ap (λ (b : Book). reply_of F b.present answer) (sym now) ∙ c.in-Ok-carry_out.ensures.replies front in
+    coe 0 1 (k. g.C.Call.Gives c.args.call front ((sym c.at.ensures) k))
+    (c.in-Ok-carry_out.ensures.gives front (record {
+      log = c.args.self.now;
+      has = c.requires.own;
+      leaves = c.self.invariant.replay.book ∙ ap (book_after F opened) c.self.view_is;
+      session = c.args.session;
+      is = c.enter.ensures.front ∙ c.enter.ensures.newest ∙ (λ k. log k ++ event c.args.session (call_is k) (reply_is k) ∷ []);
+      history = c.enter.ensures.history;
+    }))
 
 pub returns-in-Err-clause-leaves : goal.returns-in-Err-clause-leaves
 returns-in-Err-clause-leaves g c =

@@ -1,4 +1,4 @@
-use Rattle.std.proofs.Common.{List, [], ap₂}
+use Rattle.std.proofs.Common.{List, ap₂}
 use Rattle.vpg_desk.specs.History.{Event}
 use Rattle.vpg_office.specs.Token.{Caller}
 use Rattle.vpg_report.specs.Client.{client_after}

@@ -1,4 +1,4 @@
-use Rattle.std.proofs.Common.{Ok, refl, ◌∙◌}
+use Rattle.std.proofs.Common.{refl, ◌∙◌}
 use Rattle.vpg_trail.specs.Page.{Hopeful, Dual}
 use Rattle.vpg_faults.specs.Refusals.{never_refused}
 use Rattle.vpg_desk.specs.Book.{Page}

@@ -1,7 +1,7 @@
-use Rattle.std.proofs.Common.{◌≡◌, ◌∙◌, ℕ, ◌-◌, ◌<◌, true, List, length, Option, refl, sym, ap, subst}
+use Rattle.std.proofs.Common.{◌≡◌, ◌∙◌, ℕ, ◌-◌, true, List, length, Option, refl, sym, ap, subst}
 use Rattle.vpg_diagram.specs.DiagramText.{NamedDiagram}
 use Rattle.vpg_measure.specs.Orders.{HarvestView}
-use Rattle.vpg_desk.specs.Book.{Harvest}
+use Rattle.vpg_desk.specs.Book.{Commit, Harvest}
 use Rattle.vpg_desk.specs.Commit.{handed_in}
 use Rattle.vpg_faults.specs.Refusals.{commit_refusal}
 use Rattle.vpg_script.specs.Script as script
@@ -10,9 +10,9 @@ use Rattle.vpg_report.specs.Engine.{EngineState, AnswersTo, IsFaultWithin}
 use Rattle.vpg_report.specs.EngineFields.{engine_in, harvests_of, AreOwnHarvests}
 use Rattle.vpg_report.proofs.Asked.{on_view}
 use Rattle.vpg_report.proofs.Committing.{commit_unknown, committed, commit_refused, committed_within, own_kept, own_gone, own_returned, returned_again}
-use Rattle.vpg_report.proofs.Enduring.{endures, commit_stays, unless_stray}
+use Rattle.vpg_report.proofs.Enduring.{endures, stays, unless_stray}
 use Rattle.vpg_report.proofs.KeptHarvests.{gone_seen}
-use Rattle.vpg_report.proofs.Strays.{commit_stray, on_seen, unstrayed}
+use Rattle.vpg_report.proofs.Strays.{told_stray, on_seen, unstrayed}
 use Rattle.vpg_report.proofs.engine.Engine.commit.Goals as goal
 
 pub returns-in_default-clause-answer : goal.returns-in_default-clause-answer
@@ -24,6 +24,12 @@ returns-in_default-clause-answer g c =
     (λ tone told. subst (λ (hs : List (Option HarvestView)). AnswersTo old (record { label = c.args.session; command = script.Commit c.args.number }) tone c.args.out.now.items c.refused.new.out.items (with hs))
     (sym c.in_default.ensures.none) (commit_unknown old c.args.session c.args.number e.harvests.items refl c.args.out.now.items _ c.in_default.ensures.kept told)) c.refused.ensures.told
 
+pub commit_own-requires : goal.commit_own-requires
+commit_own-requires g c =
+    let e = c.self.inside in
+    let own = own_kept e.client.desk.game e.client.desk.diagram e.harvests.items c.args.number c.in-Some.harvest c.self.invariant.harvests c.in-Some.ensures.kept in
+    record { ours = (own.game, own.diagram) }
+
 pub invariant_of-self-in-Ok : goal.invariant_of-self-in-Ok
 invariant_of-self-in-Ok g c =
     let e = c.self.inside in
@@ -34,7 +40,7 @@ invariant_of-self-in-Ok g c =
 pub invariant_of-self-in-Err : goal.invariant_of-self-in-Err
 invariant_of-self-in-Err g c =
     let e = c.self.inside in
-    let same = commit_stays g.L.Terms.limit e.client c.args.session c.in-Some.harvest _ _ c.in-Err.ensures.fault in
+    let same = stays g.L.Terms.limit commit_refusal e.client c.args.session (Commit (handed_in true c.in-Some.harvest)) _ _ c.in-Err.ensures.fault in
     endures g.L.Terms.limit _ _ e.client.desk e.harvests.items c.self.invariant _ _ same.0 same.1
     (own_returned e.client.desk.game e.client.desk.diagram e.harvests.items c.args.number c.in-Some.harvest c.in-Err.field-0.fault c.in-Err.field-0.value c.take_harvest.new.harvests.items c.return_harvest.new.harvests.items
     c.self.invariant.harvests c.in-Some.ensures.kept c.in-Some.ensures.gone c.in-Err.ensures.back c.return_harvest.ensures.strayed c.return_harvest.ensures.back)
@@ -44,7 +50,7 @@ put_fault-requires g c =
     let e = c.self.inside in
     let harvest = c.in-Some.harvest in
     let own = own_kept e.client.desk.game e.client.desk.diagram e.harvests.items c.args.number harvest c.self.invariant.harvests c.in-Some.ensures.kept in
-    let same = commit_stays g.L.Terms.limit e.client c.args.session harvest _ _ c.in-Err.ensures.fault in
+    let same = stays g.L.Terms.limit commit_refusal e.client c.args.session (Commit (handed_in true harvest)) _ _ c.in-Err.ensures.fault in
     let names_are : e.client.desk.diagram.names ≡ c.names.result.now = sym (c.names.ensures ∙ ap (λ (d : NamedDiagram). d.names) same.1) in
     subst (λ (names : List (List ℕ)). IsFaultWithin (length names) commit_refusal c.in-Err.field-0.fault) names_are
     (subst (λ (n : ℕ). IsFaultWithin n commit_refusal c.in-Err.field-0.fault) (sym own.each_named) (committed_within g.L.Terms.limit e.client _ c.args.session harvest c.in-Err.field-0.fault own.named c.in-Err.ensures.fault))
@@ -65,12 +71,11 @@ returns-in-Err-clause-answer g c =
     let old = engine_in e.client e.undos.items e.redos.items e.harvests.items e.seen.items in
     let hs = e.harvests.items in
     let harvest = c.in-Some.harvest in
-    let own = own_kept e.client.desk.game e.client.desk.diagram hs c.args.number harvest c.self.invariant.harvests c.in-Some.ensures.kept in
     let holds : List (Option HarvestView) → Held = λ kept. record { undos = old.held.undos; redos = old.held.redos; harvests = harvests_of kept; seen = old.held.seen } in
     let again = returned_again hs c.args.number harvest c.in-Err.field-0.fault c.in-Err.field-0.value c.take_harvest.new.harvests.items c.return_harvest.new.harvests.items
     c.in-Some.ensures.kept c.in-Some.ensures.gone c.in-Err.ensures.back c.return_harvest.ensures.back in
     on_view c.put_fault.result _ old _ _ _ _ _ c.self.view_is
-    (λ tone told. commit_refused old c.args.session c.args.number hs refl c.args.out.now.items _ g.L.Terms.limit c.self.invariant.room_is _ harvest c.in-Some.ensures.kept c.in-Err.field-0.fault c.names.result.now (own.game, own.diagram) c.in-Err.ensures.fault
+    (λ tone told. commit_refused old c.args.session c.args.number hs refl c.args.out.now.items _ g.L.Terms.limit c.self.invariant.room_is _ harvest c.in-Some.ensures.kept c.in-Err.field-0.fault c.names.result.now c.in-Err.ensures.fault
     (unless_stray c.in-Err.field-0.fault _ _ again (λ same. ap holds same)) c.names.ensures told) c.put_fault.ensures.told
 
 pub invariant_of-self : goal.invariant_of-self
@@ -90,4 +95,4 @@ returns-in-Err-clause-strayed g c = λ is.
     let e = c.self.inside in
     let old = engine_in e.client e.undos.items e.redos.items e.harvests.items e.seen.items in
     on_seen old _ c.args.session _ c.self.view_is
-    (commit_stray g.L.Terms.limit e.client c.args.session c.in-Some.harvest _ c.in-Err.field-0.fault c.in-Err.ensures.fault (c.put_fault.ensures.strayed is))
+    (told_stray g.L.Terms.limit commit_refusal e.client c.args.session (Commit (handed_in true c.in-Some.harvest)) _ c.in-Err.field-0.fault c.in-Err.ensures.fault (c.put_fault.ensures.strayed is))

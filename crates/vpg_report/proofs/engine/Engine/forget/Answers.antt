@@ -1,5 +1,4 @@
-use Rattle.std.proofs.Common.{◌≡◌, ℕ, List, Option, Some, refl, sym, ap, ◌∙◌, subst, arith, None}
-use Rattle.std.specs.Prelude.{IfSome}
+use Rattle.std.proofs.Common.{ℕ, List, Option, Some, refl, sym, ap, ◌∙◌, subst, arith, None}
 use Rattle.std.specs.List.{insert}
 use Rattle.vpg_office.specs.Token.{TokenView as Token}
 use Rattle.vpg_faults.specs.Refusals.{never_refused}
@@ -64,7 +63,8 @@ returns-in-Err-clause-answer g c =
     let meant = ap (λ (x : Option ℕ). call_or NoToken Forget x) (at.1.0 ∙ ap Some (sym (serial_at tokens c.in-Some.place token token c.remove-token.ensures.value token.serial refl ∙ here.serial token.serial))) in
     let stays_held = unless_stray c.in-Err.field-0.fault _ _ c.in-Err.ensures.back
     (λ back.
-    let again = subst (λ (v : Option Token). IfSome v (λ t. c.put_back_unspent.new.tokens.items ≡ insert c.remove-token.new.self.items c.in-Some.place t)) back c.put_back_unspent.ensures in
+    let put = c.put_back_unspent.ensures _ back in
+    let again = put.1.1 ∙ (λ k. insert c.remove-token.new.self.items c.in-Some.place (put.1.0 k)) in
     ap holds (put_again tokens c.in-Some.place token at.0 _ _ here c.remove-token.ensures.value c.remove-token.ensures.items again)) in
     on_view c.put_unanswered.result _ old _ _ _ _ _ c.self.view_is
     (λ tone told. log_full g.L.Terms.limit c.self.invariant.room_is c.args.session never_refused old _ (script.Forget c.args.serial) (Forget token.serial) c.in-Err.field-0.fault c.args.out.now.items _ meant c.in-Err.ensures.fault

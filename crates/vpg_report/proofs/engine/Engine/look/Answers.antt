@@ -1,4 +1,4 @@
-use Rattle.std.proofs.Common.{Ok, refl, sym, ◌∙◌, ap}
+use Rattle.std.proofs.Common.{refl, sym, ◌∙◌, ap}
 use Rattle.std.specs.Arc.{arc_value}
 use Rattle.vpg_script.specs.View.{lookup_shown}
 use Rattle.vpg_trail.specs.Page.{Hopeful, Dual}

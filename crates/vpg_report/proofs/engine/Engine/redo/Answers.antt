@@ -1,4 +1,5 @@
 use Rattle.std.proofs.Common.{ℕ, List, ◌++◌, ◌∷◌, [], Option, Some, None, refl, sym, ap, ap₂, ◌∙◌, subst, arith}
+use Rattle.std.specs.List.{insert}
 use Rattle.vpg_office.specs.Token.{TokenView as Token}
 use Rattle.vpg_report.specs.Held.{Held, redo_meant}
 use Rattle.vpg_report.specs.Serials.{serials}
@@ -63,14 +64,15 @@ returns-in-Err-clause-answer g c =
     let meant = ap (λ (x : Option ℕ). call_or NoToken Redo x) (at.1.0 ∙ ap Some (sym (serial_at tokens c.in-Some.place token token c.remove-token.ensures.value token.serial refl ∙ here.serial token.serial))) in
     let stays_held = unless_stray c.in-Err.field-0.fault _ _ c.in-Err.ensures.back
     (λ back.
-    let again = c.hold_redone.ensures token back in
-    ap₂ holds (put_again tokens c.in-Some.place token at.0 _ _ here c.remove-token.ensures.value c.remove-token.ensures.items again.0) (ap serials (again.1 ∙ c.reserve.ensures.items))) in
+    let put = c.put_back_unswung.ensures _ back in
+    let again = put.1.1.0 ∙ (λ k. insert c.remove-token.new.self.items c.in-Some.place (put.1.0 k)) in
+    ap₂ holds (put_again tokens c.in-Some.place token at.0 _ _ here c.remove-token.ensures.value c.remove-token.ensures.items again) (ap serials (put.1.1.1 ∙ c.reserve.ensures.items))) in
     on_view c.put_fault.result _ old _ _ _ _ _ c.self.view_is
     (λ tone told. unanswered g.L.Terms.limit c.self.invariant.room_is c.args.session redo_refusal old _ (script.Redo c.args.serial) (Redo token.serial) c.in-Err.field-0.fault c.names.result.now c.args.out.now.items _ meant c.in-Err.ensures.fault
     stays_held c.names.ensures told) c.put_fault.ensures.told
 
-pub hold_redone-requires-clause-place : goal.hold_redone-requires-clause-place
-hold_redone-requires-clause-place g c =
+pub put_back_unswung-requires-clause-place : goal.put_back_unswung-requires-clause-place
+put_back_unswung-requires-clause-place g c =
     let e = c.self.inside in
     let tokens = e.redos.items in
     let at = subst (λ (ts : List Token). IsPlaceOf (redo_meant (serials ts) c.args.serial) (serials ts) (Some c.in-Some.place)) c.deref.ensures.value c.in-Some.ensures in
@@ -85,8 +87,8 @@ returns-in_default-clause-answer g c =
     on_same_view c.refused.result _ old _ _ _ _ c.self.view_is
     (λ tone told. unasked old c.args.session (script.Redo c.args.serial) NoToken c.args.out.now.items _ (ap (λ (x : Option ℕ). call_or NoToken Redo x) none) told) c.refused.ensures.told
 
-pub hold_redone-requires-clause-room : goal.hold_redone-requires-clause-room
-hold_redone-requires-clause-room g c = grind (arith, common_steps)
+pub put_back_unswung-requires-clause-room : goal.put_back_unswung-requires-clause-room
+put_back_unswung-requires-clause-room g c = grind (arith, common_steps)
 
 pub returns-in-Ok-clause-strayed : goal.returns-in-Ok-clause-strayed
 returns-in-Ok-clause-strayed g c = λ is. unstrayed c.hold_undo.result _ c.hold_undo.ensures.memory is

@@ -1,76 +1,29 @@
-use Rattle.std.proofs.Common.{◌≡◌, ℕ, List, ◌++◌, ◌∷◌, [], Option, Some, None, sym, ap, ◌∙◌, subst}
-use Rattle.std.specs.Prelude.{IfNone}
+use Rattle.std.proofs.Common.{◌≡◌, ℕ, List, Option, Some, None, refl, sym, ap, ◌∙◌}
 use Rattle.vpg_features.specs.Names.{index_of}
 use Rattle.vpg_desk.specs.Book.{Retract}
-use Rattle.vpg_faults.specs.Refusals.{retract_refusal}
-use Rattle.vpg_office.specs.Token.{TokenView as Token}
+use Rattle.vpg_office.proofs.Calling.{ok_then}
 use Rattle.vpg_script.specs.Script as script
-use Rattle.vpg_report.specs.Held.{Held}
-use Rattle.vpg_report.specs.Serials.{serials}
-use Rattle.vpg_report.specs.Engine.{EngineState}
-use Rattle.vpg_report.specs.EngineFields.{engine_in}
-use Rattle.vpg_report.proofs.Asked.{on_view, on_same_view, unasked}
-use Rattle.vpg_report.proofs.Deciding.{retracted, retract_refused}
-use Rattle.vpg_report.proofs.Enduring.{endures, stays, unless_stray}
 use Rattle.vpg_report.specs.Answers.{NoFeature, call_or}
-use Rattle.vpg_report.proofs.Strays.{told_stray, on_seen, unstrayed}
+use Rattle.vpg_report.proofs.Asked.{unasked}
+use Rattle.vpg_report.proofs.Deciding.{retracted, retracted_named}
+use Rattle.vpg_report.proofs.Strays.{unstrayed}
 use Rattle.vpg_report.proofs.engine.Engine.retract.Goals as goal
 
-pub invariant_of-self-in-Ok : goal.invariant_of-self-in-Ok
-invariant_of-self-in-Ok g c =
-    let e = c.self.inside in
-    let step = c.in-Ok.ensures.accepted.step in
-    endures g.L.Terms.limit _ _ e.client.desk e.harvests.items c.self.invariant _ e.harvests.items step.game step.diagram c.self.invariant.harvests
+pub change-requires : goal.change-requires
+change-requires g c = record { takes = tt; changes = λ undo. refl; means = λ r. refl; named = retracted_named c.args.self.now.client.desk c.in-Some.feature }
 
-pub invariant_of-self-in-Err : goal.invariant_of-self-in-Err
-invariant_of-self-in-Err g c =
-    let e = c.self.inside in
-    let same = stays g.L.Terms.limit retract_refusal e.client c.args.session (Retract c.in-Some.feature) _ _ c.in-Err.ensures.fault in
-    endures g.L.Terms.limit _ _ e.client.desk e.harvests.items c.self.invariant _ e.harvests.items same.0 same.1 c.self.invariant.harvests
-
-pub returns-in-Ok-clause-answer : goal.returns-in-Ok-clause-answer
-returns-in-Ok-clause-answer g c =
-    let e = c.self.inside in
-    let old = engine_in e.client e.undos.items e.redos.items e.harvests.items e.seen.items in
+pub returns-clause-answer : goal.returns-clause-answer
+returns-clause-answer g c =
+    let old = c.args.self.now in
     let found : index_of old.client.desk.diagram.names c.args.name.now ≡ Some c.in-Some.feature =
-    ap (λ (s : EngineState). index_of s.client.desk.diagram.names c.args.name.now) c.self.view_is ∙ ap (λ (ns : List (List ℕ)). index_of ns c.args.name.now) (sym c.names.ensures) ∙ sym c.get.ensures.index ∙ c.in-Some.is in
-    let holds : List ℕ → Held = λ undos. record { undos = undos; redos = old.held.redos; harvests = old.held.harvests; seen = old.held.seen } in
-    on_view c.hold_undo.result _ old _ _ _ _ _ c.self.view_is
-    (λ tone told. retracted old c.args.session c.args.name.now g.L.Terms.limit c.self.invariant.room_is _ c.in-Some.feature c.args.out.now.items _ found c.in-Ok.undo.serial c.in-Ok.ensures.accepted
-    (ap holds (c.hold_undo.ensures.held ∙ ap (λ (tokens : List Token). serials tokens ++ c.in-Ok.undo.serial ∷ []) c.reserve.ensures.items)) told) c.hold_undo.ensures.told
-
-pub returns-in-Err-clause-answer : goal.returns-in-Err-clause-answer
-returns-in-Err-clause-answer g c =
-    let e = c.self.inside in
-    let old = engine_in e.client e.undos.items e.redos.items e.harvests.items e.seen.items in
-    let found : index_of old.client.desk.diagram.names c.args.name.now ≡ Some c.in-Some.feature =
-    ap (λ (s : EngineState). index_of s.client.desk.diagram.names c.args.name.now) c.self.view_is ∙ ap (λ (ns : List (List ℕ)). index_of ns c.args.name.now) (sym c.names.ensures) ∙ sym c.get.ensures.index ∙ c.in-Some.is in
-    let holds : List ℕ → Held = λ undos. record { undos = undos; redos = old.held.redos; harvests = old.held.harvests; seen = old.held.seen } in
-    let value = c.in-Err.field-0.value in
-    let stays_held = unless_stray c.in-Err.field-0.fault _ _ c.in-Err.ensures.back
-    (λ none. ap holds (ap serials (subst (λ (v : Option Token). IfNone v (c.hold_strayed.new.undos.items ≡ c.reserve.new.self.items)) none c.hold_strayed.ensures ∙ c.reserve.ensures.items))) in
-    on_view c.put_fault.result _ old _ _ _ _ _ c.self.view_is
-    (λ tone told. retract_refused old c.args.session c.args.name.now g.L.Terms.limit c.self.invariant.room_is _ c.in-Some.feature c.args.out.now.items _ found c.in-Err.field-0.fault c.names-in-Err.result.now c.in-Err.ensures.fault
-    stays_held c.names-in-Err.ensures told) c.put_fault.ensures.told
+    ap (λ (ns : List (List ℕ)). index_of ns c.args.name.now) (sym c.names.ensures) ∙ sym c.get.ensures.index ∙ c.in-Some.is in
+    ok_then c.change.result _ _ (λ tone told. retracted old c.args.session c.args.name.now c.change.new.self c.in-Some.feature c.args.out.now.items c.change.new.out.items found told) c.change.ensures.answer
 
 pub returns-in_default-clause-answer : goal.returns-in_default-clause-answer
 returns-in_default-clause-answer g c =
-    let e = c.self.inside in
-    let old = engine_in e.client e.undos.items e.redos.items e.harvests.items e.seen.items in
-    let none : index_of old.client.desk.diagram.names c.args.name.now ≡ None =
-    ap (λ (s : EngineState). index_of s.client.desk.diagram.names c.args.name.now) c.self.view_is ∙ ap (λ (ns : List (List ℕ)). index_of ns c.args.name.now) (sym c.names.ensures) ∙ sym c.in_default.ensures.index in
-    on_same_view c.refused.result _ old _ _ _ _ c.self.view_is
-    (λ tone told. unasked old c.args.session (script.Retract c.args.name.now) NoFeature c.args.out.now.items _ (ap (λ (found : Option ℕ). call_or NoFeature Retract found) none) told) c.refused.ensures.told
-
-pub returns-in-Ok-clause-strayed : goal.returns-in-Ok-clause-strayed
-returns-in-Ok-clause-strayed g c = λ is. unstrayed c.hold_undo.result _ c.hold_undo.ensures.memory is
+    let old = c.args.self.now in
+    let none : index_of old.client.desk.diagram.names c.args.name.now ≡ None = ap (λ (ns : List (List ℕ)). index_of ns c.args.name.now) (sym c.names.ensures) ∙ sym c.in_default.ensures.index in
+    ok_then c.refused.result _ _ (λ tone told. unasked old c.args.session (script.Retract c.args.name.now) NoFeature c.args.out.now.items _ (ap (λ (found : Option ℕ). call_or NoFeature Retract found) none) told) c.refused.ensures.told
 
 pub returns-in_default-clause-strayed : goal.returns-in_default-clause-strayed
 returns-in_default-clause-strayed g c = λ is. unstrayed c.refused.result _ c.refused.ensures.memory is
-
-pub returns-in-Err-clause-strayed : goal.returns-in-Err-clause-strayed
-returns-in-Err-clause-strayed g c = λ is.
-    let e = c.self.inside in
-    let old = engine_in e.client e.undos.items e.redos.items e.harvests.items e.seen.items in
-    on_seen old _ c.args.session _ c.self.view_is
-    (told_stray g.L.Terms.limit retract_refusal e.client c.args.session (Retract c.in-Some.feature) _ c.in-Err.field-0.fault c.in-Err.ensures.fault (c.put_fault.ensures.strayed is))
