@@ -2,7 +2,8 @@
 """What can be told of the repository in seconds, before the gate: each wrong body fits its text, each link leads
 somewhere, each name that a document cites stands in the code, docs/DEFINITIONS.md is that of specs/ and docs/API.md
 that of src/, no file has more over-long lines than its ceiling allows, the stored play of crates/vpg_play is as an
-independent book answers it, each file is laid out.
+independent book answers it, crates.txt has the groups of docs/ARCHITECTURE.md, each crate names only crates above it
+there, each file is laid out.
 
     python3 .ci/quick.py        names each fault, one a line, and exits with 1 where there is one
 
@@ -115,6 +116,25 @@ def of_scripts():
             yield from ran.stdout.strip().split("\n")
 
 
+def of_groups():
+    """What is wrong with the groups of crates.txt: they are those of docs/ARCHITECTURE.md, lowest first."""
+    groups, named, group = {}, set(), ""
+    for line in text_of(f"{ROOT}/crates.txt").split("\n")[1:]:
+        crate, _, below = line.partition(":")
+        if line.startswith("# "):
+            group = line[2:]
+        elif line:
+            groups.setdefault(group, []).append(crate)
+            above = [it for it in below.split() if it.startswith("vpg") and it not in named]
+            yield from (f"crates.txt: {crate} names {it}, which does not stand before it" for it in above)
+            named.add(crate)
+    rows = re.findall(r"^\| ([\w ]+) \| (`vpg_.*?) \| .* \|$", text_of(f"{ROOT}/docs/ARCHITECTURE.md"), re.M)
+    told = {group: re.findall(r"`(\w+)`", crates) for group, crates in rows}
+    for group in sorted({**told, **groups}):
+        if told.get(group) != groups.get(group):
+            yield f"docs/ARCHITECTURE.md: the crates of the group {group} are not those of crates.txt"
+
+
 def of_layout():
     rt = shutil.which("rt")
     if not rt:
@@ -131,7 +151,7 @@ def of_layout():
 
 
 def main():
-    faults = [*of_edits(), *of_links(), *of_names(), *of_scripts(), *of_layout()]
+    faults = [*of_edits(), *of_links(), *of_names(), *of_scripts(), *of_groups(), *of_layout()]
     for it in faults:
         print(f"quick: {it}")
     print(f"quick: {len(faults)} faults" if faults else "quick: ok")

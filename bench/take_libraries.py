@@ -29,6 +29,14 @@ ROOT = os.path.dirname(os.path.dirname(os.path.abspath(__file__)))
 RT.rtlib.Crate.stamp, RT.rtlib.Crate.below = map(functools.cache, [RT.rtlib.Crate.stamp, RT.rtlib.Crate.below])
 
 
+def linked(one, other):
+    """Gives a file a second name, on one disk, and else copies it: rt never writes into a file of a library."""
+    try:
+        os.link(one, other)
+    except OSError:
+        shutil.copyfile(one, other)
+
+
 def crates_at(top):
     """The crates of a checkout by name."""
     os.chdir(top)
@@ -59,7 +67,9 @@ def main(words):
             had.append(name)
             continue
         shutil.rmtree(kept, ignore_errors=True)
-        shutil.copytree(f"{theirs[name].folder}/out/rlib", kept)
+        # (a mark of theirs is theirs alone)
+        own = shutil.ignore_patterns("stamp")
+        shutil.copytree(f"{theirs[name].folder}/out/rlib", kept, ignore=own, copy_function=linked)
         with open(f"{kept}/stamp", "w", encoding="utf-8") as it:
             it.write(crate.stamp())
         taken.append(name)
