@@ -1,5 +1,6 @@
 -- Verdicts of a desk's page, and the calls that keep them. This project's own.
-use Rattle.std.specs.Prelude.{◌≡◌, ◌==◌, ℕ, zero, suc, nat_le, Bool, true, false, List, [], ◌∷◌, length, ⊤}
+use Rattle.std.specs.Arc.{arc_value}
+use Rattle.std.specs.Prelude.{◌≡◌, ◌==◌, ℕ, zero, suc, nat_le, Bool, true, false, List, [], ◌∷◌, length, IfSome, ⊤}
 use Rattle.vpg_sides.specs.declared.verdict.Verdict.{Verdict as Said}
 use Rattle.vpg_trail.specs.Page.{Which, Entry, Decided, Lifted, value_at}
 use Rattle.vpg_desk.specs.Book.{Book, Family, Kept, Step}
@@ -11,6 +12,7 @@ use Rattle.vpg_office.specs.declared.alike.Alike.{Alike}
 use Rattle.vpg_office.specs.declared.asked.Answer.{Answer}
 use Rattle.vpg_office.specs.declared.asked.SessionCall.{SessionCall}
 use Rattle.vpg_office.specs.declared.asked.SessionCall.TheVariants.{Retract, Reset, Undo, Redo}
+use Rattle.vpg_office.specs.declared.replay.Told.{Told}
 
 -- the verdict of each vertex
 pub record AreVerdictsOf (desk : DeskState) (verdicts : List Said) : Type 0 where
@@ -51,3 +53,8 @@ NearestAgree family page (suc n) (kept ∷ pages) =
 pub record AreAlike (family : Family) (book : Book) (alike : Alike) : Type 0 where
   pub past : NearestAgree family book.present alike.past book.past
   pub future : NearestAgree family book.present alike.future book.future
+
+-- the verdicts are the desk's, and so many pages have them too
+abbrev pub AreTold : DeskState → Told → Type 0
+AreTold desk told = IfSome told.verdicts (λ verdicts. AreVerdictsOf desk (arc_value verdicts)) ×
+    AreAlike (family_of (setting_of desk)) desk.book told.alike

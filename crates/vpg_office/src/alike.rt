@@ -1,5 +1,5 @@
 //! Past and future pages with the verdicts of the present page.
-ghost use Rattle.std.specs.Prelude.{◌≡◌, IsTrue};
+ghost use Rattle.std.specs.Prelude.{◌≡◌};
 ghost use Rattle.vpg_desk.specs.Book.{Book};
 ghost use Rattle.vpg_desk.specs.Desk.{family_of};
 ghost use Rattle.vpg_desk.specs.Setting.{Setting};
@@ -16,16 +16,13 @@ pub struct Alike {
 }
 
 impl Alike {
-    /// Returns how many are known after a call with this answer. `stay` says whether the call left the verdicts.
-    pub(crate) fn after(self, answer: &Answer, stay: bool) -> Alike
+    /// Returns how many are known after a call with this answer that left the verdicts.
+    pub(crate) fn after(self, answer: &Answer) -> Alike
         ensures { (setting : Setting) (old new : Book) (asked : Call) →
             Leads (family_of setting) old asked answer.now new →
-            (IsTrue stay → AgreeOnTops (family_of setting) old.present new.present) →
+            AgreeOnTops (family_of setting) old.present new.present →
             AreAlike (family_of setting) old self → AreAlike (family_of setting) new result }
     {
-        if !stay {
-            return Alike { past: 0, future: 0 };
-        }
         match answer {
             Answer::Changed { .. } => Alike {
                 past: self.past.saturating_add(1),

@@ -20,7 +20,7 @@ use crate::chronicle::{Chronicle, Row, has_call_since};
 use crate::fault::Fault;
 use crate::front::{Front, Place};
 use crate::purse::Purse;
-use crate::replay::{Replay, carry_out};
+use crate::replay::Replay;
 use crate::session::Session;
 use crate::terms::Terms;
 use std::alloc::Global;
@@ -331,15 +331,14 @@ impl<L: Terms> Log<L> {
             Ok(place) => place,
             Err(fault) => return Err(Returned { fault, value: call }),
         };
-        match carry_out(
-            call,
-            &request.asked,
-            &mut self.desk,
-            &mut self.purse,
-            session,
-        ) {
+        let replay = &mut self.desk;
+        let before = replay.desk.entries().len();
+        match call.carry_out(&mut replay.desk, &mut self.purse, session) {
             Ok(done) => {
                 let Made { given, answer } = done;
+                replay
+                    .told
+                    .follow(&replay.desk, &request.asked, &answer, before);
                 self.calls.enter(&request, made, front, place, answer);
                 Ok(given.at(front))
             }

@@ -1,40 +1,48 @@
 //! The desk that replays the log, with the verdicts last read of its page.
 ghost use Rattle.std.specs.Arc.{arc_value};
 ghost use Rattle.std.specs.List.{list_any};
-ghost use Rattle.std.specs.Prelude.{◌≡◌, ◌≤◌, List, length, IfOk, IfErr, IfSome, IsTrue, OnErr};
+ghost use Rattle.std.specs.Prelude.{◌≡◌, ◌≤◌, ℕ, length, IfOk, IsTrue};
+ghost use Rattle.vpg_diagram.specs.DiagramText.{NamedDiagram};
+ghost use Rattle.vpg_game.specs.Game.{NamedGame};
 ghost use Rattle.vpg_desk.specs.Book.{Book, Settled, IsSettled};
 ghost use Rattle.vpg_desk.specs.Desk.{family_of};
-ghost use Rattle.vpg_desk.specs.State.{IsOpened, Replies, setting_of};
+ghost use Rattle.vpg_desk.specs.State.{DeskState, Replies, setting_of};
 ghost use Rattle.vpg_trail.specs.Shown.{entry_of};
-ghost use Rattle.vpg_faults.specs.Refusals.{told_by};
-ghost use Rattle.vpg_desk.specs.History.{Event};
-ghost use Rattle.vpg_office.specs.Fronts.{family_between};
-ghost use Rattle.vpg_office.specs.Made.{IsLast, IsMade, IsRefused};
-ghost use Rattle.vpg_office.specs.Story.{call_of, reply_of};
-ghost use Rattle.vpg_office.specs.Told.{AgreeOnTops, AreAlike, AreVerdictsOf, Leads, only_appends, raises_to_top as to_top};
-ghost use Rattle.vpg_office.specs.declared.asked.Answer.{Answer};
+ghost use Rattle.vpg_office.specs.Made.{IsMade};
+ghost use Rattle.vpg_office.specs.Told.{AgreeOnTops, AreAlike, AreTold, AreVerdictsOf, Leads, only_appends, raises_to_top as to_top};
 
 use crate::alike::Alike;
-use crate::asked::SessionCall;
-use crate::calls::{Call, Made};
-use crate::purse::Purse;
-use crate::terms::Terms;
+use crate::asked::{Answer, SessionCall};
 use std::alloc::{AllocError, Global};
 use std::marker::Model;
 use std::sync::Arc;
 use vpg_desk::Desk;
-use vpg_faults::Returned;
 use vpg_sides::Which;
 use vpg_trail::Entry;
 use vpg_watch::Verdicts;
 
-/// A desk, with the verdicts last read of its page. Contracts see the desk.
-pub struct Replay {
-    desk: Desk,
-    // the verdicts of the present page, while they are still those last read
-    told: Option<Arc<Verdicts>>,
+/// The verdicts last read of a desk's page.
+pub struct Told {
+    // those of the present page, while they are still those last read
+    verdicts: Option<Arc<Verdicts>>,
     // how many past and future pages have the same verdicts
     alike: Alike,
+}
+
+// Not derived: a derived `drop` would be proved again at each exit that owns such a value.
+impl Drop for Told {
+    fn drop(self) {
+        let Told {
+            verdicts: _,
+            alike: _,
+        } = self;
+    }
+}
+
+/// A desk, with the verdicts last read of its page. Contracts see the desk.
+pub struct Replay {
+    pub(crate) desk: Desk,
+    pub(crate) told: Told,
     // a vertex of a table that a lift raised on the last page that was not settled
     raised: Option<(Which, u32)>,
 }
@@ -45,7 +53,6 @@ impl Drop for Replay {
         let Replay {
             desk: _,
             told: _,
-            alike: _,
             raised: _,
         } = self;
     }
@@ -61,16 +68,11 @@ impl Model for Replay {
 
     ghost coded = { Prim.hlevel (codes, game_code, rule_code) };
 
-    ghost use Rattle.std.specs.Arc.{arc_value};
-    ghost use Rattle.std.specs.Prelude.{IfSome};
-    ghost use Rattle.vpg_desk.specs.Desk.{family_of};
-    ghost use Rattle.vpg_desk.specs.State.{setting_of};
-    ghost use Rattle.vpg_office.specs.Told.{AreAlike, AreVerdictsOf};
+    ghost use Rattle.vpg_office.specs.Told.{AreTold};
 
     ghost view = { λ r. r.desk };
 
-    ghost invariant = { λ r. IfSome r.told (λ told. AreVerdictsOf r.desk (arc_value told)) ×
-        AreAlike (family_of (setting_of r.desk)) r.desk.book r.alike };
+    ghost invariant = { λ r. AreTold r.desk r.told };
 }
 
 /// Returns the desk's verdict of each vertex.
@@ -124,14 +126,41 @@ fn verdicts_stay(desk: &Desk, alike: Alike, asked: &SessionCall, before: usize) 
     }
 }
 
+impl Told {
+    /// Keeps the verdicts if they are known to stay after a call with this answer. The page before it had `before`
+    /// entries.
+    pub(crate) fn follow(
+        &mut self,
+        desk: &Desk,
+        asked: &SessionCall,
+        answer: &Answer,
+        before: usize,
+    )
+        requires { IsTrue (only_appends asked.now) → before ≤ length desk.now.book.present }
+        ensures { (game : NamedGame) (diagram : NamedDiagram) (old : DeskState) (session : ℕ) →
+            IsMade game diagram old session asked.now answer.now desk.now → length old.book.present ≡ before →
+            AreTold old self.old → AreTold desk.now self.new }
+    {
+        if !verdicts_stay(desk, self.alike, asked, before) {
+            self.verdicts = None;
+            self.alike = Alike { past: 0, future: 0 };
+            return;
+        }
+        self.alike = self.alike.after(answer);
+    }
+}
+
 impl Replay {
     pub(crate) fn of(desk: Desk) -> Replay
         ensures { result ≡ desk }
     {
+        let told = Told {
+            verdicts: None,
+            alike: Alike { past: 0, future: 0 },
+        };
         Replay {
             desk,
-            told: None,
-            alike: Alike { past: 0, future: 0 },
+            told,
             raised: None,
         }
     }
@@ -148,7 +177,6 @@ impl Replay {
         let Replay {
             desk,
             told: _,
-            alike: _,
             raised: _,
         } = self;
         desk
@@ -185,61 +213,11 @@ impl Replay {
         ensures same { self.new ≡ self.old }
         ensures are { IfOk result (λ told. AreVerdictsOf self.old (arc_value told)) }
     {
-        if let Some(told) = &self.told {
-            return told.clone();
+        if let Some(verdicts) = &self.told.verdicts {
+            return verdicts.clone();
         }
         let verdicts = Arc::new(alloc, verdicts_of(alloc, &self.desk)?)?;
-        self.told = Some(verdicts.clone()?);
+        self.told.verdicts = Some(verdicts.clone()?);
         Ok(verdicts)
-    }
-}
-
-/// Carries a call out. The verdicts that were read stay if the call left them, as far as that is known.
-pub(crate) fn carry_out<L: Terms, C: Call<L>>(
-    call: C,
-    asked: &SessionCall,
-    desk: &mut Replay,
-    purse: &mut Purse<L>,
-    session: u32,
-) -> Result<Made<C::Made>, Returned<Option<C::Refused>, C>>
-    requires of { (desk.old.game ≡ L.game) × (desk.old.diagram ≡ L.diagram) }
-    requires opens { IsOpened L.game L.diagram }
-    requires counted { purse.old ≡ desk.old.book.tokens }
-    requires few { purse.old ≤ 1048576 }
-    requires takes { C.Takes call }
-    requires asked { asked.now ≡ C.asks call }
-    ensures made { IfOk result
-        (λ m. IsMade L.game L.diagram desk.old session (C.asks call) m.answer desk.new) }
-    ensures means { IfOk result (λ m. call_of (C.asks call) m.answer ≡ C.means call) }
-    ensures replies { IfOk result
-        (λ m. (front : List Event) →
-        reply_of (family_between L.game L.diagram) desk.old.book.present m.answer
-        ≡ C.replies (C.Made.placed m.given front)) }
-    ensures fits { IfOk result
-        (λ m. C.Made.Fits m.given
-        (reply_of (family_between L.game L.diagram) desk.old.book.present m.answer)) }
-    ensures gives { IfOk result
-        (λ m. (front : List Event) →
-        IsLast (family_between L.game L.diagram) (C.owns call) desk.old.book (C.means call)
-        (C.replies (C.Made.placed m.given front)) front →
-        C.Gives call front (C.Made.placed m.given front)) }
-    ensures counted { purse.new ≡ desk.new.book.tokens }
-    ensures refused { IfErr result
-        (λ u. IfSome (told_by C.Refused.refusal_of u.fault)
-        (λ refusal. IsRefused L.game L.diagram desk.old (C.asks call) refusal)) }
-    ensures same { OnErr result (desk.new ≡ desk.old) }
-    ensures back { IfErr result (λ u. u.value ≡ call) }
-{
-    let before = desk.desk.entries().len();
-    match call.carry_out(&mut desk.desk, purse, session) {
-        Ok(made) => {
-            let stay = verdicts_stay(&desk.desk, desk.alike, asked, before);
-            desk.alike = desk.alike.after(&made.answer, stay);
-            if !stay {
-                desk.told = None;
-            }
-            Ok(made)
-        }
-        Err(unmade) => Err(unmade),
     }
 }
