@@ -52,11 +52,11 @@ follow-requires g c appends =
       arith,
       length-map c.entries-before.result.now entry_of,
       ap length c.entries-before.ensures,
-      no_shorter (family_of (setting_of c.carry_out.new.desk)) c.replay.inside.desk.book c.carry_out.new.desk.book (g.C.Call.asks c.args.call) c.in-Ok-carry_out.done.answer is (made_leads c.in-Ok-carry_out.ensures.made),
+      no_shorter (family_of (setting_of c.carry_out.new.desk)) c.replay.inside.desk.book c.carry_out.new.desk.book (g.C.Call.asks c.args.call) c.in-Ok-carry_out.done.answer is (made_leads {new = c.carry_out.new.desk} c.in-Ok-carry_out.ensures.made),
     )
 
-pub invariant_of-replay-in-Ok-carry_out : goal.invariant_of-replay-in-Ok-carry_out
-invariant_of-replay-in-Ok-carry_out g c =
+pub invariant_of-replay : goal.invariant_of-replay
+invariant_of-replay g c =
     let made = coe 0 1 (k. IsMade g.L.Terms.game g.L.Terms.diagram c.replay.inside.desk c.args.session ((sym c.requires.asked) k) c.in-Ok-carry_out.done.answer c.carry_out.new.desk) c.in-Ok-carry_out.ensures.made in
     c.follow.ensures g.L.Terms.game g.L.Terms.diagram c.replay.inside.desk c.args.session made (ap length (sym c.entries-before.ensures) ∙ length-map c.entries-before.result.now entry_of) c.replay.invariant
 

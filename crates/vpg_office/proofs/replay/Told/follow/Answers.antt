@@ -10,7 +10,7 @@ returns c = λ game diagram old session made size told.
     let new = c.args.desk.now in
     let leads = made_leads made in
     let near = alike_before made told.1 in
-    let agree = c.verdicts_stay.ensures c.if-not-verdicts_stay.false old c.args.answer.now leads size near in (
+    let agree = c.verdicts_stay.ensures c.if-not-verdicts_stay.false old.book c.args.answer.now leads size near in (
       then_some c.args.self.now.verdicts (λ v. AreVerdictsOf old (arc_value v)) (λ v. AreVerdictsOf new (arc_value v)) (λ v are. still made (arc_value v) agree are) told.0,
-      c.after.ensures (setting_of new) old.book new.book c.args.asked.now leads agree near,
+      c.after-self.ensures (setting_of new) old.book new.book c.args.asked.now leads agree near,
     )
