@@ -17,6 +17,7 @@ use Rattle.vpg_texts.specs.Text.{is_value}
 use Rattle.vpg_why.specs.Explained.{choices}
 use Rattle.vpg_why.specs.Suffices.{SufficeIn, choice}
 use Rattle.vpg_why.specs.Foreseen.{AreFindings}
+use Rattle.vpg_why.specs.Spared.{AreBothSpared}
 use Rattle.vpg_why.specs.declared.foreseeing.Foresight.{Foresight}
 use Rattle.vpg_why.specs.declared.foreseeing.Foresight.TheVariants as foresights
 use Rattle.vpg_why.specs.declared.question.Aim.TheVariants as aims
@@ -86,11 +87,13 @@ pub record AreOffers (scene : Scene) (limits : Limits) (vertex : ℕ) (decisions
 
 -- ---- how they are found
 
--- what the offers of a line have found: of products that Even wins from the vertex, and of those that Odd wins
+-- what the offers of a line have found, of products that Even wins from the vertex, and of those that Odd wins, and the
+-- choices that are spared
 pub record IsShared (game : NamedGame) (diagram : NamedDiagram) (vertex : ℕ) (choices : List Literal) (line : Shared) :
     Type 0 where
   pub won : AreFindings game diagram (aims.Won Hopeful vertex) choices line.won
   pub lost : AreFindings game diagram (aims.Won Dual vertex) choices line.lost
+  pub spared : AreBothSpared game diagram vertex choices line.spared
 
 -- the winner, by whether Even wins in some product, and whether Odd does
 abbrev pub fact_of : (won lost : Shown) → Fact

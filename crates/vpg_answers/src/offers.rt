@@ -22,7 +22,7 @@ use vpg_measure::Order;
 use vpg_partial::Partial;
 use vpg_sides::Which;
 use vpg_texts::blank_number;
-use vpg_why::{Findings, Foresight, Limits, Shown, foresee};
+use vpg_why::{Findings, Foresight, Limits, Shown, Spared, foresee, spared_choices};
 use vpg_winners::both_findings;
 
 /// The winner in the products left.
@@ -60,14 +60,15 @@ pub(crate) struct Offered {
     prospect: Prospect,
 }
 
-/// The looks and trials that the offers of a line have left, and their findings: of products in which Even wins from
-/// the vertex, and of those in which Odd does.
+/// The looks and trials that the offers of a line have left; their findings, of products in which Even wins from the
+/// vertex, and of those in which Odd does; and choices that were shown to make no verdict.
 #[derive(Drop)]
 pub(crate) struct Shared {
     pub(crate) looks: u64,
     pub(crate) trials: u64,
     pub(crate) won: Findings,
     pub(crate) lost: Findings,
+    pub(crate) spared: Spared,
 }
 
 /// Returns what there is before the first offer of a line.
@@ -78,11 +79,14 @@ fn line_of(alloc: Global, order: &Order, vertex: u32, limits: Limits) -> Result<
 {
     let mut trials = limits.trials;
     let (won, lost) = both_findings(alloc, order, vertex, limits, &mut trials)?;
+    let mut looks = limits.budget;
+    let spared = spared_choices(alloc, order, vertex, limits, &mut looks, &won, &lost)?;
     Ok(Shared {
-        looks: limits.budget,
+        looks,
         trials,
         won,
         lost,
+        spared,
     })
 }
 
@@ -137,6 +141,7 @@ fn offer_of(
         order,
         choice,
         vertex,
+        &line.spared,
         limits,
         &mut line.looks,
         &mut line.trials,

@@ -10,7 +10,7 @@ use vpg_diagram::Literal;
 use vpg_measure::Order;
 use vpg_partial::Decision;
 use vpg_sides::Which;
-use vpg_why::{Foresight, Limits, Shown, foresee, no_findings, verdict_shown};
+use vpg_why::{Foresight, Limits, Shown, foresee, no_findings, none_spared, verdict_shown};
 
 /// Returns whether these decisions alone make the vertex hopeless, or sure.
 fn shown_by(
@@ -88,11 +88,13 @@ pub(crate) fn put_with(
     let (mut looks, mut trials) = (limits.budget, limits.trials);
     let mut won = no_findings(line.alloc);
     let mut lost = no_findings(line.alloc);
+    let spared = none_spared(line.alloc);
     let found = foresee(
         line.alloc,
         order,
         choice,
         vertex,
+        &spared,
         limits,
         &mut looks,
         &mut trials,

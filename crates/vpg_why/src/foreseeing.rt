@@ -1,5 +1,5 @@
 //! The verdicts of a vertex after one more decision, and who wins in some product that is left then.
-ghost use Rattle.std.specs.Prelude.{◌≡◌, ◌≢◌, ◌<◌, ◌≤◌, ◌++◌, ◌∷◌, [], List, length, IfOk};
+ghost use Rattle.std.specs.Prelude.{◌≡◌, ◌≢◌, ◌<◌, ◌≤◌, ◌++◌, ◌∷◌, [], Contains, List, length, IfOk, IsTrue};
 ghost use Rattle.std.specs.List.{list_any};
 ghost use Rattle.vpg_diagram.specs.Clauses.{is_true_in};
 ghost use Rattle.vpg_diagram.specs.FeatureDiagram.{feature_count};
@@ -10,6 +10,7 @@ ghost use Rattle.vpg_why.specs.Explained.{choices};
 ghost use Rattle.vpg_why.specs.Foreseen.{AreFindings, IsForeseen, IsSide, SomeMeets};
 ghost use Rattle.vpg_why.specs.Found.{IsSought};
 ghost use Rattle.vpg_why.specs.Offered.{IsShown};
+ghost use Rattle.vpg_why.specs.Spared.{AreBothSpared, AreSpared};
 ghost use Rattle.vpg_why.specs.Suffices.{IsAim, IsSettled};
 
 use crate::asking::{conflict_shown, verdict_shown, with_one};
@@ -18,6 +19,7 @@ use crate::forcing::seek_beside;
 use crate::question::{Aim, Limits, Question, Shown};
 use crate::searching::{Example, Found};
 use crate::seeking::{has, is_small};
+use crate::sparing::Spared;
 use std::alloc::{AllocError, Global};
 use vpg_diagram::Literal;
 use vpg_measure::Order;
@@ -70,7 +72,7 @@ fn is_true_in(product: &[bool], literal: Literal) -> bool
 }
 
 // Whether one of the products has the literal.
-fn one_has(products: &[Example], literal: Literal) -> bool
+pub(crate) fn one_has(products: &[Example], literal: Literal) -> bool
     ensures { result ≡ list_any (λ e. is_true_in e.features.items literal) products.now }
 {
     products.iter().any(|e| is_true_in(&e.features, literal))
@@ -125,24 +127,41 @@ fn seek_after(
     Ok(found)
 }
 
-// The verdict of a table after one more decision: that of the page stays.
+// Whether the list has the literal.
+fn is_among(literals: &[Literal], literal: Literal) -> bool
+    ensures { IsTrue result → Contains literals.now literal }
+{
+    for l in literals {
+        if l.feature == literal.feature && l.value == literal.value {
+            return true;
+        }
+    }
+    false
+}
+
+// The verdict of a table after one more decision: that of the page stays, and a choice that is spared does not make it.
 fn verdict_after(
     alloc: Global,
     order: &Order,
     which: Which,
     vertex: u32,
     choice: Literal,
+    spared: &[Literal],
     limits: Limits,
     looks: &mut u64,
 ) -> Result<Shown, AllocError>
     requires feature { choice.feature < feature_count order.now.diagram.lines }
     requires vertex { vertex < length order.now.game.vertices }
+    requires spared { AreSpared order.now.game order.now.diagram which vertex (choices order.now.decisions) spared.now }
     ensures shown { IfOk result (IsShown limits.rounds order.now.game order.now.diagram vertex
         (choices order.now.decisions ++ choice ∷ []) which) }
     ensures looks { IfOk result (λ shown. looks.new ≤ looks.old) }
 {
     if order.table(which).get(vertex) == order.shape(which).top() {
         return Ok(Shown::Yes);
+    }
+    if is_among(spared, choice) {
+        return Ok(Shown::No);
     }
     let more = with_one(alloc, order.decisions(), choice.feature, choice.value)?;
     let shown = verdict_shown(alloc, order, which, vertex, &more, limits, looks)?;
@@ -222,6 +241,7 @@ fn side_after(
     which: Which,
     vertex: u32,
     choice: Literal,
+    spared: &[Literal],
     limits: Limits,
     looks: &mut u64,
     trials: &mut u64,
@@ -229,6 +249,7 @@ fn side_after(
 ) -> Result<Side, AllocError>
     requires feature { choice.feature < feature_count order.now.diagram.lines }
     requires vertex { vertex < length order.now.game.vertices }
+    requires spared { AreSpared order.now.game order.now.diagram which vertex (choices order.now.decisions) spared.now }
     requires findings { AreFindings order.now.game order.now.diagram (Aim.Won which vertex)
         (choices order.now.decisions) findings.old }
     ensures side { IfOk result (IsSide limits order.now.game order.now.diagram vertex
@@ -246,7 +267,7 @@ fn side_after(
             met: Shown::Yes,
         });
     }
-    let verdict = verdict_after(alloc, order, which, vertex, choice, limits, looks)?;
+    let verdict = verdict_after(alloc, order, which, vertex, choice, spared, limits, looks)?;
     let found = seek_by_verdict(
         alloc, order, which, vertex, choice, verdict, findings, limits, looks, trials,
     )?;
@@ -256,7 +277,8 @@ fn side_after(
 
 /// Returns what one more decision, that the feature is in or out, would bring at the vertex, as one of several such
 /// questions of a line. The findings are those of earlier ones: of products in which Even wins from the vertex, and of
-/// those in which Odd does. One product answers for each of its literals, so few searches answer all.
+/// those in which Odd does. One product answers for each of its literals, so few searches answer all. A choice that is
+/// spared is not tried again.
 ///
 /// Looks and trials are taken from those of the line. A search takes half at most of the trials that are left, unless
 /// those of the limits suffice for each case of the features that are open then: it has these. The only error is a lack
@@ -266,6 +288,7 @@ pub fn foresee(
     order: &Order,
     choice: Literal,
     vertex: u32,
+    spared: &Spared,
     limits: Limits,
     looks: &mut u64,
     trials: &mut u64,
@@ -274,6 +297,7 @@ pub fn foresee(
 ) -> Result<Foresight, AllocError>
     requires feature { choice.feature < feature_count order.now.diagram.lines }
     requires vertex { vertex < length order.now.game.vertices }
+    requires spared { AreBothSpared order.now.game order.now.diagram vertex (choices order.now.decisions) spared.now }
     requires won { AreFindings order.now.game order.now.diagram (Aim.Won Which.Hopeful vertex)
         (choices order.now.decisions) won.old }
     requires lost { AreFindings order.now.game order.now.diagram (Aim.Won Which.Dual vertex)
@@ -295,11 +319,29 @@ pub fn foresee(
     }
     let which = Which::Hopeful;
     let even = side_after(
-        alloc, order, which, vertex, choice, limits, looks, trials, won,
+        alloc,
+        order,
+        which,
+        vertex,
+        choice,
+        &spared.possible,
+        limits,
+        looks,
+        trials,
+        won,
     )?;
     let which = Which::Dual;
     let odd = side_after(
-        alloc, order, which, vertex, choice, limits, looks, trials, lost,
+        alloc,
+        order,
+        which,
+        vertex,
+        choice,
+        &spared.unsure,
+        limits,
+        looks,
+        trials,
+        lost,
     )?;
     Ok(Foresight::Sides { even, odd })
 }

@@ -21,17 +21,18 @@
 //!
 //! The layer above uses `why_within`, `why_lost`, `why_known`, `why_conflict` (explanations), `find` (an example or a
 //! counterexample, or that there is none) and `needs` (the features that all won products share). It uses `foresee`
-//! (the verdicts and the winner after one more decision), `seek` and `verdict_shown` (what other decisions would
-//! bring), `order_under` (tables for their trials), `are_among`, `winning_moves`, and `caution` (the game that those
-//! win). `Which::Hopeful` asks for Even, `Which::Dual` for Odd. Every answer has `Limits` of work, and says if it met
-//! one: it is then unsettled, never wrong. Its searches share them: each takes looks and trials from what is left, and
-//! gives back what it did not need. Only a search of few features has the trials of the limits for itself.
+//! (the verdicts and the winner after one more decision) with `spared_choices` (choices that do not make a verdict,
+//! found by trials of many at once), `seek` and `verdict_shown` (what other decisions would bring), `order_under`
+//! (tables for their trials), `are_among`, `winning_moves`, and `caution` (the game that those win). `Which::Hopeful`
+//! asks for Even, `Which::Dual` for Odd. Every answer has `Limits` of work, and says if it met one: it is then
+//! unsettled, never wrong. Its searches share them: each takes looks and trials from what is left, and gives back what
+//! it did not need. Only a search of few features has the trials of the limits for itself.
 //!
 //! Definitions: `specs/Suffices` (what decisions alone make so); `specs/Explained` (explanations); `specs/Products`
 //! (the products that decisions leave); `specs/Eased` (aims that each product left meets); `specs/Found`,
-//! `specs/Offered`, `specs/Foreseen`, `specs/Repaired` (the meaning of the answers); `specs/Moves`, `specs/Played` and
-//! `specs/Reachable` (moves that win, and the vertices that they come to); `specs/Searched` for the search of vertices;
-//! `specs/Reasons` (why a search finds nothing). Their laws stand in `laws`.
+//! `specs/Offered`, `specs/Foreseen`, `specs/Spared`, `specs/Repaired` (the meaning of the answers); `specs/Moves`,
+//! `specs/Played` and `specs/Reachable` (moves that win, and the vertices that they come to); `specs/Searched` for the
+//! search of vertices; `specs/Reasons` (why a search finds nothing). Their laws stand in `laws`.
 #![tactic(auto)]
 
 mod answering;
@@ -48,6 +49,7 @@ mod reaching;
 mod searching;
 mod seeking;
 mod settling;
+mod sparing;
 mod stepping;
 mod telling;
 mod under;
@@ -60,6 +62,7 @@ pub use foreseeing::{Findings, Foresight, Side, foresee, no_findings};
 pub use question::{Aim, Limits, Question, Shown};
 pub use searching::{Example, Found, Outlook, find, look_at_games, search, search_all};
 pub use seeking::{is_small, large_limits, seek};
+pub use sparing::{Spared, none_spared, spared_choices};
 pub use stepping::reachable;
 pub use telling::{WhyLost, why_conflict, why_known, why_lost, why_within};
 pub use under::{are_among, order_under};

@@ -13,6 +13,7 @@ ghost use Rattle.vpg_why.specs.Explained.{choices};
 ghost use Rattle.vpg_why.specs.Foreseen.{AreFindings};
 ghost use Rattle.vpg_why.specs.Found.{AllMeet, AreFoundNeeds, AreNeedsExact};
 ghost use Rattle.vpg_why.specs.Products.{AreNeeds, Meets, NoneMeets};
+ghost use Rattle.vpg_why.specs.Spared.{AreBothSpared};
 ghost use Rattle.vpg_why.specs.Suffices.{IsAim, IsSettled, choice};
 ghost use Rattle.vpg_why.specs.declared.question.Aim.{Aim};
 ghost use Rattle.vpg_winners.specs.Finding.{IsSetOfMet};
@@ -32,7 +33,8 @@ use vpg_open::Reached;
 use vpg_sets::{Set, Sets, SetsFault};
 use vpg_sides::Which;
 use vpg_why::{
-    Aim, Demand, Example, Findings, Forced, Limits, Question, foresee, is_small, no_findings,
+    Aim, Demand, Example, Findings, Forced, Limits, Question, Spared, foresee, is_small,
+    no_findings, none_spared,
 };
 
 // Whether a product has a feature.
@@ -511,6 +513,7 @@ fn learn_open(
     order: &Order,
     feature: u16,
     vertex: u32,
+    spared: &Spared,
     limits: Limits,
     looks: &mut u64,
     trials: &mut u64,
@@ -519,6 +522,7 @@ fn learn_open(
 ) -> Result<(), AllocError>
     requires feature { feature < feature_count order.now.diagram.lines }
     requires vertex { vertex < length order.now.game.vertices }
+    requires spared { AreBothSpared order.now.game order.now.diagram vertex (choices order.now.decisions) spared.now }
     requires won { AreFindings order.now.game order.now.diagram (Aim.Won Which.Hopeful vertex)
         (choices order.now.decisions) won.old }
     requires lost { AreFindings order.now.game order.now.diagram (Aim.Won Which.Dual vertex)
@@ -531,12 +535,12 @@ fn learn_open(
     let value = true;
     let choice = Literal { feature, value };
     let _ = foresee(
-        alloc, order, choice, vertex, limits, looks, trials, won, lost,
+        alloc, order, choice, vertex, spared, limits, looks, trials, won, lost,
     )?;
     let value = false;
     let choice = Literal { feature, value };
     let _ = foresee(
-        alloc, order, choice, vertex, limits, looks, trials, won, lost,
+        alloc, order, choice, vertex, spared, limits, looks, trials, won, lost,
     )?;
     Ok(())
 }
@@ -564,10 +568,12 @@ fn search_findings(
     let features = order.diagram().features() as u16;
     let (mut won, mut lost) = begun;
     let mut looks = limits.budget;
+    let spared = none_spared(alloc);
     for feature in 0..features {
         if *trials > 1 && known.value(feature) == Tri::Unknown {
             learn_open(
-                alloc, order, feature, vertex, limits, &mut looks, trials, &mut won, &mut lost,
+                alloc, order, feature, vertex, &spared, limits, &mut looks, trials, &mut won,
+                &mut lost,
             )?;
         }
     }

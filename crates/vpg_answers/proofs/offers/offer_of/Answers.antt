@@ -9,6 +9,9 @@ foresee-requires-clause-won c = c.requires.line.won
 pub foresee-requires-clause-lost : goal.foresee-requires-clause-lost
 foresee-requires-clause-lost c = c.requires.line.lost
 
+pub foresee-requires-clause-spared : goal.foresee-requires-clause-spared
+foresee-requires-clause-spared c = c.requires.line.spared
+
 pub returns-clause-offer : goal.returns-clause-offer
 returns-clause-offer c =
     let order = c.args.order.now in
@@ -17,4 +20,8 @@ returns-clause-offer c =
     c.in_ok-foresight.foresight c.in_ok-foresight.ensures.foreseen)
 
 pub returns-clause-line : goal.returns-clause-line
-returns-clause-line c = record { won = c.in_ok-foresight.ensures.won; lost = c.in_ok-foresight.ensures.lost }
+returns-clause-line c = record {
+  won = c.in_ok-foresight.ensures.won;
+  lost = c.in_ok-foresight.ensures.lost;
+  spared = c.requires.line.spared;
+}

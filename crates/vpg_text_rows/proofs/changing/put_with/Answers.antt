@@ -10,3 +10,7 @@ foresee-found-requires-clause-won c =
 pub foresee-found-requires-clause-lost : goal.foresee-found-requires-clause-lost
 foresee-found-requires-clause-lost c =
     c.no_findings-lost.ensures c.args.order.now.game c.args.order.now.diagram (aims.Won Dual c.args.vertex) (choices c.args.order.now.decisions)
+
+pub foresee-found-requires-clause-spared : goal.foresee-found-requires-clause-spared
+foresee-found-requires-clause-spared c =
+    c.none_spared-spared.ensures c.args.order.now.game c.args.order.now.diagram c.args.vertex (choices c.args.order.now.decisions)

@@ -4,6 +4,9 @@ use Rattle.vpg_why.proofs.foreseeing.foresee.Goals as goal
 pub conflict_shown-requires-clause-named : goal.conflict_shown-requires-clause-named
 conflict_shown-requires-clause-named c = rw c.decisions-decisions.ensures.decisions c.decisions-decisions.ensures.order.named
 
+pub side_after-requires-2-clause-spared : goal.side_after-requires-2-clause-spared
+side_after-requires-2-clause-spared c = rw c.deref-2.ensures.value c.requires.spared.unsure
+
 pub returns-in_default-clause-foreseen : goal.returns-in_default-clause-foreseen
 returns-in_default-clause-foreseen c =
     (rw c.decisions-decisions.ensures.decisions at c.in_ok-conflict_shown.ensures.yes)
