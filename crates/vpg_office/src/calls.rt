@@ -74,7 +74,7 @@ pub trait Call<L: Terms> {
     ghost use Rattle.vpg_office.specs.declared.asked.SessionCall.{SessionCall};
     ghost use Rattle.vpg_office.specs.declared.front.Own.{Own};
 
-    /// What the caller gets.
+    /// The value that the caller gets.
     type Given;
 
     /// The desk's result.

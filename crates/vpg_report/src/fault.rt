@@ -25,7 +25,7 @@ pub enum ClientFault<F> {
     Memory,
 }
 
-/// What comes back of a call that fails: the call, unless it was made and strayed; then what it gave.
+/// The value that a call gives back if it fails: the call, unless it was made and strayed; then what it gave.
 #[derive(Drop)]
 pub enum Back<C, G> {
     Call(C),

@@ -1,4 +1,4 @@
-//! What words say as arguments of commands.
+//! The arguments of commands, as words spell them.
 ghost use Rattle.std.specs.Prelude.{◌≡◌, ◌≤◌, ◌<◌, ◌^◌, true, map, min, drop, option_map, IfOk, bytes_eq};
 ghost use Rattle.std.specs.List.{list_all, list_any};
 ghost use Rattle.std.specs.Char.{is_ascii_digit, digit_value};
@@ -23,7 +23,7 @@ const LARGEST_IDENTIFIER: u64 = u32::MAX as u64;
 
 const MOST_SWEEPS: u64 = 1_000_000_000;
 
-/// What a word asserts of the page as a whole.
+/// An assertion of the page as a whole.
 #[derive(Clone, Copy, Debug, PartialEq, Eq)]
 pub enum State {
     /// Each feature is known.
@@ -32,7 +32,7 @@ pub enum State {
     Settled,
 }
 
-/// What an argument of a command says. Names stand in the line that was read.
+/// An argument of a command. Names stand in the line that was read.
 #[derive(Clone, Copy)]
 pub enum Argument<'t> {
     /// The name of a feature.

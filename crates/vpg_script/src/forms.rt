@@ -47,7 +47,7 @@ pub enum Verb {
     Number,
 }
 
-/// What stands for an argument of a command.
+/// The kind of an argument of a command.
 #[derive(Clone, Copy, PartialEq, Eq)]
 pub enum Parameter {
     /// The name of a feature.

@@ -18,7 +18,7 @@ requirements, formulas of the mu-calculus. Each requirement is a vertex of their
 game: it is sure where it holds in every product that is left, and hopeless
 where it holds in none.";
 
-/// What the help says of scripts before the commands.
+/// The help on scripts that stands before the commands.
 const BEFORE: &str = "\
 Without a command a script is read from standard input and carried out on a
 small family that is built in: the features r (the root), f and g, and the
@@ -37,7 +37,7 @@ const LIST_END: &str = "
   # ..                   a comment
   N: COMMAND             session N (1 to 64) gives the command";
 
-/// What the help says after the commands: statuses, examples.
+/// The help that stands after the commands: statuses, examples.
 const BEHIND: &str = "
 
 Status: 0; 1 where the input is refused or something fails (an answer
