@@ -1,10 +1,9 @@
-//! Settling and offices at work, to be measured from outside, and calls that are refused memory.
+//! Settling and offices at work, to be measured from outside.
 //!
 //!     vpg_bench settle GAME HOW MOST [LIFTERS]
 //!     vpg_bench two-sessions
 //!     vpg_bench calls SESSIONS CALLS
 //!     vpg_bench changes GAME DIAGRAM FEATURE ROUNDS HOW READERS
-//!     vpg_bench marked
 //!
 //! `settle`: both tables of a game over the features r, f and g are raised from zero, until they are settled or MOST
 //! sweeps or rounds are made. HOW is `rounds` for rounds of one thread without sweeps, `sweeps` for just MOST sweeps
@@ -33,30 +32,22 @@
 //! ended. The program ends with status 1 and a word on standard error, which says how many tokens `end` missed. Its
 //! output so far is a beginning of the whole output. `bench/offices.py` runs these, and measures time and memory.
 //!
-//! `marked`: each call that can run out of memory is made, and marked for `bench/refused.py`. A line has the result of
-//! each (`refusals`).
-//!
-//! Without words it makes these calls with little memory, and then does a little of all else on built-in families. It
-//! prints no count of reads. Other words are refused.
+//! Without words it does a little of each on built-in families, and prints no count of reads. Other words are refused.
 #![tactic(auto)]
 
-mod family;
 mod offices;
-mod refusals;
 mod settling;
 mod words;
 
 use crate::offices::{work_as, work_on_each};
-use crate::refusals::report_within;
 use crate::settling::{settle, sweep_built_in};
 use anyhow::Result;
 use std::env;
 use std::sync::Wait;
 use std::thread::Threads;
 
-/// Makes calls with little memory, while there is no thread yet, and does a little of all else on built-in families.
+/// Does a little of all on built-in families.
 fn do_a_little<T: Threads + Wait + Sync + Print>(rt: &HostRuntime, threads: &T) -> Result<()> {
-    report_within(threads, rt.alloc(), 1)?;
     work_on_each(rt, threads)?;
     sweep_built_in(rt, threads)
 }
@@ -69,9 +60,6 @@ fn obey<T: Threads + Wait + Sync + Print>(
 ) -> Result<()> {
     if words.len() < 2 {
         return do_a_little(rt, threads);
-    }
-    if words.len() == 2 && words[1].as_str() == "marked" {
-        return report_within(threads, rt.alloc(), words.len());
     }
     if words.len() >= 5 && words[1].as_str() == "settle" {
         return settle(rt, threads, words);

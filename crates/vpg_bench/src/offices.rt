@@ -1,7 +1,6 @@
 //! Offices at work: two sessions beside a watcher, sessions that call at once, and readers beside a session that
 //! changes the page.
 
-pub(crate) mod calls;
 mod day;
 mod reading;
 mod watcher;
@@ -11,8 +10,6 @@ ghost use Rattle.std.specs.Arc.{arc_value};
 ghost use Rattle.std.specs.Prelude.{◌≡◌, ◌≤◌};
 ghost use Rattle.vpg_diagram.specs.FeatureDiagram.{feature_count};
 
-use crate::family::{diagram_of, game_of};
-use crate::offices::calls::{HeldToken, OfficeCall, joined, made};
 use crate::offices::day::work_in_two;
 use crate::offices::watcher::follow;
 use crate::offices::working::work_at_once;
@@ -27,7 +24,8 @@ use std::thread::{Threads, join};
 use vpg_diagram::Diagram;
 use vpg_game::GuardedGame;
 use vpg_office::{Office, Site, Terms};
-use vpg_scarce::End;
+use vpg_scarce::{End, HeldToken, OfficeCall, joined, made};
+use vpg_small_family::{diagram_of, game_of};
 
 /// A feature for each of eight sessions.
 const DIAGRAM: &[u8] = b"root r\noptional r a\noptional r b\noptional r c\noptional r d

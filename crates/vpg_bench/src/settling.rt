@@ -3,7 +3,6 @@
 ghost use Rattle.std.specs.Prelude.{◌≡◌, ◌≤◌, length};
 ghost use Rattle.vpg_board.specs.Places.{vertices};
 
-use crate::family::{DIAGRAM, GAME, diagram_of, game_of, order_of};
 use crate::words::asked_by;
 use anyhow::{Context, Result, bail};
 use std::alloc::Global;
@@ -15,6 +14,7 @@ use vpg_board::{Board, Gate, OpenGate, Predecessors, Seat, sweep_along};
 use vpg_guess::{Groundwork, harvest_by_bounds};
 use vpg_measure::{Harvest, Order, Table};
 use vpg_sides::Which;
+use vpg_small_family::{DIAGRAM, GAME, diagram_of, game_of, order_of};
 
 /// The number of edges and vertices that a guess at both tables may look at, as in the lines of a script.
 const BUDGET: u64 = 1 << 27;

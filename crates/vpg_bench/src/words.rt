@@ -111,7 +111,7 @@ pub(crate) fn task_of(words: &[String]) -> Result<Task> {
     }
     if words.len() < 8 || words[1].as_str() != "changes" {
         bail!(
-            "there is `settle` with three words or four, `two-sessions`, `calls` with two, `changes` with six, `marked`"
+            "there is `settle` with three words or four, `two-sessions`, `calls` with two, `changes` with six"
         );
     }
     changes_of(

@@ -5,7 +5,8 @@
 //! a call is made with those alone. [`tried`] makes a call again and again, first with none, then with sixteen bytes
 //! more each time, until it is done. So each growth beyond all that the call held before is refused in turn, and after
 //! each refusal the call's [`Trial`] says whether anything changed. [`tried_anew`] does so for a call that is made on
-//! things of its own each time ([`Anew`]). [`Report`] writes a line for each call.
+//! things of its own each time ([`Anew`]). [`Report`] writes a line for each call. Those of an office and its sessions
+//! are values ([`OfficeCall`]).
 //!
 //! Memory that is only taken and never written costs a process address space and no more.
 //!
@@ -14,11 +15,13 @@
 #![tactic(auto)]
 
 mod heap;
+mod office;
 mod pages;
 mod report;
 mod trial;
 
 pub use heap::Heap;
+pub use office::{HeldToken, OfficeCall, Seat, end_of, joined, made, serial_of, spent};
 pub use pages::is_same_page;
 pub use report::Report;
 pub use trial::{

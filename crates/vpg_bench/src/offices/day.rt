@@ -1,7 +1,6 @@
 //! A day of two sessions of one office, each in a thread of its own: one lifts while the other decides. Then the page
 //! is settled, and the decision is undone by its token.
 
-use crate::offices::calls::{HeldToken, OfficeCall, Seat, end_of, joined, made};
 use crate::offices::watcher::is_read;
 use crate::offices::{Done, Left, Stopped};
 use std::alloc::Global;
@@ -11,7 +10,7 @@ use std::thread::{Threads, join};
 use vpg_faults::Returned;
 use vpg_measure::Harvest;
 use vpg_office::{Office, Terms};
-use vpg_scarce::End;
+use vpg_scarce::{End, HeldToken, OfficeCall, Seat, end_of, joined, made};
 
 /// The feature that is decided.
 const FEATURE: u16 = 1;

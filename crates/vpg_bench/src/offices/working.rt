@@ -1,5 +1,4 @@
 //! Sessions at work.
-use crate::offices::calls::{HeldToken, OfficeCall, Seat, joined, made, spent};
 use crate::offices::reading::{Shown, read_on, show};
 use crate::offices::{Done, How, Task};
 use std::alloc::Global;
@@ -7,7 +6,7 @@ use std::sync::atomic::{AtomicU64, Ordering};
 use std::sync::{Mutex, Wait};
 use std::thread::{Threads, for_each_mut};
 use vpg_office::{Front, Office, Terms};
-use vpg_scarce::End;
+use vpg_scarce::{End, HeldToken, OfficeCall, Seat, joined, made, spent};
 use vpg_watch::Watch;
 
 /// A step of a round about a feature.

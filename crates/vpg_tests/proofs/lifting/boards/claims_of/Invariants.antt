@@ -1,5 +1,0 @@
-use Rattle.std.proofs.Common.{◌≡◌}
-use Rattle.vpg_tests.proofs.lifting.boards.claims_of.Given as goal
-
-abbrev pub invariant-loop : goal.invariant-loop
-invariant-loop l = l.seat.board ≡ l.board
