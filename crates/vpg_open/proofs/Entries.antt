@@ -35,7 +35,7 @@ fewer : (v : NamedVertex) (winner : Option Player) → length (settled_vertex v 
 fewer v None = omega arith
 fewer v (Some p) = omega arith
 
-ids_stay : (vs : List NamedVertex) (winners : Winners) → vertex_ids (settled_vertices vs winners) ≡ vertex_ids vs
+pub ids_stay : (vs : List NamedVertex) (winners : Winners) → vertex_ids (settled_vertices vs winners) ≡ vertex_ids vs
 ids_stay [] winners = refl
 ids_stay (v ∷ vs) [] = refl
 ids_stay (v ∷ vs) (w ∷ winners) =
@@ -68,6 +68,34 @@ settled_at [] (w ∷ winners) v same = absurd (omega (arith, same))
 settled_at (v ∷ vs) [] k same = absurd (omega (arith, same))
 settled_at (v ∷ vs) (w ∷ winners) zero same = refl
 settled_at (v ∷ vs) (w ∷ winners) (suc k) same = settled_at vs winners k (omega (arith, same))
+
+-- the list of winners may end before the vertices do
+settled_within : (vs : List NamedVertex) (winners : Winners) (v : ℕ) → v < length vs →
+    get_or (settled_vertices vs winners) v no_vertex ≡ settled_vertex (get_or vs v no_vertex) (get_or winners v None)
+settled_within [] winners v lt = absurd (omega (arith, lt))
+settled_within (v ∷ vs) [] k lt = refl
+settled_within (v ∷ vs) (w ∷ winners) zero lt = refl
+settled_within (v ∷ vs) (w ∷ winners) (suc k) lt = settled_within vs winners k (omega (arith, lt))
+
+pub settled_spelled : (vs : List NamedVertex) (winners : Winners) (v : ℕ) (winner : Option Player)
+    (next : SpelledEntry) → v < length vs → winner ≡ get_or winners v None →
+    next ≡ spelled_vertex (vertex_ids vs) (settled_vertex (get_or vs v no_vertex) winner) →
+    next
+    ≡ spelled_vertex (vertex_ids (settled_vertices vs winners)) (get_or (settled_vertices vs winners) v no_vertex)
+settled_spelled vs winners v winner next lt got is =
+    is
+    ∙ ap₂ (λ (ids : List ℕ) (x : NamedVertex). spelled_vertex ids x) (sym (ids_stay vs winners))
+    (ap (settled_vertex (get_or vs v no_vertex)) got ∙ sym (settled_within vs winners v lt))
+
+-- without winners it is the game itself
+none_settled : (vs : List NamedVertex) → settled_vertices vs [] ≡ vs
+none_settled [] = refl
+none_settled (v ∷ vs) = refl
+
+pub settled_none : (game : NamedGame) → settled_game game [] ≡ game
+settled_none game =
+    ap (λ (vs : List NamedVertex). let g : NamedGame = record { vertices = vs; features = game.features } in g)
+    (none_settled game.vertices)
 
 -- ---- entry by entry
 
@@ -140,6 +168,19 @@ module _ (game : NamedGame) (winners : Winners) (is : IsGame game) where
             (subst (All (λ p. p < 65536)) (sym (priorities_stay game.vertices winners))
             (all_below (length game.vertices) game.features game.vertices is.each low));
       }
+
+  pub settled_is_game : IsGame (settled_game game winners)
+  settled_is_game = record {
+    some = omega (arith, same_length game.vertices winners, is.some);
+    few = omega (arith, same_length game.vertices winners, is.few);
+    few_edges = omega (arith, fewer_edges game.vertices winners, is.few_edges);
+    few_features = is.few_features;
+    each = subst (λ (n : ℕ). AreVertices n game.features (settled_vertices game.vertices winners))
+        (sym (same_length game.vertices winners))
+        (still_vertices (length game.vertices) game.features game.vertices winners is.each);
+    distinct = subst AreDistinct (sym (ids_stay game.vertices winners)) is.distinct;
+    narrow = subst IsNarrow (sym (priorities_stay game.vertices winners)) is.narrow;
+  }
 
   each_within : AreVertices (length (vertex_ids game.vertices)) game.features (settled_vertices game.vertices winners)
   each_within =

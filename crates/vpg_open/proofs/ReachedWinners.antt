@@ -4,6 +4,7 @@ use Rattle.std.specs.Prelude.{Option, None, IfSome, slice_index, slice_index_or}
 use Rattle.std.proofs.lemmas.Bool.{cases_lt}
 use Rattle.std.proofs.lemmas.List.{append-nil, length-map, get_or-map, get_or_append_left, get_or_push, length-append}
 use Rattle.std.proofs.lemmas.Option.{slice_get-get_or, slice_get_within}
+use Rattle.vpg_sides.specs.declared.player.Player.{Player}
 use Rattle.vpg_guards.specs.Formula.{Formula, truth}
 use Rattle.vpg_game.specs.Edges.{GuardedEdge, join_edge, no_edge}
 use Rattle.vpg_game.specs.Spelled.{SpelledEntry}
@@ -19,8 +20,9 @@ use Rattle.vpg_hope.proofs.Guards.{restrict_closed, same_count}
 use Rattle.vpg_determined.specs.Determined.{HasWin}
 use Rattle.vpg_determined.proofs.Winning.{determined}
 use Rattle.vpg_open.specs.ReachedGames.{HasWinnersOf, marked, marked_entries}
-use Rattle.vpg_open.specs.SettledGames.{spelled_edge, spelled_vertex}
+use Rattle.vpg_open.specs.SettledGames.{settled_game, spelled_edge, spelled_vertex}
 use Rattle.vpg_open.specs.declared.reaching.Reached.{Reached}
+use Rattle.vpg_open.proofs.Entries.{ids_stay}
 use Rattle.vpg_open.proofs.Marked.{marked_at}
 use Rattle.vpg_open.proofs.Parts.{renamed, winner_is}
 use Rattle.vpg_open.proofs.Spelled.{same_ids}
@@ -405,3 +407,12 @@ part_in game marks entries features made v (Some x) is e f m sound stays sure fo
       subst (λ (g : NamedGame). x.vertex < length (graph_of g)) (sym stays) all.0,
       subst (λ (g : NamedGame). (p : List Bool) → HasWinnersOf (graph_of game) v p (graph_of g) x.vertex) (sym stays) all.1,
     )
+
+-- a vertex keeps its identifier where some are won at once
+pub same_place : (game : NamedGame) (winners : List (Option Player)) (v : ℕ) (part : NamedGame)
+    (found : Option Reached) → IfSome found (λ x. IsFor game v part x.vertex) →
+    IfSome found (λ x. IsFor (settled_game game winners) v part x.vertex)
+same_place game winners v part found are =
+    subst (λ (ids : List ℕ). IfSome found (λ x. (id : ℕ) × (slice_get ids v ≡ Some id) ×
+    (slice_get (vertex_ids part.vertices) x.vertex ≡ Some id)))
+    (sym (ids_stay game.vertices winners)) are

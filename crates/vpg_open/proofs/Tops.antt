@@ -1,5 +1,5 @@
 -- A verdict of an order's tables says who wins in every product left.
-use Rattle.std.proofs.Common.{◌≡◌, ℕ, zero, suc, ◌<◌, Bool, true, false, List, [], ◌∷◌, length, map, get_or, Option, Some, None, refl, sym, ap, ap₂, subst, ◌∙◌, arith}
+use Rattle.std.proofs.Common.{◌≡◌, ℕ, zero, suc, ◌<◌, Bool, true, false, List, [], ◌∷◌, length, map, get_or, Option, Some, None, IfSome, refl, sym, ap, ap₂, subst, ◌∙◌, arith}
 use Rattle.vpg_sides.specs.declared.player.Player.{Player}
 use Rattle.vpg_sides.specs.declared.player.Player.TheVariants.{Even, Odd}
 use Rattle.vpg_sides.specs.declared.which.Which.TheVariants.{Hopeful, Dual}
@@ -8,7 +8,7 @@ use Rattle.vpg_guards.specs.declared.tri.Tri.TheVariants.{No, Unknown, Yes}
 use Rattle.vpg_guards.specs.Formula.{Formula, truth}
 use Rattle.vpg_guards.specs.Known.{kleene, Agrees}
 use Rattle.vpg_guards.proofs.Kleene.{known_values_hold}
-use Rattle.vpg_game.specs.Game.{NamedGame, graph_of, vertex_in, unnamed, no_vertex}
+use Rattle.vpg_game.specs.Game.{NamedGame, IsGame, graph_of, vertex_in, unnamed, no_vertex}
 use Rattle.vpg_game.specs.Guarded.{GuardedGame, GuardedVertex, AllGuards, IsClosedGuarded}
 use Rattle.vpg_game.proofs.Graphs.{games_have_graphs, graph_at, same_count}
 use Rattle.vpg_hope.specs.Hope.{AgreesWithTruth, product_game}
@@ -19,8 +19,11 @@ use Rattle.vpg_determined.specs.Determined.{HasWin}
 use Rattle.vpg_determined.specs.ProductLaws.{HasWinningMoves}
 use Rattle.vpg_determined.proofs.Products.{verdicts_have_moves}
 use Rattle.vpg_open.specs.OpenVertices.{IsOpenVertex, IsVerdict, IsLeft}
+use Rattle.vpg_open.specs.ReachedGames.{HasWinnersOf}
 use Rattle.vpg_open.specs.SettledGames.{AreWinnersIn, HasSameWinners, settled_vertex, settled_vertices, settled_game}
+use Rattle.vpg_open.specs.declared.reaching.Reached.{Reached}
 use Rattle.vpg_open.proofs.Entries.{settled_at, same_graph_length}
+use Rattle.vpg_open.proofs.SameWinners.{same_winners}
 
 agrees_parts : (t : Tri) (b : Bool) → Agrees t b → (t ≡ Yes → b ≡ true) × (t ≡ No → b ≡ false)
 agrees_parts No b h = ((λ e. cc), λ e. h)
@@ -138,3 +141,21 @@ module _ (order : OrderView) (game : NamedGame) (winners passed : List (Option P
       subst (λ (g : NamedGame). HasSameWinners (graph_of g) (graph_of made) p) same_game
       (stay p (subst (λ (ws : List (Option Player)). AreWinnersIn (graph_of game) ws p) (sym same_passed)
       (subst (λ (g : NamedGame). AreWinnersIn (graph_of g) winners p) (sym same_game) (right p left))))
+
+-- where they are passed on to `reached_settled` with the order's game
+pub part_stays : (order : OrderView) (game : NamedGame) (winners passed : List (Option Player)) (vertex : ℕ)
+    (found : Option Reached) → IsGame order.game → game ≡ order.game → passed ≡ winners →
+    length winners ≡ length (graph_of order.game) → vertex < length (graph_of order.game) →
+    IfSome found (λ x. (p : List Bool) →
+    HasWinnersOf (graph_of (settled_game game passed)) vertex p (graph_of x.game) x.vertex) →
+    ((p : List Bool) → IsLeft order p → AreWinnersIn (graph_of order.game) winners p) →
+    IfSome found (λ x. (p : List Bool) → IsLeft order p →
+    HasWinnersOf (graph_of order.game) vertex p (graph_of x.game) x.vertex)
+part_stays order game winners passed vertex None is same_game same_passed same lt wins right = tt
+part_stays order game winners passed vertex (Some x) is same_game same_passed same lt wins right = λ p left player.
+    let there : HasWinnersOf (graph_of (settled_game order.game winners)) vertex p (graph_of x.game) x.vertex =
+    subst (λ (g : NamedGame). HasWinnersOf (graph_of g) vertex p (graph_of x.game) x.vertex)
+    (ap₂ settled_game same_game same_passed) (wins p) in
+    let stay : HasSameWinners (graph_of order.game) (graph_of (settled_game order.game winners)) p =
+    same_winners order.game winners p is (same ∙ same_count order.game) (right p left) in
+    (λ h. (stay player vertex lt).0 ((there player).0 h), λ h. (there player).1 ((stay player vertex lt).1 h))

@@ -9,13 +9,15 @@
 //! Of that game only what plays from a vertex can come to decides who wins there: [`reached_game`] is that part, a game
 //! of its own, with places of its own for its vertices.
 //!
-//! The layer above takes the game that [`open_game`] returns, and the part of it for the vertex that is asked about.
-//! [`is_open`] is whether a vertex is open. [`verdicts`] are the winners that an order's tables show, and [`settled`]
-//! takes winners from anywhere.
+//! The layer above takes the part that [`reached_open`] returns, for the vertex that is asked about. It copies no other
+//! edges; [`open_game`] is the whole game. [`is_open`] is whether a vertex is open. [`verdicts`] are the winners that
+//! an order's tables show, and [`settled`] takes winners from anywhere.
 //!
 //! Definitions: `specs/SettledGames` (the game for some winners, and who wins it), `specs/OpenVertices` (the verdicts
 //! of an order, and open vertices), `specs/ReachedGames` (who wins a part). The main lemmas: a strategy that wins the
 //! old game wins the new one (`proofs/PlainGames`), and one that wins a part wins the game (`proofs/Parts`).
+//!
+//! Trials: scripts of `vpg_examples` (`scripts/rows`), by `winners`.
 #![tactic(auto)]
 
 mod cutting;
@@ -25,5 +27,5 @@ mod reaching;
 
 pub use cutting::settled;
 pub use looking::{is_open, verdicts};
-pub use opening::open_game;
+pub use opening::{open_game, reached_open};
 pub use reaching::{Reached, reached_game};

@@ -1,11 +1,13 @@
-//! The game of an order with all verdicts won at once.
-ghost use Rattle.std.specs.Prelude.{◌≡◌, ◌<◌, ℕ, List, [], Bool, length, IfOk};
+//! The game of an order with all verdicts won at once, and the part of it that a vertex reaches.
+ghost use Rattle.std.specs.Prelude.{◌≡◌, ◌<◌, ℕ, List, [], Bool, length, IfOk, IfSome};
 ghost use Rattle.vpg_game.specs.Game.{IsAtLimit, graph_of, vertex_in};
 ghost use Rattle.vpg_open.specs.OpenVertices.{IsOpenVertex, IsLeft};
+ghost use Rattle.vpg_open.specs.ReachedGames.{HasWinnersOf};
 ghost use Rattle.vpg_open.specs.SettledGames.{HasSameWinners};
 
 use crate::cutting::settled;
 use crate::looking::verdicts;
+use crate::reaching::{Reached, reached_settled};
 use std::alloc::{AllocError, Global};
 use vpg_game::GuardedGame;
 use vpg_measure::Order;
@@ -26,4 +28,23 @@ pub fn open_game(alloc: Global, order: &Order) -> Result<GuardedGame, AllocError
 {
     let winners = verdicts(alloc, order)?;
     settled(alloc, order.game(), &winners)
+}
+
+/// Returns the part of the order's game that plays from the vertex can come to, in whatever product, where each vertex
+/// that has a verdict is won by its winner at once. It is the part that `reached_game` makes of `open_game`, without
+/// that game: only its own edges are copied. In each product left the same player wins from the vertex as in the
+/// order's game. Returns nothing if it could not make the part a game.
+pub fn reached_open(
+    alloc: Global,
+    order: &Order,
+    vertex: u32,
+) -> Result<Option<Reached>, AllocError>
+    requires { vertex < length (graph_of order.now.game) }
+    ensures features { IfOk result (λ found. IfSome found (λ part. part.game.features ≡ order.now.game.features)) }
+    ensures vertex { IfOk result (λ found. IfSome found (λ part. part.vertex < length (graph_of part.game))) }
+    ensures wins { IfOk result (λ found. IfSome found (λ part. (p : List Bool) → IsLeft order.now p →
+        HasWinnersOf (graph_of order.now.game) vertex p (graph_of part.game) part.vertex)) }
+{
+    let winners = verdicts(alloc, order)?;
+    reached_settled(alloc, order.game(), &winners, vertex)
 }
