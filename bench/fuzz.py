@@ -79,23 +79,28 @@ DRAWN = (
     + rb'(?:solid(?:, color="#[0-9a-f]{6}", penwidth=2\.6)?'
     + rb"|(?:dashed|dotted), color=[a-z0-9]+, fontcolor=[a-z0-9]+)\];|\}"
 )
-ANSWERS = re.compile(
-    rb"(?:(?:(?:(?:done|undone|redone|kept|forgotten|added|harvest|settled|unsettled|entries|plans|spoils|changed|offers|hopeless|possible|sure|unsure) " + N + rb"|" + REFUSED
+# the words of a form of the oracle; a list may be empty, and begins with a blank
+OF_FORM = {"V": N, "N": N, "F": NAME, "D": rb"[+-]" + NAME, "L": SIGNED, "P": rb"(?: " + NAME + rb")*"}
+
+
+def line_of(form):
+    """The expression of a line of this form: a limit may put `unsettled` in place of one word of several."""
+    words = [OF_FORM.get(word, rb"(?:" + word.encode() + (rb"|unsettled)" if "|" in word else rb")")) for word in form.split(" ")]
+    return words[0] + b"".join(word if word in (SIGNED, OF_FORM["P"]) else b" " + word for word in words[1:])
+
+
+LOOKS = b"|".join(sorted({line_of(form) for _, forms in oracle.LOOKS.values() for form in forms}))
+ANSWER = re.compile(
+    rb"(?:done|undone|redone|kept|forgotten|added|harvest|settled|unsettled|entries|plans|changed|hopeless|possible|sure|unsure) " + N + rb"|" + REFUSED
     + rb"|decisions" + SIGNED + rb"|(?:full (?:yes|no)(?: empty| unsettled)?|settled (?:yes|no))|" + N + rb" " + N + rb" " + N + rb" (?:hopeless|possible) (?:sure|unsure)"
     + rb"|" + N + rb"(?: (?:hopeless|possible) (?:sure|unsure)){2}|" + DRAWN
     + rb"|(?:select|exclude) " + NAME + rb" " + N + rb"|(?:hopeful|dual) " + N + rb" " + N + rb" " + N + SIGNED
-    + rb"|(?:possible|unsure) " + N + rb"|(?:(?:hopeless|sure|lost|won) " + N + rb"|empty)" + SIGNED + rb"(?: or fewer)?|(?:in|out) " + NAME + SIGNED
+    + rb"|(?:hopeless|sure) " + N + SIGNED + rb"(?: or fewer)?|(?:in|out) " + NAME + SIGNED + rb"|conflict [+-]" + NAME + SIGNED
     + rb"|holds|fails(?: full| settled| empty| unsettled| won| lost| mixed"
     + rb"|(?: (?:hopeless|possible|sure|unsure))+(?: unsettled)?)"
-    + rb"|conflict [+-]" + NAME + SIGNED + rb"|(?:some )?product(?: " + NAME + rb")*|none|unsettled"
-    + rb"|offer [+-]" + NAME + rb" (?:conflict|(?:hopeless|possible|unsettled) (?:sure|unsure|unsettled)"
-    + rb" (?:won|lost|mixed|empty|unsettled))"
-    + rb"|(?:needs|forced) [+-]" + NAME
-    + rb"|repair [+-]" + NAME + rb"(?:" + SIGNED + rb"(?: or fewer)?| lost| unsettled)"
-    + rb"|(?:needs|forced|repairs|number) " + N + rb"(?: or more)?"
-    + rb"|(?:won|lost|unsettled) " + N + SIGNED + rb" " + N + rb"(?: or more)?"
-    + rb"|winners " + N + rb" " + N + rb" " + N + rb"(?: or more)?|mixed " + N
-    + rb"|(?:in|out|open)(?: " + NAME + rb")*|(?:plan|spoil) " + N + rb" " + N + rb")\n)*)\Z"
+    + rb"|(?:in|out|open)(?: " + NAME + rb")*|plan " + N + rb" " + N
+    + rb"|some product(?: " + NAME + rb")*|unsettled(?: " + N + SIGNED + rb" " + N + rb"(?: or more)?)?"
+    + rb"|(?:" + LOOKS + rb")(?: or fewer| or more| unsettled)?"
 )
 PLAIN = re.compile(rb"\Aparity " + N + rb";\n(?:" + N + rb" " + N + rb" [01](?: " + N + rb"(?:," + N + rb")*)?;\n)+\Z")
 COUNTS = re.compile(rb"\Avertices " + N + rb" edges " + N + rb" features " + N + rb" top " + N + rb" " + N + rb"\n\Z")
@@ -108,9 +113,11 @@ WARNINGS = re.compile(
 )
 # lines about a move, or a vertex, with names behind them
 QUOTED = rb' "[^"\x00-\x1f\x7f]*"'
+NAMING = {(first.encode(), len(places)) for lines in oracle.VERTICES.values() for first, places in lines.items() if first}
+ONE, TWO = (b"|".join(sorted(first for first, count in NAMING if count == number)) for number in (1, 2))
 NAMED = re.compile(
-    rb"^((?:plan|spoil) " + N + rb" " + N + rb")" + QUOTED + QUOTED
-    + rb'$|^((?:(?:hopeful|dual|hopeless|possible|sure|unsure|lost|won|mixed|winners) )?' + N + rb'(?: [^"\n]*)?)' + QUOTED + rb"$",
+    rb"^((?:" + TWO + rb") " + N + rb" " + N + rb")" + QUOTED + QUOTED
+    + rb"$|^((?:(?:" + ONE + rb") )?" + N + rb'(?: [^"\n]*)?)' + QUOTED + rb"$",
     re.M,
 )
 # the name of a vertex in a picture, in one line or several
@@ -129,7 +136,8 @@ def are_answers(words, out):
         out = NAMED_VERTEX.sub(rb"\1\2", NAMED.sub(rb"\1\2", out))
     if b"--keep-going" in words or b"desk" in words:
         out = OF_FAULTY_LINES.sub(b"", out)
-    return ANSWERS.match(out)
+    lines = out.split(b"\n")
+    return not lines.pop() and all(map(ANSWER.fullmatch, lines))
 
 
 def faults_in(words, err):
@@ -219,11 +227,12 @@ TOKENS = re.compile(rb"[A-Za-z0-9_]+|[^A-Za-z0-9_]")
 DICTIONARY = (
     b"0 1 2 7 00 01 64 65 4096 65535 65536 65537 4294967295 4294967296 1000000000 1000000001 18446744073709551615 18446744073709551616 4611686018427387904 -1 +1 1.5 0x10 "
     b"parity start root mandatory optional alternative or group requires excludes true false select exclude retract reset undo redo keep forget lift harvest commit settle show trail "
-    b"products plan count draw changed forced empty known assert hopeless possible sure unsure mixed full settled why "
-    b"number example counterexample lost won offer needs repair spoil trace winners decide help goals quit hopeful dual "
+    b"products plan count draw changed assert hopeless possible sure unsure mixed full settled why "
+    b"trace help goals quit hopeful dual "
     b"r f g a b 1: 65: 0: : ; , [ ] ( ) "
     b"! & | # \" \\ { } \xc3\xa9 \xff \x00 \x0b \x1a"
 ).split(b" ") + [b"9" * 40, b"9" * 5000, b"x" * 64, b"x" * 65, b" ", b"\t", b"\n", b"\r", b"\r\n", b""]
+DICTIONARY += [word.encode() for word in oracle.LOOKS]
 
 
 def flip(rng, text):

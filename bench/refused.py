@@ -4,7 +4,7 @@
     refused.py PROGRAM GAME DIAGRAM SCRIPT      of a script
     refused.py PROGRAM --random CASES [SEED]    of random families with their scripts, each by one lifter or by several
     refused.py --pairs PROGRAM GAME DIAGRAM SCRIPT  of a script, two growths in one run
-    refused.py --calls PROGRAM                  of each call that vpg_bench or another such program makes
+    refused.py --calls PROGRAM                  of each call that vpg_refusals or another such program makes
     refused.py --any PROGRAM [WORD..]           of any program that ends by itself
 
 A run is made once for each of its allocations (calls of malloc and realloc), with that one refused, by a small library

@@ -17,7 +17,7 @@ use Rattle.vpg_winners.specs.Joined.{PartView}
 use Rattle.vpg_winners.specs.Winners.{has_all, is_in}
 use Rattle.vpg_winners.proofs.Splits.{test_true, true_test}
 use Rattle.vpg_answers.specs.Adding.{NumbersAddUp}
-use Rattle.vpg_answers.specs.Numbers.{AreAmounts}
+use Rattle.vpg_looks.specs.Numbers.{AreAmounts}
 
 module _ (scene : Scene) (chosen : List Literal) where
   abbrev Left : List Bool → Type 0

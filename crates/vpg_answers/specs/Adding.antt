@@ -6,7 +6,7 @@ use Rattle.vpg_number.specs.declared.counted.Count.TheVariants.{Exactly}
 use Rattle.vpg_texts.specs.Scene.{Scene}
 use Rattle.vpg_winners.specs.Joined.{PartView}
 use Rattle.vpg_winners.specs.Winners.{ArePartition}
-use Rattle.vpg_answers.specs.Numbers.{AreAmounts, IsAmount}
+use Rattle.vpg_looks.specs.Numbers.{AreAmounts, IsAmount}
 
 -- The numbers of the parts of one page, as of `winners V`, add up to the number of all products left, if no limit was
 -- met, whatever the limits were.

@@ -1,12 +1,4 @@
 pub mod Adding
-pub mod Answers
-pub mod Asserted
 pub mod Laws
-pub mod Looked
-pub mod Numbers
-pub mod Offers
-pub mod Parts
-pub mod Repairs
-pub mod Room
-pub mod Winners
-pub mod Texts
+pub mod Told
+pub mod Topics

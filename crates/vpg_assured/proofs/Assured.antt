@@ -16,8 +16,9 @@ use Rattle.vpg_script.specs.Answer.{Answer}
 use Rattle.vpg_script.specs.Output.{Speaks, Answered}
 use Rattle.vpg_texts.specs.Changed.{seen_at}
 use Rattle.vpg_texts.specs.Scene.{Scene, scene_of}
-use Rattle.vpg_report.specs.Run.{Between, begun, as_meant}
-use Rattle.vpg_report.specs.Setting.{setting_in}
+use Rattle.vpg_engine.specs.Line.{Between, begun}
+use Rattle.vpg_report.specs.Run.{as_meant}
+use Rattle.vpg_engine.specs.Setting.{setting_in}
 use Rattle.vpg_report.specs.Winners.{AreTrue, NamesWinners, naming}
 use Rattle.vpg_report.proofs.Winning.{answers_name_winners}
 use Rattle.vpg_assured.specs.Assured.{AreTrueOfEntries, SpeaksOfEntries, speaking, AnswersSpeakOfRequirements}

@@ -11,16 +11,17 @@ use Rattle.vpg_checking.specs.Checking.{EntryHoldsIn, IsModelOfTexts}
 use Rattle.vpg_winners.specs.declared.parts.Winner.{Winner}
 use Rattle.vpg_winners.specs.Joined.{PartView}
 use Rattle.vpg_winners.specs.Winners.{IsExactPart, IsWonAs}
-use Rattle.vpg_script.specs.declared.command.VertexQuestion.TheVariants as questions
+use Rattle.vpg_script.specs.declared.look.VertexLook.TheVariants as vertex_looks
 use Rattle.vpg_script.specs.Script as script
 use Rattle.vpg_script.specs.Script.{Request, Said, said}
 use Rattle.vpg_script.specs.Answer.{Answer, IsDone}
 use Rattle.vpg_script.specs.Output.{Speaks, Answered}
 use Rattle.vpg_texts.specs.Scene.{Scene, scene_of}
-use Rattle.vpg_answers.specs.Answers.{TellsWinners}
-use Rattle.vpg_report.specs.Answers.{vertex_of}
-use Rattle.vpg_report.specs.Requests.{Serves, answer_limits}
-use Rattle.vpg_report.specs.Run.{Between, begun, answering, as_meant}
+use Rattle.vpg_looks.specs.Answers.{TellsWinners}
+use Rattle.vpg_engine.specs.Answers.{vertex_of, answer_limits}
+use Rattle.vpg_engine.specs.Requests.{Serves}
+use Rattle.vpg_engine.specs.Line.{Between, begun}
+use Rattle.vpg_report.specs.Run.{answering, as_meant}
 use Rattle.vpg_report.specs.Winners.{IsRefusal}
 use Rattle.vpg_assured.specs.Parted.{IsPartTrueOf, PartsProducts, PartsSpeakOfRequirements, parting, winners_of}
 use Rattle.vpg_assured.proofs.Replied.{IsReplied, served}
@@ -60,7 +61,7 @@ module _ (labels : List (List ℕ)) (game : NamedGame) (diagram : NamedDiagram) 
     }
 
   speaks : (behaviour : Option Behaviour) (book : Book) (named : script.Vertex) (answer : Answer) (n : ℕ) (below : n < length made.entries) →
-      vertex_of scene named ≡ Some (slice_index roots n) → IsReplied behaviour labels game diagram questions.Winners book named answer →
+      vertex_of scene named ≡ Some (slice_index roots n) → IsReplied behaviour labels game diagram vertex_looks.Winners book named answer →
       IsRefusal answer ⊎ IsDone (PartsProducts scene book.present (slice_index roots n) (EntryHoldsIn made.system made.entries n)) answer
   speaks behaviour book named answer n below at (inl refused) = inl refused
   speaks behaviour book named answer n below at (inr a) =
@@ -78,7 +79,7 @@ module _ (labels : List (List ℕ)) (game : NamedGame) (diagram : NamedDiagram) 
       so,
       λ named n is below at.
           speaks behaviour old.book named answer n below at
-          (served behaviour labels game diagram questions.Winners old.book named answer old.held old.calls (meaning request).label so.0.0 new.held so.0.1.1
+          (served behaviour labels game diagram vertex_looks.Winners old.book named answer old.held old.calls (meaning request).label so.0.0 new.held so.0.1.1
           (subst (λ (command : script.Command). Serves behaviour scene old.held old.calls
           (record { label = (meaning request).label; command = command }) so.0.0 answer new.held) is so.0.1.0)),
     )

@@ -3,7 +3,7 @@ use Rattle.std.proofs.Common.{◌≡◌, ℕ, ◌⊎◌, inl, inr, List, [], ◌
 use Rattle.vpg_diagram.specs.DiagramText.{NamedDiagram}
 use Rattle.vpg_game.specs.Game.{NamedGame}
 use Rattle.vpg_checking.specs.Behaviours.{Behaviour}
-use Rattle.vpg_script.specs.declared.command.VertexQuestion.TheVariants as questions
+use Rattle.vpg_script.specs.declared.look.VertexLook.TheVariants as vertex_looks
 use Rattle.vpg_script.specs.Script as script
 use Rattle.vpg_script.specs.Script.{Request, Said, said}
 use Rattle.vpg_script.specs.Answer.{Answer, IsDone}
@@ -11,9 +11,10 @@ use Rattle.vpg_script.specs.Output.{Speaks, Answered}
 use Rattle.vpg_texts.specs.Scene.{Scene, scene_of}
 use Rattle.vpg_family.specs.Made.{IsMadeOf}
 use Rattle.vpg_desk.specs.Book.{Book}
-use Rattle.vpg_report.specs.Answers.{vertex_of}
-use Rattle.vpg_report.specs.Requests.{Serves, answer_limits}
-use Rattle.vpg_report.specs.Run.{Between, begun, answering, as_meant}
+use Rattle.vpg_engine.specs.Answers.{vertex_of, answer_limits}
+use Rattle.vpg_engine.specs.Requests.{Serves}
+use Rattle.vpg_engine.specs.Line.{Between, begun}
+use Rattle.vpg_report.specs.Run.{answering, as_meant}
 use Rattle.vpg_report.specs.Winners.{IsRefusal}
 use Rattle.vpg_assured.specs.Traced.{HasNoWalk, ReportsWalk, TracedStepsAreThere, trace_of, tracing}
 use Rattle.vpg_assured.proofs.Replied.{IsReplied, served}
@@ -24,7 +25,7 @@ module _ (labels : List (List ℕ)) (game : NamedGame) (diagram : NamedDiagram) 
   abbrev scene : Scene
   scene = scene_of labels game diagram
 
-  reports : (book : Book) (named : script.Vertex) (answer : Answer) → IsReplied (Some behaviour) labels game diagram questions.Trace book named answer →
+  reports : (book : Book) (named : script.Vertex) (answer : Answer) → IsReplied (Some behaviour) labels game diagram vertex_looks.Trace book named answer →
       IsRefusal answer ⊎ ((vertex : ℕ) × (vertex_of scene named ≡ Some vertex) ×
       IsDone (λ text. HasNoWalk scene vertex text ⊎ ReportsWalk scene made.system behaviour book.present vertex text) answer)
   reports book named answer (inl refused) = inl refused
@@ -45,7 +46,7 @@ module _ (labels : List (List ℕ)) (game : NamedGame) (diagram : NamedDiagram) 
       so,
       λ named is.
           reports old.book named answer
-          (served (Some behaviour) labels game diagram questions.Trace old.book named answer old.held old.calls (meaning request).label so.0.0 new.held so.0.1.1
+          (served (Some behaviour) labels game diagram vertex_looks.Trace old.book named answer old.held old.calls (meaning request).label so.0.0 new.held so.0.1.1
           (subst (λ (command : script.Command). Serves (Some behaviour) scene old.held old.calls
           (record { label = (meaning request).label; command = command }) so.0.0 answer new.held) is so.0.1.0)),
     )

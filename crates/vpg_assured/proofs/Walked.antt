@@ -21,7 +21,7 @@ use Rattle.vpg_trace.proofs.Whole.{is_trace}
 use Rattle.vpg_texts.specs.Labels.{beside, label_of}
 use Rattle.vpg_texts.specs.Scene.{Scene, scene_of}
 use Rattle.vpg_family.specs.Made.{IsMadeOf, roots_of}
-use Rattle.vpg_answers.specs.Answers.{page_in}
+use Rattle.vpg_looks.specs.Answers.{page_in}
 use Rattle.vpg_assured.specs.Traced.{HasNoWalk, ReportsWalk}
 use Rattle.vpg_assured.proofs.Moved.{move_in_caution, move_in_product}
 use Rattle.vpg_assured.proofs.Stepped.{visit_reported}

@@ -17,7 +17,8 @@ use Rattle.vpg_script.specs.Answer.{Answer}
 use Rattle.vpg_script.specs.Output.{Machine, Answered}
 use Rattle.vpg_texts.specs.Changed.{seen_at}
 use Rattle.vpg_texts.specs.Scene.{Scene, scene_of}
-use Rattle.vpg_report.specs.Run.{Between, begun, answering, as_meant}
+use Rattle.vpg_engine.specs.Line.{Between, begun}
+use Rattle.vpg_report.specs.Run.{answering, as_meant}
 use Rattle.vpg_report.specs.Winners.{AreTrue, SaysVerdicts, IsRefusal}
 
 -- A verdict is true of a requirement on the page: hopeless, it fails in each product left; sure, it holds in each.

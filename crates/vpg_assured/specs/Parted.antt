@@ -13,17 +13,18 @@ use Rattle.vpg_checking.specs.Checking.{EntryHoldsIn, IsModelOfTexts}
 use Rattle.vpg_winners.specs.declared.parts.Winner.TheVariants.{Won, Lost}
 use Rattle.vpg_winners.specs.Joined.{PartView}
 use Rattle.vpg_winners.specs.Winners.{ArePartition, is_in}
-use Rattle.vpg_script.specs.declared.command.VertexQuestion.TheVariants as questions
+use Rattle.vpg_script.specs.declared.look.VertexLook.TheVariants as vertex_looks
 use Rattle.vpg_script.specs.Script as script
 use Rattle.vpg_script.specs.Script.{Request}
 use Rattle.vpg_script.specs.Answer.{Answer, IsDone}
 use Rattle.vpg_script.specs.Output.{Machine, Answered}
 use Rattle.vpg_texts.specs.Labels.{label_of}
 use Rattle.vpg_texts.specs.Scene.{Scene, scene_of}
-use Rattle.vpg_answers.specs.Texts.{winners_text}
+use Rattle.vpg_looks.specs.Texts.{winners_text}
 use Rattle.vpg_number.specs.declared.counted.Count.{Count}
-use Rattle.vpg_report.specs.Answers.{vertex_of}
-use Rattle.vpg_report.specs.Run.{Between, begun, answering, as_meant}
+use Rattle.vpg_engine.specs.Answers.{vertex_of}
+use Rattle.vpg_engine.specs.Line.{Between, begun}
+use Rattle.vpg_report.specs.Run.{answering, as_meant}
 use Rattle.vpg_report.specs.Winners.{IsRefusal}
 
 -- A part is true of a requirement on the page: in each product left that is in the part, the requirement holds if the
@@ -46,7 +47,7 @@ pub record PartsProducts (scene : Scene) (page : List Entry) (vertex : ℕ) (Hol
 
 -- the command `winners V`
 abbrev pub winners_of : script.Vertex → script.Command
-winners_of named = script.Ask (script.OfVertex questions.Winners named)
+winners_of named = script.Looks (script.OfVertex vertex_looks.Winners named)
 
 -- If the command is `winners V`, and V is the vertex of an entry, its answer parts the products left by whether the
 -- entry's requirement holds, unless the line is refused.

@@ -27,7 +27,7 @@ use Rattle.vpg_trace.specs.Answering.{head_line, neither_line, unsettled_line}
 use Rattle.vpg_trace.specs.Taking.{IsStep, departure_at}
 use Rattle.vpg_trace.specs.Texts.{Family, family_of, step_to, trace_text}
 use Rattle.vpg_trace.specs.Walks.{visit_at, visit_before}
-use Rattle.vpg_script.specs.declared.command.VertexQuestion.TheVariants as questions
+use Rattle.vpg_script.specs.declared.look.VertexLook.TheVariants as vertex_looks
 use Rattle.vpg_script.specs.Script as script
 use Rattle.vpg_script.specs.Script.{Request}
 use Rattle.vpg_script.specs.Answer.{Answer, IsDone}
@@ -35,8 +35,9 @@ use Rattle.vpg_script.specs.Output.{Machine, Answered}
 use Rattle.vpg_texts.specs.Labels.{beside, label_of}
 use Rattle.vpg_texts.specs.Scene.{Scene, scene_of}
 use Rattle.vpg_family.specs.Made.{IsMadeOf}
-use Rattle.vpg_report.specs.Answers.{vertex_of}
-use Rattle.vpg_report.specs.Run.{Between, begun, answering, as_meant}
+use Rattle.vpg_engine.specs.Answers.{vertex_of}
+use Rattle.vpg_engine.specs.Line.{Between, begun}
+use Rattle.vpg_report.specs.Run.{answering, as_meant}
 use Rattle.vpg_report.specs.Winners.{IsRefusal}
 
 -- ---- steps
@@ -129,7 +130,7 @@ HasNoWalk scene vertex text =
 
 -- the command `trace V`
 abbrev pub trace_of : script.Vertex → script.Command
-trace_of named = script.Ask (script.OfVertex questions.Trace named)
+trace_of named = script.Looks (script.OfVertex vertex_looks.Trace named)
 
 -- If the command is `trace V`, its answer reports a walk from the vertex, unless there is none or the line is refused.
 abbrev pub ReportsSteps : Scene → NamedSystem → Behaviour → List Entry → script.Command → Answer → Type 0

@@ -7,6 +7,8 @@
 //! page, or is marked as depending.
 //!
 //! [`laws`] has the laws. `specs/Assured`, `specs/Parted` and `specs/Traced` have their words.
+//!
+//! No code runs here, so there are no trials.
 #![tactic(auto)]
 
 pub mod laws;

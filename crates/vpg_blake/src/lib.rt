@@ -8,6 +8,8 @@
 //! The crate above that makes games uses `sharp_form` on each guard. A guard that names no feature twice is unknown
 //! only then, too, and is returned unchanged. Definitions stand in `specs/Blake` and `specs/Sharp`; `specs/Tables` has
 //! the steps of the work, for private contracts only.
+//!
+//! Trials: tests of `vpg_family_tests` (`family/models`), by the games of systems.
 #![tactic(auto)]
 
 mod form;

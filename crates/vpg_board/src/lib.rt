@@ -16,6 +16,9 @@
 //! step leaves and shows); `specs/Worked` (the work of lifters in a sweep); `specs/Alone` (the work of one alone);
 //! `specs/Predecessors` (which vertices keep an edge to which); `specs/Chains` (how these are kept); `specs/Hints` (the
 //! vertices that hints name). `laws` states the invariants of every run, and that the atomic steps are those of runs.
+//!
+//! Trials: tests of `vpg_lifting_tests` (`boards`, `sweeps`, `hinted`), calls with little memory in `vpg_refusals`
+//! (`boards`).
 #![tactic(auto)]
 
 mod alone;

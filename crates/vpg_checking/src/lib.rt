@@ -9,6 +9,8 @@
 //!
 //! The definitions stand in `specs/`: `Checking`, the game of the two texts; `Faults`, why there is none; `Texts`, the
 //! texts that are written; `Behaviours`, the origin of a game.
+//!
+//! Trials: tests of `vpg_family_tests` (`family/models`).
 #![tactic(auto)]
 
 mod behaviour;

@@ -10,6 +10,8 @@
 //! Definitions stand in `specs/`: `Configurations` (lists of names), `Deciding` (which document decides what, and its
 //! faults), `Documents` (how a document is written), `Forms`. `laws` says that what is
 //! written in each form is read back as the same decisions.
+//!
+//! Trials: tests of `vpg_family_tests` (`configured`).
 #![tactic(auto)]
 
 mod document;

@@ -11,6 +11,8 @@
 //! in [`laws`]; no code runs. The proof follows Zielonka 1998. `proofs/Dominions` has sets from which a player wins a
 //! part of a game, and how they join. `proofs/Growing` has attractors, a vertex at a time, and `proofs/Solved` and
 //! `proofs/Solving` the recursion.
+//!
+//! No code runs here, so there are no trials.
 #![tactic(auto)]
 
 pub mod laws;

@@ -14,6 +14,8 @@
 //! `specs/Labels` defines the text between quotes, `specs/GameDrawing`, `specs/PartDrawing` and `specs/FeatureDrawing`
 //! the pictures. Graphviz's documentation has the language; the choice of shapes and colours is this project's own,
 //! with the owners' shapes of PGSolver.
+//!
+//! Trials: rows of `vpg_text_rows/data/pictures`.
 #![tactic(auto)]
 
 mod features;

@@ -18,6 +18,8 @@
 //! `specs/Checked`, `specs/Pictures`, `specs/Systems`, `specs/Pages` and `specs/Faults` define the texts that are
 //! written, `specs/Warned` the places of warnings, and `specs/Emptiness` what is found of a diagram's products. All are
 //! this project's own.
+//!
+//! Trials: tests of `vpg_family_tests` (`family`).
 #![tactic(auto)]
 
 mod checking;

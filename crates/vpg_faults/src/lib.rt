@@ -4,6 +4,8 @@
 //! logs and writes them; `Refuses` gives the one that a fault stands for (`specs/Refusals`). `Returned` is a fault
 //! with what the call took. They stand below the desk
 //! and need nothing of it.
+//!
+//! Trials: scripts of `vpg_examples` (`scripts/faults`).
 #![tactic(auto)]
 
 mod fault;

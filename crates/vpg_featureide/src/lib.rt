@@ -7,6 +7,8 @@
 //! Definitions stand in `specs/`: `Roles` (what an element is, by the element around it), `Model` (the features),
 //! `Formulas` (the constraints, and the model of a document), and `Trees` (the tree of a model). Only private contracts
 //! name `View`.
+//!
+//! Trials: tests of `vpg_family_tests` (`family/meant`).
 #![tactic(auto)]
 
 mod builder;

@@ -5,6 +5,8 @@
 //! of guards uses `is_name_byte` and `constant_of`.
 //!
 //! Definitions stand in `specs/`: `Names` (feature names, and lists of them) and `Index` (lists by feature).
+//!
+//! Trials: rows of `vpg_text_rows/data/names`, calls with little memory in `vpg_refusals` (`reading`, `lookups`).
 #![tactic(auto)]
 
 mod fault;

@@ -18,6 +18,8 @@
 //! as a list). `Reading` and `EntryReading` are the reader as functions on lists, `Needs` is how a fault is searched
 //! for; `ReadCode`, `EntryCode`, `NamingCode`, `NeedsCode`, `FaultCode` and `ActionCode` are what the code keeps. Only
 //! private contracts name them.
+//!
+//! Trials: tests of `vpg_family_tests` (`family/models`).
 #![tactic(auto)]
 
 mod acts;

@@ -14,6 +14,8 @@
 //! has one edge to a target. `SpelledNames` says which names of vertices, and which start, a text spells; a game keeps
 //! neither, so `VertexNames::read` reads the text once more. `Spelled`, `Reading`, `Scanning`, `Coding` and
 //! `EdgeCoding` serve these.
+//!
+//! Trials: rows of `vpg_text_rows/data/games`, calls with little memory in `vpg_refusals` (`reading`, `writing`).
 #![tactic(auto)]
 
 mod dual;

@@ -13,6 +13,8 @@
 //! `harvest_by_bounds_at_once` for both with a thread for each. The lists that they make of a game are its
 //! `Groundwork`, which the layer above keeps from one page to the next. Definitions: those of `vpg_measure`
 //! (`specs/Bounds`, `specs/Lifts`, `specs/Orders`).
+//!
+//! Trials: tests of `vpg_lifting_tests` (`asks`, `harvests`, `policy`).
 #![tactic(auto)]
 
 mod at_once;

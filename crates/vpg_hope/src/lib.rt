@@ -15,6 +15,8 @@
 //! (games that favour Even more, the dual); `specs/Plain` (identifiers and the text, in PGSolver's format). [`laws`]
 //! states the theorems about them. `specs/Kept` says which edges a game keeps ([`Selection`]). `specs/Arena`,
 //! `specs/Drafts`, `specs/Selection` and `specs/PlainParts` serve private contracts alone.
+//!
+//! Trials: rows of `vpg_text_rows/data/arenas`, calls with little memory in `vpg_refusals` (`decided`, `writing`).
 #![tactic(auto)]
 
 pub mod arena;

@@ -4,6 +4,8 @@
 //! changes nothing else, so the text spells the same game. `vpg_game` reads both.
 //!
 //! The definitions stand in `specs/Labels`: which text it is. `Labelling` serves private functions.
+//!
+//! Trials: `bench/modelled.py`, outside the gate.
 #![tactic(auto)]
 
 mod labels;

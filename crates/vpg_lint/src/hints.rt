@@ -2,7 +2,7 @@
 use crate::message::put_hint;
 use crate::said::Said;
 use vpg_places::{LINES, form_of};
-use vpg_script::verb_named;
+use vpg_script::form_named;
 
 /// The byte order mark in UTF-8.
 pub(crate) const MARK: [u8; 3] = [239, 187, 191];
@@ -40,7 +40,7 @@ fn kind_of(text: &[u8]) -> Option<Kind> {
     if form_of(&LINES, word).is_some() {
         return Some(Kind::Diagram);
     }
-    if verb_named(word).is_some() {
+    if form_named(word).is_some() {
         return Some(Kind::Script);
     }
     let first = text.trim_ascii_start().first();

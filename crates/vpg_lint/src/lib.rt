@@ -9,6 +9,8 @@
 //!
 //! `specs/Messages` says where a fault is according to its reader, and how a message is written. Lines and columns are
 //! those of `vpg_places`.
+//!
+//! Trials: rows of `vpg_text_rows/data/mistakes`, tests of `vpg_family_tests` (`family/explained`).
 #![tactic(auto)]
 
 mod arguments;

@@ -5,7 +5,7 @@ use std::alloc::{AllocError, Global};
 use strsim::levenshtein;
 use vpg_features::{LONGEST_NAME, Names};
 use vpg_places::{Form, begins_character};
-use vpg_script::{VERBS, form_of};
+use vpg_script::all_forms;
 
 /// The greatest number of edits from a word to a name that is proposed.
 const MOST_EDITS: usize = 3;
@@ -130,12 +130,11 @@ pub(crate) fn nearest_command(
         return Ok(found);
     };
     let mut fewest = too_many_edits(word);
-    for verb in VERBS {
-        let name = form_of(verb).word;
-        let edits = edits_to(alloc, fewest, word, name)?;
+    for form in all_forms() {
+        let edits = edits_to(alloc, fewest, word, form.word)?;
         if edits < fewest {
             fewest = edits;
-            found = Some(name);
+            found = Some(form.word);
         }
     }
     Ok(found)

@@ -11,7 +11,7 @@ use crate::naming::nearest_command;
 use crate::said::Said;
 use std::alloc::{AllocError, Global};
 use vpg_places::{Line, words_of};
-use vpg_script::{CommandForm, LONGEST_LINE, Parameter, form_of, verb_named};
+use vpg_script::{CommandForm, LONGEST_LINE, Parameter, form_named};
 
 /// The rule for words that stand for vertices.
 const VERTEX_RULE: &[u8] =
@@ -140,8 +140,8 @@ fn put_arguments(faulty: &Faulty<'_>, form: &CommandForm, command: usize, out: &
 /// Appends what is wrong with a line. Returns its place in the line.
 fn put_refused(alloc: Global, faulty: &Faulty<'_>, out: &mut Said) -> usize {
     let command = if is_label(faulty.word(0).bytes) { 1 } else { 0 };
-    match verb_named(faulty.word(command).bytes) {
-        Some(verb) => put_arguments(faulty, &form_of(verb), command, out),
+    match form_named(faulty.word(command).bytes) {
+        Some(form) => put_arguments(faulty, &form, command, out),
         None => put_unknown(alloc, faulty, command, out),
     }
 }

@@ -20,6 +20,9 @@
 //! `specs/Least` (below every progress table); `specs/Bounds` (bounds and their certificates); `specs/TwoGames` (the
 //! two hopeful games of a guarded game); `specs/Games` (the games of a page); `specs/Orders` (orders and harvests).
 //! Their laws stand in `laws`.
+//!
+//! Trials: tests of `vpg_lifting_tests` (`tables`, `orders`, `asks`), calls with little memory in `vpg_refusals`
+//! (`decided`, `orders`).
 #![tactic(auto)]
 
 pub mod bounds;

@@ -11,6 +11,8 @@
 //! and decides them; `Sources` has a system that was read as the theorem's, and `Sharpening` games that differ in
 //! guards alone. `Departures` serves models, and `Searching` private contracts. This crate knows no products and no
 //! winning.
+//!
+//! Trials: tests of `vpg_family_tests` (`games`, `walks`).
 #![tactic(auto)]
 
 mod building;

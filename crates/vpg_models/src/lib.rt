@@ -7,6 +7,8 @@
 //!
 //! `specs/Forms` defines forms and what they mean, over the trees of `vpg_tree`; `specs/Told` the text of faults. Only
 //! these have contracts: messages are for people.
+//!
+//! Trials: tests of `vpg_family_tests` (`family/meant`).
 #![tactic(auto)]
 
 mod explaining;

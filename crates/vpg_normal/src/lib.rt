@@ -5,6 +5,8 @@
 //! symbols find the rest: the number of symbols of each operand (`specs/Sizes`), the fixpoints around it and which of
 //! them a variable names (`specs/Scopes`), and the priority of each fixpoint (`specs/Ranks`). `specs/Standing` has the
 //! promise for a root, `specs/Placing` the symbols in one list.
+//!
+//! Trials: tests of `vpg_family_tests` (`family/models`), by the games of systems.
 #![tactic(auto)]
 
 mod arena;

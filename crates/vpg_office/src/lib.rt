@@ -8,6 +8,9 @@
 //! `specs/Token.antt`, `specs/Sheets.antt` (the meaning of a sheet). The parts under the lock are in
 //! `specs/Kept.antt`, `specs/Locked.antt`, `specs/Story.antt` and `specs/Told.antt`, and the effect of a call on them
 //! in `specs/Made.antt`.
+//!
+//! Trials: tests of `vpg_book_tests` (`offices`), calls with little memory in `vpg_refusals` (`office_calls`), and the
+//! calls of `vpg_play`.
 #![tactic(auto)]
 
 mod alike;

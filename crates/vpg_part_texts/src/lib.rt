@@ -5,6 +5,8 @@
 //! has at most 60 bytes; a longer one is cut. It is for people, and is not read again.
 //!
 //! The definitions stand in `specs/`: `SetTexts` and `PartTexts`.
+//!
+//! Trials: tests of `vpg_family_tests` (`walks`).
 #![tactic(auto)]
 
 mod kept;

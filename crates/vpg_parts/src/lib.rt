@@ -7,6 +7,8 @@
 //! name.
 //!
 //! Before there are parts, a normal form is a list of [`Symbol`]s (`specs/Symbols`).
+//!
+//! Trials: tests of `vpg_family_tests` (`games`, `walks`).
 #![tactic(auto)]
 
 mod part;

@@ -6,6 +6,8 @@
 //! of a game's entries. Only lines and columns have contracts. The layers above put into words what stands there.
 //!
 //! `specs/Places` defines lines and columns, and which line of a text has a number.
+//!
+//! Trials: the lines and columns of `vpg_text_rows/data/mistakes`.
 #![tactic(auto)]
 
 mod declared;

@@ -9,6 +9,8 @@
 //!
 //! Definitions: `specs/Growing` (what may be added to what is known, and when nothing is left). `specs/Stepping` serves
 //! private functions.
+//!
+//! Trials: rows of `vpg_text_rows/data/small`, by the reasons of `vpg_why`.
 #![tactic(auto)]
 
 mod blaming;

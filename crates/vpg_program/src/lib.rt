@@ -21,6 +21,8 @@
 //! function of another module for each task: `running` runs scripts, after a configuration of `configuring`; `typed`
 //! answers a person at a terminal; `texts` writes what files alone decide, and `leaving` what a script leaves. `words`
 //! has the words and the messages.
+//!
+//! Trials: the rows of words in `vpg_status/data/rows`.
 #![tactic(auto)]
 
 mod configuring;

@@ -5,6 +5,8 @@
 //! sure, it holds in that of each. `specs/Promises` states this, of a game that is a model of a formula (`IsModel` of
 //! `vpg_model`), and of the game of two texts, which `vpg_checking` reads (`IsModelOfTexts`). The theorems are the laws
 //! in [`laws`].
+//!
+//! No code runs here, so there are no trials.
 #![tactic(auto)]
 
 pub mod laws;

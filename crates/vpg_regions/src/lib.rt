@@ -8,6 +8,8 @@
 //! All layers above use `Graph` for the edges of a game both ways, `Predecessors` for those that lead to a vertex, and
 //! `Components` for the game that a strategy leaves. `VertexSet` has some of the vertices, `PerVertex` one value for
 //! each vertex, and `Found` is a list that grows. `Budget` counts the work.
+//!
+//! Trials: tests of `vpg_lifting_tests` (`asks`, `climbing`), by certified guesses.
 #![tactic(auto)]
 
 mod budget;

@@ -1,6 +1,6 @@
 -- Pages that scripts leave, drawn.
 use Rattle.std.proofs.Common.{◌≡◌, inr, ℕ, ◌<◌, List, length, map, Option, Some, None, Result, Ok, sym, ap, subst, ◌∙◌, []}
-use Rattle.std.specs.Prelude.{IfOk}
+use Rattle.std.specs.Prelude.{IfOk, IfSome}
 use Rattle.std.proofs.lemmas.Result.{IfOk-weaker}
 use Rattle.vpg_diagram.specs.DiagramText.{NamedDiagram}
 use Rattle.vpg_game.specs.Game.{NamedGame, graph_of}
@@ -17,22 +17,23 @@ use Rattle.vpg_family.specs.declared.known.Context.{Context}
 use Rattle.vpg_family.specs.declared.fault.Fault.{Fault}
 use Rattle.vpg_script.specs.Calling.{meant}
 use Rattle.vpg_script.specs.Script.{Request, said}
-use Rattle.vpg_script.specs.View.{command_shown, inquiry_shown}
+use Rattle.vpg_script.specs.View.{command_shown, look_shown}
 use Rattle.vpg_script.specs.declared.command.Command.{Command}
 use Rattle.vpg_script.specs.declared.command.Command.TheVariants as asking
-use Rattle.vpg_script.specs.declared.command.Inquiry.{Inquiry}
-use Rattle.vpg_script.specs.declared.command.VertexQuestion.{VertexQuestion}
-use Rattle.vpg_script.specs.declared.command.VertexQuestion.TheVariants as questions
+use Rattle.vpg_script.specs.declared.look.Look.{Look}
+use Rattle.vpg_script.specs.declared.look.VertexLook.{VertexLook}
+use Rattle.vpg_script.specs.declared.look.VertexLook.TheVariants as vertex_looks
 use Rattle.vpg_checking.specs.Behaviours.{Behaviour}
 use Rattle.vpg_trace.specs.Answering.{Page, page_of}
 use Rattle.vpg_system_draw.specs.Traced.{Trail}
 use Rattle.vpg_steps.specs.Steps.{FindsPath}
 use Rattle.vpg_texts.specs.Scene.{Scene, scene_of}
-use Rattle.vpg_answers.specs.Answers.{IsOver, IsWithin}
-use Rattle.vpg_answers.specs.declared.query.Query.{Query}
-use Rattle.vpg_answers.specs.declared.query.Query.TheVariants as queries
-use Rattle.vpg_report.specs.Answers.{answer_limits}
-use Rattle.vpg_report.specs.Requests.{query_of}
+use Rattle.vpg_looks.specs.Answers.{IsOver}
+use Rattle.vpg_answers.specs.Topics.{IsWithin, TopicHasSystem, found_shown, topic_of, topic_shown}
+use Rattle.vpg_answers.specs.declared.topic.Missing.{Missing}
+use Rattle.vpg_answers.specs.declared.topic.Topic as code
+use Rattle.vpg_answers.specs.declared.topic.Topic.TheVariants as topics
+use Rattle.vpg_engine.specs.Answers.{answer_limits}
 use Rattle.vpg_report.specs.Draws.{tracing_line, AsksTrace, FindsTrail, IsDrawnAfter, IsDrawnOn, IsSystemDrawnAfter, IsSystemUndrawnAfter, IsTracedAfter, IsTracedOn, LineAsksTrace, RequestAsksTrace}
 use Rattle.vpg_report.specs.Left.{IsLeft}
 use Rattle.vpg_report.specs.Run.{Called, called_in}
@@ -78,17 +79,26 @@ request_asks context game other diagram seen names request said vertex g d n s i
 pub line_asks : {E : Type 0} (called : Called) (line : List ℕ) (request : Request) (found : Result ℕ E) → said line ≡ Ok (Some request) → IfOk found (RequestAsksTrace called request) → IfOk found (LineAsksTrace called line)
 line_asks called line request found says asks = IfOk-weaker found (RequestAsksTrace called request) (LineAsksTrace called line) (λ vertex is. (request, (says, is))) asks
 
--- a command that asks for a trace, as a query
-pub trace_asked : (behaviour : Option Behaviour) (scene : Scene) (command : Command) (inquiry : Inquiry) (query : Query) (question : VertexQuestion) (vertex : ℕ) → command ≡ asking.Ask inquiry → query_of behaviour scene (inquiry_shown inquiry) ≡ Ok query →
-    query ≡ queries.OfVertex question vertex → question ≡ questions.Trace → AsksTrace behaviour scene (command_shown command) vertex
-trace_asked behaviour scene command inquiry query question vertex of said is what =
+-- a command that asks for a trace, by places
+pub trace_asked : (behaviour : Option Behaviour) (scene : Scene) (command : Command) (look : Look) (topic : code.Topic) (what : VertexLook) (vertex : ℕ) (found : Result code.Topic Missing) → command ≡ asking.Look look →
+    found_shown found ≡ topic_of behaviour scene (look_shown look) → found ≡ Ok topic → topic ≡ topics.OfVertex what vertex → what ≡ vertex_looks.Trace → AsksTrace behaviour scene (command_shown command) vertex
+trace_asked behaviour scene command look topic what vertex found of said ok is trace =
     subst (λ (c : Command). AsksTrace behaviour scene (command_shown c) vertex) (sym of)
-    (subst (λ (q : Query). query_of behaviour scene (inquiry_shown inquiry) ≡ Ok q) (is ∙ ap (λ (q : VertexQuestion). queries.OfVertex q vertex) what) said)
+    (sym said ∙ ap found_shown (ok ∙ ap (λ (t : code.Topic). Ok t) (is ∙ ap (λ (w : VertexLook). topics.OfVertex w vertex) trace)))
 
-pub trace_within : (behaviour : Option Behaviour) (vertices features : ℕ) (query : Query) (question : VertexQuestion) (vertex : ℕ) → query ≡ queries.OfVertex question vertex → question ≡ questions.Trace →
-    IsWithin behaviour vertices features query → (vertex < vertices) × IsOver features behaviour
-trace_within behaviour vertices features query question vertex is what within =
-    subst (λ (q : Query). IsWithin behaviour vertices features q) (is ∙ ap (λ (q : VertexQuestion). queries.OfVertex q vertex) what) within
+-- what holds of a topic that was found
+pub topic_so : (found : Result code.Topic Missing) (topic : code.Topic) (P : code.Topic → Type 0) → found ≡ Ok topic → IfOk found P → P topic
+topic_so found topic P is so = subst (λ (r : Result code.Topic Missing). IfOk r P) is so
+
+-- the vertex of a trace that was found
+pub found_some : {E : Type 0} (found : Result (Option ℕ) E) (place : Option ℕ) (vertex : ℕ) (P : ℕ → Type 0) → found ≡ Ok place → place ≡ Some vertex → IfOk found (λ o. IfSome o P) → P vertex
+found_some {E} found place vertex P is some so = subst (λ (o : Option ℕ). IfSome o P) some (subst (λ (r : Result (Option ℕ) E). IfOk r (λ o. IfSome o P)) is so)
+
+pub trace_within : (behaviour : Option Behaviour) (vertices features : ℕ) (topic : code.Topic) (what : VertexLook) (vertex : ℕ) → topic ≡ topics.OfVertex what vertex → what ≡ vertex_looks.Trace →
+    IsWithin vertices features (topic_shown topic) → TopicHasSystem features behaviour (topic_shown topic) → (vertex < vertices) × IsOver features behaviour
+trace_within behaviour vertices features topic what vertex is trace within has =
+    let same : topic ≡ topics.OfVertex vertex_looks.Trace vertex = is ∙ ap (λ (w : VertexLook). topics.OfVertex w vertex) trace in
+    (subst (λ (t : code.Topic). IsWithin vertices features (topic_shown t)) same within, subst (λ (t : code.Topic). TopicHasSystem features behaviour (topic_shown t)) same has)
 
 -- of copies of an order's game and diagram
 pub within_copies : (order : OrderView) (game : NamedGame) (diagram : NamedDiagram) (behaviour : Option Behaviour) (vertex : ℕ) → IsOrder order → game ≡ order.game → diagram ≡ order.diagram →

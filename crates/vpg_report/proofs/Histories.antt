@@ -1,6 +1,6 @@
 -- The calls of answered lines make a history.
 use Rattle.std.proofs.Common.{◌≡◌, ℕ, zero, suc, ◌+◌, ◌-◌, Bool, true, false, List, [], ◌∷◌, ◌++◌, length, Option, Some, None, Result, Ok, Err, refl, sym, ap, ◌∙◌, inl, inr, arith, append_assoc, append-nil, length-append, subst}
-use Rattle.std.specs.Prelude.{IfSome, slice_set}
+use Rattle.std.specs.Prelude.{IfSome, if◌then◌else◌, slice_set}
 use Rattle.std.specs.List.{AllByRecursion}
 use Rattle.vpg_features.specs.Names.{index_of}
 use Rattle.vpg_trail.specs.Page.{Which, Entry}
@@ -10,31 +10,32 @@ use Rattle.vpg_desk.specs.Desk.{family_of}
 use Rattle.vpg_desk.specs.Lawful.{IsLawful, HandsIn, AllHandIn}
 use Rattle.vpg_script.specs.Script as script
 use Rattle.vpg_script.specs.Script.{Said, Request, said}
-use Rattle.vpg_script.specs.Answer.{Answer, IsDone}
+use Rattle.vpg_script.specs.Answer.{Answer}
 use Rattle.vpg_script.specs.Output.{Speaks, Answered}
-use Rattle.vpg_report.specs.Held.{Held, undo_meant, redo_meant, harvest_kept, after_change, after_undo, after_redo, after_keep, after_forget, with_harvest, without_harvest, with_seen}
+use Rattle.vpg_engine.specs.Held.{Held, undo_meant, redo_meant, harvest_kept, after_change, after_undo, after_redo, after_keep, after_forget, with_harvest, without_harvest, with_seen}
 use Rattle.vpg_texts.specs.Scene.{Scene}
-use Rattle.vpg_texts.specs.Sights.{has_vertices}
-use Rattle.vpg_report.specs.Answers.{Own, NoFeature, NoToken, NoHarvest, NoVertex, vertex_of, call_or, page_if, full_log, Rest, Ends, Follows, Makes, Asks, TellsSettled, AsksSettled, TellsAdded, Sweeps, Keeps, Lifts, TellsChanged, TellsUndone, TellsRedone, TellsSpent, Sees, TellsNamed, TellsPage, verdicts_on, TellsVerdicts}
-use Rattle.vpg_report.specs.Requests.{query_of, order_or, first_call, TellsAnswer, Continues, Begins, Serves}
+use Rattle.vpg_engine.specs.Answers.{Own, NoFeature, NoToken, NoHarvest, NoVertex, vertex_of, call_or, full_log, Rest, Ends, Follows, Makes, Asks, TellsSettled, AsksSettled, TellsAdded, Sweeps, Keeps, Lifts, TellsChanged, TellsUndone, TellsRedone, TellsSpent, verdicts_on, TellsVerdicts}
+use Rattle.vpg_engine.specs.Requests.{call_for, call_or_missing, first_call, TellsLook, Continues, Begins, Serves}
 use Rattle.vpg_checking.specs.Behaviours.{Behaviour}
-use Rattle.vpg_answers.specs.declared.query.Query.{Query}
-use Rattle.vpg_report.specs.Run.{Between, begun, calling, answering, as_meant, Asked, asking, AnswersAreHistories}
-use Rattle.vpg_report.specs.Setting.{setting_in}
+use Rattle.vpg_answers.specs.Topics.{Topic, takes_order, topic_of}
+use Rattle.vpg_answers.specs.declared.topic.Missing.{Missing}
+use Rattle.vpg_engine.specs.Line.{Between, begun}
+use Rattle.vpg_report.specs.Run.{calling, answering, as_meant, Asked, asking, AnswersAreHistories}
+use Rattle.vpg_engine.specs.Setting.{setting_in}
 
 -- ---- lists of events
 
 pub legal_more : (family : Family) (book : Book) (events more : List Event) → IsLegalFrom family book events → IsLegalFrom family (book_after family book events) more → IsLegalFrom family book (events ++ more)
-legal_more family book [] more first then = then
-legal_more family book (e ∷ events) more first then = (first.0, legal_more family (next family book e.session e.call e.reply) events more first.1 then)
+legal_more family book [] more first rest = rest
+legal_more family book (e ∷ events) more first rest = (first.0, legal_more family (next family book e.session e.call e.reply) events more first.1 rest)
 
 pub after_more : (family : Family) (book : Book) (events more : List Event) → book_after family book (events ++ more) ≡ book_after family (book_after family book events) more
 after_more family book [] more = refl
 after_more family book (e ∷ events) more = after_more family (next family book e.session e.call e.reply) events more
 
 pub all_more : {X : Type 0} (P : X → Type 0) (xs ys : List X) → AllByRecursion P xs → AllByRecursion P ys → AllByRecursion P (xs ++ ys)
-all_more P [] ys first then = then
-all_more P (x ∷ xs) ys first then = (first.0, all_more P xs ys first.1 then)
+all_more P [] ys first rest = rest
+all_more P (x ∷ xs) ys first rest = (first.0, all_more P xs ys first.1 rest)
 
 -- ---- lawful harvests alone are handed in
 
@@ -112,17 +113,14 @@ module _ (L : Harvest → Type 0) where
     tells_spent given Spent calls answer new so = ends given held all calls answer new so
     tells_spent given _ calls answer new so = absurd so
 
-    tells_page : (Tells : List Entry → Answer → Type 0) (reply : Reply) → IsFine (TellsPage Tells held reply)
-    tells_page Tells (PageIs page) calls answer new so = ends answer held all calls answer new (so.1, refl, so.2)
-    tells_page Tells _ calls answer new so = absurd so
-
     tells_verdicts : (scene : Scene) (reply : Reply) → IsFine (TellsVerdicts scene held reply)
     tells_verdicts scene (PageIs page) calls answer new so = ends _ (with_seen held (verdicts_on scene page)) all calls answer new so
     tells_verdicts scene _ calls answer new so = absurd so
 
-    tells_answer : (behaviour : Option Behaviour) (scene : Scene) (inquiry : script.Inquiry) (reply : Reply) → IsFine (TellsAnswer behaviour scene held inquiry reply)
-    tells_answer behaviour scene inquiry (Ordered d h u) calls answer new so = ends answer held all calls answer new (so.1, refl, so.2)
-    tells_answer behaviour scene inquiry _ calls answer new so = absurd so
+    tells_look : (behaviour : Option Behaviour) (scene : Scene) (look : script.Look) (reply : Reply) → IsFine (TellsLook behaviour scene held look reply)
+    tells_look behaviour scene look (PageIs page) calls answer new so = ends answer held all calls answer new (so.1, refl, so.2)
+    tells_look behaviour scene look (Ordered d h u) calls answer new so = ends answer held all calls answer new (so.1, refl, so.2)
+    tells_look behaviour scene look _ calls answer new so = absurd so
 
     asks_settled : (scene : Scene) (made label : ℕ) (reply : Reply) → IsFine (AsksSettled scene held made label reply)
     asks_settled scene made label (Added n) calls answer new so = asks scene held all made label Settled (TellsSettled held n) tt (tells_settled n) calls answer new so
@@ -161,10 +159,8 @@ module _ (behaviour : Option Behaviour) (scene : Scene) (held : Held) where
     continues made label script.Harvest reply calls answer new so = keeps reply calls answer new so
     continues made label (script.Commit k) reply calls answer new so = tells_added L (without_harvest held k) (gone_lawful L held.harvests (k - 1) all) reply calls answer new so
     continues made label (script.Settle n) reply calls answer new so = sweeps made label _ reply calls answer new so
-    continues made label (script.Look lookup) reply calls answer new so = tells_page L held all (Sees scene lookup) reply calls answer new so
     continues made label script.Changed reply calls answer new so = tells_verdicts L held all scene reply calls answer new so
-    continues made label (script.Known name) reply calls answer new so = tells_page L held all (λ page. IsDone (TellsNamed scene name page)) reply calls answer new so
-    continues made label (script.Ask inquiry) reply calls answer new so = tells_answer L held all behaviour scene inquiry reply calls answer new so
+    continues made label (script.Looks look) reply calls answer new so = tells_look L held all behaviour scene look reply calls answer new so
 
     begins : (made label : ℕ) (command : script.Command) (call : Call) → HandsIn L call → IsFine L (Begins behaviour scene held made label command (Ok call))
     begins made label command call hands = asks L scene held all made label call (Continues behaviour scene held (made + 1) label command) hands (continues (made + 1) label command)
@@ -174,13 +170,14 @@ module _ (behaviour : Option Behaviour) (scene : Scene) (held : Held) where
     begins_or made label command own call None hands calls answer new so = ends L _ held all calls answer new so
     begins_or made label command own call (Some x) hands calls answer new so = begins made label command (call x) (hands x refl) calls answer new so
 
-    begins_order : (made label : ℕ) (inquiry : script.Inquiry) (found : Result Query Own) → IsFine L (Begins behaviour scene held made label (script.Ask inquiry) (order_or found))
-    begins_order made label inquiry (Err own) calls answer new so = ends L _ held all calls answer new so
-    begins_order made label inquiry (Ok query) calls answer new so = begins made label (script.Ask inquiry) Order tt calls answer new so
+    -- a look hands nothing in
+    takes_nothing : (ordered : Bool) → HandsIn L (if ordered then Order else Page)
+    takes_nothing Bool.true = tt
+    takes_nothing Bool.false = tt
 
-    begins_page : (made label : ℕ) (lookup : script.Lookup) (has : Bool) → IsFine L (Begins behaviour scene held made label (script.Look lookup) (page_if has))
-    begins_page made label lookup true calls answer new so = begins made label (script.Look lookup) Page tt calls answer new so
-    begins_page made label lookup false calls answer new so = ends L _ held all calls answer new so
+    begins_look : (made label : ℕ) (look : script.Look) (found : Result Topic Missing) → IsFine L (Begins behaviour scene held made label (script.Looks look) (call_or_missing found))
+    begins_look made label look (Err missing) calls answer new so = ends L _ held all calls answer new so
+    begins_look made label look (Ok topic) calls answer new so = begins made label (script.Looks look) (call_for topic) (takes_nothing (takes_order topic)) calls answer new so
 
     serves : (made label : ℕ) (command : script.Command) → IsFine L (Begins behaviour scene held made label command (first_call behaviour scene held command))
     serves made label (script.Select name) = begins_or made label (script.Select name) NoFeature (λ f. Decide f Bool.true) (index_of scene.names name) (λ _ _. tt)
@@ -195,10 +192,8 @@ module _ (behaviour : Option Behaviour) (scene : Scene) (held : Held) where
     serves made label script.Harvest = begins made label script.Harvest Order tt
     serves made label (script.Commit k) = begins_or made label (script.Commit k) NoHarvest Commit (harvest_kept held.harvests k) (λ made is _. kept_lawful L held.harvests k made all is)
     serves made label (script.Settle n) = begins made label (script.Settle n) Order tt
-    serves made label (script.Look lookup) = begins_page made label lookup (has_vertices scene.identifiers lookup)
     serves made label script.Changed = begins made label script.Changed Page tt
-    serves made label (script.Known name) = begins_or made label (script.Known name) NoFeature (λ f. Page) (index_of scene.names name) (λ _ _. tt)
-    serves made label (script.Ask inquiry) = begins_order made label inquiry (query_of behaviour scene inquiry)
+    serves made label (script.Looks look) = begins_look made label look (topic_of behaviour scene look)
 
 -- ---- lines
 

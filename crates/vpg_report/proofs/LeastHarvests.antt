@@ -8,7 +8,7 @@ use Rattle.vpg_desk.specs.Book.{Family, Harvest, IsSettledPage, raises_of}
 use Rattle.vpg_desk.specs.Lawful.{harvested}
 use Rattle.vpg_desk.proofs.Raising.{raises-other}
 use Rattle.vpg_desk.proofs.Below.{raised_choices}
-use Rattle.vpg_report.specs.Answers.{IsOf, Checks}
+use Rattle.vpg_engine.specs.Answers.{IsOf, Checks}
 
 -- ---- the values that a commit leaves
 

@@ -21,16 +21,16 @@ use Rattle.vpg_script.specs.declared.serving.Ending.TheVariants as endings
 use Rattle.vpg_family.specs.declared.known.Context.{Context}
 use Rattle.vpg_family.specs.declared.fault.Fault.{Fault}
 use Rattle.vpg_family.specs.declared.fault.Fault.TheVariants as told
-use Rattle.vpg_report.specs.Answers.{room}
-use Rattle.vpg_report.specs.Client.{ClientState, IsLogged}
-use Rattle.vpg_report.specs.Faults.{Tells}
-use Rattle.vpg_report.specs.declared.fault.ClientFault.{ClientFault}
-use Rattle.vpg_report.specs.declared.fault.ClientFault.TheVariants.{LogFull}
-use Rattle.vpg_report.specs.Engine.{EngineState, IsOpenFault, between_of, engine_of}
-use Rattle.vpg_report.specs.Line.{Between}
-use Rattle.vpg_report.specs.Run.{answering_called, begun, called_by, called_in}
+use Rattle.vpg_engine.specs.Answers.{room}
+use Rattle.vpg_engine.specs.Client.{ClientState, IsLogged}
+use Rattle.vpg_engine.specs.Faults.{Tells}
+use Rattle.vpg_engine.specs.declared.fault.ClientFault.{ClientFault}
+use Rattle.vpg_engine.specs.declared.fault.ClientFault.TheVariants.{LogFull}
+use Rattle.vpg_engine.specs.Engine.{EngineState, IsOpenFault, between_of, engine_of}
+use Rattle.vpg_engine.specs.Line.{Between, begun}
+use Rattle.vpg_report.specs.Run.{answering_called, called_by, called_in}
 use Rattle.vpg_report.specs.Runs.{TellsOpening}
-use Rattle.vpg_report.specs.Server.{IsOpenRefusal}
+use Rattle.vpg_report.specs.Results.{IsOpenRefusal}
 use Rattle.vpg_report.specs.Left.{plain, IsHanded, IsLeft, IsOrderOn, IsRunStopped, IsStopped, IsUnleft}
 use Rattle.vpg_report.proofs.Results.{opens as opened, outcome_as}
 use Rattle.vpg_report.proofs.RunEnds.{nothing_ran, run_of_opening}

@@ -7,7 +7,8 @@ use Rattle.vpg_script.specs.Answer.{Answer}
 use Rattle.vpg_script.specs.Output.{Machine, Speaks, Answered, Wrote, IsEmptyKnown, BeginsFaulty, FaultyKnown, text_of}
 use Rattle.vpg_report.specs.Output.{Outcome}
 use Rattle.vpg_report.specs.Results.{IsThrough}
-use Rattle.vpg_report.specs.Run.{Between, begun, as_meant}
+use Rattle.vpg_engine.specs.Line.{Between, begun}
+use Rattle.vpg_report.specs.Run.{as_meant}
 use Rattle.vpg_report.specs.Settling.{settling, SettledRunsAreOne}
 use Rattle.vpg_texts.specs.Scene.{Scene}
 use Rattle.vpg_checking.specs.Behaviours.{Behaviour}

@@ -17,42 +17,26 @@ use Rattle.vpg_desk.specs.Desk.{family_of}
 use Rattle.vpg_desk.specs.Lawful.{harvested}
 use Rattle.vpg_script.specs.Script as script
 use Rattle.vpg_script.specs.Script.{Said, Request, said}
-use Rattle.vpg_script.specs.Answer.{Answer, IsDone}
+use Rattle.vpg_script.specs.Answer.{Answer}
 use Rattle.vpg_script.specs.Output.{Speaks, Answered}
-use Rattle.vpg_script.proofs.Given.{done_one}
-use Rattle.vpg_report.specs.Held.{Held, undo_meant, redo_meant, harvest_kept, after_change, after_undo, after_redo, after_keep, after_forget, with_harvest, without_harvest, with_seen}
-use Rattle.vpg_texts.specs.Scene.{Scene, UnderKnown, TellsFeature, table_in}
-use Rattle.vpg_texts.specs.Sights.{has_vertices}
-use Rattle.vpg_report.specs.Answers.{Own, NoFeature, NoToken, NoHarvest, NoVertex, Checks, IsOf, IsLifted, vertex_of, call_or, page_if, full_log, settled_text, Rest, Ends, Follows, Makes, Asks, TellsSettled, AsksSettled, TellsAdded, Sweeps, Keeps, Lifts, TellsChanged, TellsUndone, TellsRedone, TellsSpent, Sees, TellsNamed, TellsPage, verdicts_on, TellsVerdicts}
-use Rattle.vpg_report.specs.Requests.{query_of, answer_limits, order_or, first_call, TellsAnswer, Continues, Begins}
-use Rattle.vpg_answers.specs.Answers.{IsAnswer, HasDoubt}
+use Rattle.vpg_engine.specs.Held.{Held, undo_meant, redo_meant, harvest_kept, after_change, after_undo, after_redo, after_keep, after_forget, with_harvest, without_harvest, with_seen}
+use Rattle.vpg_texts.specs.Scene.{Scene, table_in}
+use Rattle.vpg_engine.specs.Answers.{Own, NoFeature, NoToken, NoHarvest, NoVertex, Checks, IsOf, IsLifted, vertex_of, call_or, full_log, settled_text, Rest, Ends, Follows, Makes, Asks, TellsSettled, AsksSettled, TellsAdded, Sweeps, Keeps, Lifts, TellsChanged, TellsUndone, TellsRedone, TellsSpent, verdicts_on, TellsVerdicts, answer_limits}
+use Rattle.vpg_engine.specs.Requests.{call_for, call_or_missing, first_call, sight_on, TellsLook, TellsSight, Continues, Begins}
+use Rattle.vpg_looks.specs.Meanings.{Sight, ordered_sight}
+use Rattle.vpg_answers.specs.Told.{IsDoubtful, IsTold}
+use Rattle.vpg_answers.specs.Topics.{Topic, topic_of}
+use Rattle.vpg_answers.specs.declared.topic.Missing.{Missing}
 use Rattle.vpg_checking.specs.Behaviours.{Behaviour}
-use Rattle.vpg_answers.specs.declared.query.Query.{Query}
 use Rattle.vpg_answers.proofs.One.{answers_are_one}
-use Rattle.vpg_report.specs.Run.{Between, as_meant, begun}
+use Rattle.vpg_engine.specs.Line.{Between, begun}
+use Rattle.vpg_report.specs.Run.{as_meant}
 use Rattle.vpg_report.specs.Settling.{settling, TellsSettle, AreChecked, SettledAnswersAreOne}
 use Rattle.vpg_texts.proofs.Planned.{known_is_one}
-use Rattle.vpg_answers.specs.Looked.{HasMetLimit}
-use Rattle.vpg_answers.proofs.Looked.{looked_one}
 use Rattle.vpg_report.proofs.Replies.{reply_one}
 use Rattle.vpg_report.proofs.LeastHarvests.{same_harvests, checked_are_one, settling_are_one}
-use Rattle.vpg_report.proofs.Settling.{none_missing}
-use Rattle.vpg_report.specs.Setting.{setting_in}
-
--- ---- texts of a page
-
-module _ (scene : Scene) (decisions : List Decision) where
-  under_one : {X : Type 0} (P Q : List Tri → Type 0) → ((known : List Tri) → P known → Q known → X) → UnderKnown scene decisions P → UnderKnown scene decisions Q → X
-  under_one P Q k a b =
-      k a.0 a.1.1 (subst Q (known_is_one scene.lines (map literal_of decisions) b.0 a.0 b.1.0 a.1.0) b.1.1)
-
-  feature_one : (f : ℕ) (one other : List ℕ) → TellsFeature scene decisions f one → TellsFeature scene decisions f other → one ≡ other
-  feature_one f one other = under_one _ _ (λ known a b. a ∙ sym b)
-
-  named_one : (found : Option ℕ) (one other : List ℕ) → (f : ℕ) × ((found ≡ Some f) × TellsFeature scene decisions f one) → (f : ℕ) × ((found ≡ Some f) × TellsFeature scene decisions f other) → one ≡ other
-  named_one found one other a b =
-      let same : b.0 ≡ a.0 = cc (a.1.0, b.1.0) in
-      feature_one a.0 one other a.1.1 (subst (λ (f : ℕ). TellsFeature scene decisions f other) same b.1.1)
+use Rattle.vpg_engine.proofs.Settling.{none_missing}
+use Rattle.vpg_engine.specs.Setting.{setting_in}
 
 -- ---- one lift
 
@@ -86,8 +70,8 @@ not_full n e = let same : 114 ≡ 115 = ap first_byte e in absurd (omega (arith,
 not_unsettled : (m n : ℕ) → settled_text false m ≡ settled_text true n → ⊥
 not_unsettled m n e = let same : 117 ≡ 115 = ap first_byte e in absurd (omega (arith, same))
 
-query_one : (asked : Result Query Own) (one other : Query) → asked ≡ Ok one → asked ≡ Ok other → one ≡ other
-query_one asked one other a b = cc (a, b)
+topic_one : (found : Result Topic Missing) (one other : Topic) → found ≡ Ok one → found ≡ Ok other → one ≡ other
+topic_one found one other a b = cc (a, b)
 
 -- ---- calls from one book
 
@@ -190,17 +174,20 @@ module _ (behaviour : Option Behaviour) (scene : Scene) (held : Held) (Told : An
     tells_spent given after Spent = ends book given after
     tells_spent given after _ = λ calls more answer other new newer a. absurd a
 
-    tells_page : (Tells : List Entry → Answer → Type 0) → ((page : List Entry) (answer other : Answer) → Tells page answer → Tells page other → answer ≡ other) → (reply : Reply) → IsOne book (TellsPage Tells held reply)
-    tells_page Tells one (PageIs page) = λ calls more answer other new newer a b fit fits. (a.1 ∙ sym b.1, one page answer other a.0 b.0, a.2 ∙ sym b.2)
-    tells_page Tells one _ = λ calls more answer other new newer a. absurd a
+    -- a look without a doubt, on one page
+    tells_sight : (look : script.Look) → ((topic : Topic) → topic_of behaviour scene look ≡ Ok topic → (answer : Answer) → Told answer → ¬ (IsDoubtful topic answer)) → (page : Sight) → IsOne book (TellsSight behaviour scene held look page)
+    tells_sight look sure page calls more answer other new newer a b fit fits =
+        let same : b.0.0 ≡ a.0.0 = topic_one (topic_of behaviour scene look) b.0.0 a.0.0 b.0.1.0 a.0.1.0 in
+        let of_one : IsTold behaviour scene answer_limits a.0.0 page other = subst (λ (t : Topic). IsTold behaviour scene answer_limits t page other) same b.0.1.1 in (
+          a.1 ∙ sym b.1,
+          answers_are_one behaviour scene answer_limits answer_limits a.0.0 page answer other a.0.1.1 of_one (sure a.0.0 a.0.1.0 answer fit.told) (sure a.0.0 a.0.1.0 other fits.told),
+          a.2 ∙ sym b.2,
+        )
 
-    tells_look : (lookup : script.Lookup) → ((answer : Answer) → Told answer → ¬ (HasMetLimit answer)) → (reply : Reply) → IsOne book (TellsPage (Sees scene lookup) held reply)
-    tells_look lookup sure (PageIs page) = λ calls more answer other new newer a b fit fits. (
-      a.1 ∙ sym b.1,
-      looked_one scene answer_limits page (decisions_of page) (table_of Hopeful page (length scene.game)) (table_of Dual page (length scene.game)) lookup answer other a.0 b.0 (sure answer fit.told) (sure other fits.told),
-      a.2 ∙ sym b.2,
-    )
-    tells_look lookup sure _ = λ calls more answer other new newer a. absurd a
+    tells_look : (look : script.Look) → ((topic : Topic) → topic_of behaviour scene look ≡ Ok topic → (answer : Answer) → Told answer → ¬ (IsDoubtful topic answer)) → (reply : Reply) → IsOne book (TellsLook behaviour scene held look reply)
+    tells_look look sure (PageIs page) = tells_sight look sure (sight_on scene page)
+    tells_look look sure (Ordered d h u) = tells_sight look sure (ordered_sight d h u)
+    tells_look look sure _ = λ calls more answer other new newer a. absurd a
 
     tells_verdicts : (reply : Reply) → IsOne book (TellsVerdicts scene held reply)
     tells_verdicts (PageIs page) = ends book _ (with_seen held (verdicts_on scene page))
@@ -290,12 +277,6 @@ module _ (behaviour : Option Behaviour) (scene : Scene) (held : Held) (Told : An
         asks book made label (Commit a.1) (TellsAdded held) (λ reply told. tells_added (next all book label (Commit a.1) reply) held reply) calls more answer other new newer a.4
         (subst (λ (h : Harvest). Asks scene held made label (Commit h) (TellsAdded held) more other newer) same b.4) fit fits
 
-    answered : (inquiry : script.Inquiry) → ((answer : Answer) → Told answer → ¬ (HasDoubt answer.text)) → IsOne book (TellsAnswer behaviour scene held inquiry (Ordered decisions hopeful dual))
-    answered inquiry sure calls more answer other new newer a b fit fits =
-        let same : b.0.0 ≡ a.0.0 = query_one (query_of behaviour scene inquiry) b.0.0 a.0.0 b.0.1.0 a.0.1.0 in
-        let of_one : IsAnswer behaviour scene answer_limits a.0.0 decisions hopeful dual other = subst (λ (q : Query). IsAnswer behaviour scene answer_limits q decisions hopeful dual other) same b.0.1.1 in
-        (a.1 ∙ sym b.1, answers_are_one behaviour scene answer_limits answer_limits a.0.0 decisions hopeful dual answer other a.0.1.1 of_one (sure answer fit.told) (sure other fits.told), a.2 ∙ sym b.2)
-
   -- ---- a line
 
   module _ (book : Book) (made label : ℕ) where
@@ -311,11 +292,6 @@ module _ (behaviour : Option Behaviour) (scene : Scene) (held : Held) (Told : An
     lifts table named (Ordered d h u) told = lifted book d h u (ordered book d h u told) (made + 1) label table named
     lifts table named _ told = λ calls more answer other new newer a. absurd a
 
-    tells_answer : (inquiry : script.Inquiry) → ((answer : Answer) → Told answer → ¬ (HasDoubt answer.text)) → (reply : Reply) → IsReply all book Order reply →
-        IsOne (next all book label Order reply) (TellsAnswer behaviour scene held inquiry reply)
-    tells_answer inquiry sure (Ordered d h u) told = answered book d h u (ordered book d h u told) inquiry sure
-    tells_answer inquiry sure _ told = λ calls more answer other new newer a. absurd a
-
     begins : (command : script.Command) (call : Call) → ((reply : Reply) → IsReply all book call reply → IsOne (next all book label call reply) (Continues behaviour scene held (made + 1) label command reply)) →
         IsOne book (Begins behaviour scene held made label command (Ok call))
     begins command call = asks book made label call (Continues behaviour scene held (made + 1) label command)
@@ -326,19 +302,15 @@ module _ (behaviour : Option Behaviour) (scene : Scene) (held : Held) (Told : An
     begins_or command own call None one = ends book _ held
     begins_or command own call (Some x) one = begins command (call x) (one x)
 
-    begins_order : (inquiry : script.Inquiry) → ((answer : Answer) → Told answer → ¬ (HasDoubt answer.text)) → (found : Result Query Own) → IsOne book (Begins behaviour scene held made label (script.Ask inquiry) (order_or found))
-    begins_order inquiry sure (Err own) = ends book _ held
-    begins_order inquiry sure (Ok query) = begins (script.Ask inquiry) Order (tells_answer inquiry sure)
-
-    begins_page : (lookup : script.Lookup) → ((answer : Answer) → Told answer → ¬ (HasMetLimit answer)) → (has : Bool) → IsOne book (Begins behaviour scene held made label (script.Look lookup) (page_if has))
-    begins_page lookup sure true = begins (script.Look lookup) Page (λ reply told. tells_look _ lookup sure reply)
-    begins_page lookup sure false = ends book _ held
+    begins_look : (look : script.Look) → ((topic : Topic) → topic_of behaviour scene look ≡ Ok topic → (answer : Answer) → Told answer → ¬ (IsDoubtful topic answer)) → (found : Result Topic Missing) →
+        IsOne book (Begins behaviour scene held made label (script.Looks look) (call_or_missing found))
+    begins_look look sure (Err missing) = ends book _ held
+    begins_look look sure (Ok topic) = begins (script.Looks look) (call_for topic) (λ reply told. tells_look _ look sure reply)
 
     -- where a settle is told to be one that was answered `settled`, and an answer about the page to be one without a doubt
     abbrev SettleIsTold : script.Command → Type 0
     SettleIsTold (script.Settle n) = (answer : Answer) → Told answer → (m : ℕ) × (answer.text ≡ settled_text true m)
-    SettleIsTold (script.Ask inquiry) = (answer : Answer) → Told answer → ¬ (HasDoubt answer.text)
-    SettleIsTold (script.Look lookup) = (answer : Answer) → Told answer → ¬ (HasMetLimit answer)
+    SettleIsTold (script.Looks look) = (topic : Topic) → topic_of behaviour scene look ≡ Ok topic → (answer : Answer) → Told answer → ¬ (IsDoubtful topic answer)
     SettleIsTold _ = ⊤
 
     serves : (command : script.Command) → SettleIsTold command → IsOne book (Begins behaviour scene held made label command (first_call behaviour scene held command))
@@ -354,16 +326,13 @@ module _ (behaviour : Option Behaviour) (scene : Scene) (held : Held) (Told : An
     serves script.Harvest is = begins script.Harvest Order keeps
     serves (script.Commit k) is = begins_or (script.Commit k) NoHarvest Commit (harvest_kept held.harvests k) (λ made reply told. tells_added _ (without_harvest held k) reply)
     serves (script.Settle n) is = begins (script.Settle n) Order (sweeps _ is)
-    serves (script.Look lookup) is = begins_page lookup is (has_vertices scene.identifiers lookup)
     serves script.Changed is = begins script.Changed Page (λ reply told. tells_verdicts _ reply)
-    serves (script.Known name) is = begins_or (script.Known name) NoFeature (λ f. Page) (index_of scene.names name) (λ f reply told. tells_page _ (λ page. IsDone (TellsNamed scene name page)) (λ page one other a b. done_one (TellsNamed scene name page) (TellsNamed scene name page) one other (named_one scene (decisions_of page) (index_of scene.names name) one.text other.text) a b) reply)
-    serves (script.Ask inquiry) is = begins_order inquiry is (query_of behaviour scene inquiry)
+    serves (script.Looks look) is = begins_look look is (topic_of behaviour scene look)
 
 -- ---- lines
 
-settle_is_told : (behaviour : Option Behaviour) (scene : Scene) (held : Held) (book : Book) (made label : ℕ) (command : script.Command) → SettleIsTold behaviour scene held (TellsSettle command) book made label command
+settle_is_told : (behaviour : Option Behaviour) (scene : Scene) (held : Held) (book : Book) (made label : ℕ) (command : script.Command) → SettleIsTold behaviour scene held (TellsSettle behaviour scene command) book made label command
 settle_is_told behaviour scene held book made label (script.Settle n) = λ answer told. told
-settle_is_told behaviour scene held book made label (script.Ask inquiry) = λ answer told. told
 settle_is_told behaviour scene held book made label (script.Select name) = tt
 settle_is_told behaviour scene held book made label (script.Exclude name) = tt
 settle_is_told behaviour scene held book made label (script.Retract name) = tt
@@ -375,16 +344,15 @@ settle_is_told behaviour scene held book made label (script.Forget s) = tt
 settle_is_told behaviour scene held book made label (script.Lift table named) = tt
 settle_is_told behaviour scene held book made label script.Harvest = tt
 settle_is_told behaviour scene held book made label (script.Commit k) = tt
-settle_is_told behaviour scene held book made label (script.Look lookup) = λ answer told. told
+settle_is_told behaviour scene held book made label (script.Looks look) = λ topic is answer told. told topic is
 settle_is_told behaviour scene held book made label script.Changed = tt
-settle_is_told behaviour scene held book made label (script.Known name) = tt
 
 module _ (meaning : Request → Request) (behaviour : Option Behaviour) (scene : Scene) where
   line_one : (old : Between) (s : Said) (answer other : Answer) (new newer : Between) → Speaks (as_meant meaning (settling behaviour scene)) old s answer new → Speaks (as_meant meaning (settling behaviour scene)) old s other newer → (answer ≡ other) × (new ≡ newer)
   line_one old (Ok None) answer other new newer a b = (a.0 ∙ sym b.0, a.1 ∙ sym b.1)
   line_one old (Ok (Some request)) answer other new newer a b =
       let one : (a.0.0 ≡ b.0.0) × (answer ≡ other) × (new.held ≡ newer.held) =
-      serves behaviour scene old.held (TellsSettle (meaning request).command) old.book old.calls (meaning request).label (meaning request).command (settle_is_told behaviour scene old.held old.book old.calls (meaning request).label (meaning request).command) a.0.0 b.0.0 answer other new.held newer.held a.0.1.0 b.0.1.0
+      serves behaviour scene old.held (TellsSettle behaviour scene (meaning request).command) old.book old.calls (meaning request).label (meaning request).command (settle_is_told behaviour scene old.held old.book old.calls (meaning request).label (meaning request).command) a.0.0 b.0.0 answer other new.held newer.held a.0.1.0 b.0.1.0
       (record { legal = a.0.1.1; told = a.1; checked = a.2 }) (record { legal = b.0.1.1; told = b.1; checked = b.2 }) in
       let book : new.book ≡ newer.book = a.0.1.2 ∙ ap (λ (es : List Event). book_after (family_of (setting_in scene)) old.book es) one.0 ∙ sym b.0.1.2 in
       let calls : new.calls ≡ newer.calls = a.0.1.3 ∙ ap (λ (es : List Event). old.calls + length es) one.0 ∙ sym b.0.1.3 in

@@ -12,15 +12,15 @@ use Rattle.vpg_script.specs.declared.fault.RunFault.{RunFault}
 use Rattle.vpg_script.specs.declared.fault.RunFault.TheVariants as stops
 use Rattle.vpg_script.proofs.MannerLemmas.{plain_outcome}
 use Rattle.vpg_report.specs.Output.{Outcome, OutcomeAs}
-use Rattle.vpg_report.specs.Results.{Opens}
+use Rattle.vpg_report.specs.Results.{IsOpenRefusal, Opens}
 use Rattle.vpg_diagram.specs.DiagramText.{NamedDiagram}
 use Rattle.vpg_game.specs.Game.{NamedGame}
 use Rattle.vpg_family.specs.declared.known.Context.{Context}
 use Rattle.vpg_script.specs.Script.{Request}
 use Rattle.vpg_script.proofs.Nameless.{none_meant}
 use Rattle.vpg_texts.specs.Scene.{scene_of}
-use Rattle.vpg_report.specs.Run.{answering, answering_called, as_meant, begun, called_in}
-use Rattle.vpg_report.specs.Server.{IsOpenRefusal}
+use Rattle.vpg_engine.specs.Line.{begun}
+use Rattle.vpg_report.specs.Run.{answering, answering_called, as_meant, called_in}
 
 pub opens : {A : Type 0} (result : Result A RunFault) (P : Type 0) → P → Opens result P
 opens (Ok done) P p = p

@@ -9,7 +9,7 @@ use Rattle.vpg_faults.specs.declared.fault.OpenFault.{OpenFault}
 use Rattle.vpg_faults.specs.declared.fault.OpenFault.TheVariants as opens
 use Rattle.vpg_script.specs.Output.{ReadKnown}
 use Rattle.vpg_script.specs.declared.serving.Manner.{Manner}
-use Rattle.vpg_report.specs.Run.{begun}
+use Rattle.vpg_engine.specs.Line.{begun}
 use Rattle.vpg_family.specs.declared.known.Context.{Context}
 use Rattle.vpg_script.specs.declared.fault.RunFault.TheVariants as stops
 use Rattle.vpg_report.specs.Runs.{TellsOpening, Ends, IsRun}

@@ -1,8 +1,8 @@
 -- What a run writes says who wins.
-use Rattle.std.proofs.Common.{◌≡◌, ℕ, zero, suc, ◌+◌, ◌<◌, ◌≤◌, ◌==◌, Bool, true, false, ◌&&◌, List, [], ◌∷◌, ◌++◌, length, Option, Some, None, Ok, Err, slice_index, refl, sym, ap, ◌∙◌, inl, inr, arith, append-nil, subst}
-use Rattle.std.specs.Prelude.{◌⊎◌, map, is_some, codes, decimal}
+use Rattle.std.proofs.Common.{◌≡◌, ℕ, zero, suc, ◌+◌, ◌<◌, ◌≤◌, ◌==◌, Bool, false, List, [], ◌∷◌, ◌++◌, length, Option, Some, None, Result, Ok, Err, slice_index, refl, sym, ap, ◌∙◌, inl, inr, arith, append-nil, subst}
+use Rattle.std.specs.Prelude.{◌⊎◌, if◌then◌else◌, map, codes, decimal, option_map}
 use Rattle.std.specs.List.{range_with_len}
-use Rattle.std.proofs.lemmas.Bool.{cases_lt, false≢true}
+use Rattle.std.proofs.lemmas.Bool.{cases_lt}
 use Rattle.std.proofs.lemmas.List.{length-append, length-map, get_or_append_left, get_or-append-add}
 use Rattle.std.proofs.lemmas.List.Concat.{flat_map-cons}
 use Rattle.std.proofs.lemmas.List.FromFn.{map-range_with_len_more}
@@ -11,33 +11,40 @@ use Rattle.std.proofs.lemmas.Grind.{flat_map-append}
 use Rattle.vpg_game.specs.Game.{unnamed}
 use Rattle.vpg_measure.specs.TwoGames.{top_for}
 use Rattle.vpg_sides.specs.declared.verdict.Verdict.{Verdict}
-use Rattle.vpg_trail.specs.Page.{Hopeful, Dual, Entry, literal_of, decisions_of, value_at, table_of}
+use Rattle.vpg_trail.specs.Page.{Decision, Hopeful, Dual, Entry, literal_of, decisions_of, value_at, table_of}
 use Rattle.vpg_trail.proofs.PageLemmas.{table_of-at}
-use Rattle.vpg_desk.specs.Book.{Family, Book, opened, Page, Reply, Changed, Undone, Redone, Spent, Ordered, Added, IsSettled, VerdictIs, PageIs, Refused, IsReply}
+use Rattle.vpg_desk.specs.Book.{Family, Book, Call, Order, opened, Page, Reply, Changed, Undone, Redone, Spent, Ordered, Added, IsSettled, VerdictIs, PageIs, Refused, IsReply}
 use Rattle.vpg_desk.specs.Desk.{family_of}
 use Rattle.vpg_desk.specs.Headline.{VerdictMeans}
 use Rattle.vpg_desk.specs.History.{Event, IsLegal, IsLegalFrom, book_after, page_after}
 use Rattle.vpg_desk.specs.Lawful.{IsLawful, AllHandIn}
 use Rattle.vpg_desk.specs.Setting.{IsSetting}
 use Rattle.vpg_desk.proofs.Whole.{reply_means}
-use Rattle.vpg_script.specs.declared.command.Claim.{Claim}
+use Rattle.vpg_script.specs.declared.look.Claim.{Claim}
+use Rattle.vpg_script.specs.declared.look.PageLook.{PageLook}
+use Rattle.vpg_script.specs.declared.look.PageLook.TheVariants as page_looks
 use Rattle.vpg_checking.specs.Behaviours.{Behaviour}
 use Rattle.vpg_script.specs.Script as script
-use Rattle.vpg_script.specs.Script.{Request, Said, said}
-use Rattle.vpg_script.specs.Answer.{Answer, done}
+use Rattle.vpg_script.specs.Script.{Request, Said, all_there, said}
+use Rattle.vpg_script.specs.Answer.{Answer, IsDone, done}
 use Rattle.vpg_script.specs.Output.{Speaks, Answered}
 use Rattle.vpg_script.proofs.Given.{is_done}
 use Rattle.vpg_texts.specs.Changed.{verdict_of, verdicts_below, unseen, seen_at, changed_text}
 use Rattle.vpg_texts.specs.Labels.{label_of, beside}
-use Rattle.vpg_texts.specs.Scene.{Scene, scene_of}
-use Rattle.vpg_texts.specs.Sights.{IsSeen, has_vertices, line_at, named_lines, verdicts_at, verdicts_answer}
+use Rattle.vpg_texts.specs.Scene.{Scene, IsShown, scene_of}
+use Rattle.vpg_texts.specs.Sights.{sight_lines, verdicts_answer}
 use Rattle.vpg_texts.specs.Text.{answer_line, blank_number, decisions_line, hopeless_text, sure_text, vertex_line, vertex_lines}
-use Rattle.vpg_answers.specs.Looked.{IsSeenIfLeft, asserts_verdicts}
-use Rattle.vpg_report.specs.Answers.{answer_limits, vertex_of, page_if, own_text, NoVertex, refusal_text, Follows, Asks, Sees, verdicts_on}
-use Rattle.vpg_report.specs.Held.{Held}
-use Rattle.vpg_report.specs.Requests.{Continues, Begins, Serves}
-use Rattle.vpg_report.specs.Run.{Between, begun, answering, as_meant, asking}
-use Rattle.vpg_report.specs.Setting.{setting_in}
+use Rattle.vpg_looks.specs.Looked.{TellsClaims}
+use Rattle.vpg_answers.specs.Told.{IsTold, Tells}
+use Rattle.vpg_answers.specs.Topics.{Topic, OfPage, OfVertices, OfClaims, places_of, takes_order, topic_of, topic_or}
+use Rattle.vpg_answers.specs.declared.topic.Missing.{Missing}
+use Rattle.vpg_answers.specs.declared.topic.Missing.TheVariants as missings
+use Rattle.vpg_engine.specs.Answers.{Own, answer_limits, own_of, vertex_of, own_text, refusal_text, Follows, Asks, verdicts_on}
+use Rattle.vpg_engine.specs.Held.{Held}
+use Rattle.vpg_engine.specs.Requests.{Continues, Begins, Serves, call_or_missing, first_call, sight_on}
+use Rattle.vpg_engine.specs.Line.{Between, begun}
+use Rattle.vpg_report.specs.Run.{answering, as_meant, asking}
+use Rattle.vpg_engine.specs.Setting.{setting_in}
 use Rattle.vpg_report.specs.Winners.{AreTrue, verdict_line, verdict_lines, SaysVerdicts, IsRefusal, NamesWinners, naming, AnswersNameWinners}
 use Rattle.vpg_report.proofs.Histories.{AreLawful, Calls, legal_more, after_more, all_more, line_of, speaks_calls}
 
@@ -53,9 +60,18 @@ last_of xs x v is = ap (seen_at (xs ++ x ∷ [])) (is ∙ zero_more (length xs))
     zero_more : (n : ℕ) → n ≡ n + 0
     zero_more n = omega arith
 
-both_true : (a b : Bool) → (a && b) ≡ true → (a ≡ true) × (b ≡ true)
-both_true true b e = (refl, e)
-both_true false b e = absurd (cc e)
+-- all of some values, if none is missing
+all_are : {X : Type 0} (found : List (Option X)) (xs : List X) → all_there found ≡ Some xs → found ≡ map Some xs
+all_are [] [] is = refl
+all_are [] (x ∷ xs) is = absurd (cc is)
+all_are (None ∷ found) xs is = absurd (cc is)
+all_are {X} (Some x ∷ found) xs is = go (all_there found) refl is (λ ys. all_are found ys)
+  where
+    go : (rest : Option (List X)) → all_there found ≡ rest → option_map (λ ys. x ∷ ys) rest ≡ Some xs → ((ys : List X) → all_there found ≡ Some ys → found ≡ map Some ys) → Some x ∷ found ≡ map Some xs
+    go None e none are = absurd (cc none)
+    go (Some ys) e some are =
+        let same : x ∷ ys ≡ xs = cc some in
+        ap (λ (r : List (Option X)). Some x ∷ r) (are ys e) ∙ ap (map Some) same
 
 module _ (scene : Scene) (page : List Entry) where
   abbrev hopeful : List ℕ
@@ -117,16 +133,9 @@ module _ (scene : Scene) (page : List Entry) where
       ∙ flat_map-append said_line (range_with_len 0 n) (n ∷ [])
       ∙ (λ k. range_lines n (omega (arith, le)) k ++ (flat_map-cons said_line n [] ∙ append-nil (said_line n) ∙ line_is n le) k)
 
-  -- a lookup that asserts no verdicts and is not `count` has the text that is seen
-  text_of : (lookup : script.Lookup) (answer : Answer) → asserts_verdicts lookup ≡ false → IsSeenIfLeft scene answer_limits lookup page (decisions_of page) hopeful dual answer → IsSeen scene lookup page (decisions_of page) hopeful dual answer
-  text_of lookup answer not (inl a) = absurd (false≢true (sym not ∙ a.0))
-  text_of lookup answer not (inr (inl a)) = absurd (false≢true (sym not ∙ a.0))
-  text_of lookup answer not (inr (inr a)) = a.1
-
   -- what `show` writes
-  show_says : length scene.identifiers ≡ length scene.game → (answer : Answer) → Sees scene script.Show page answer → SaysVerdicts scene (script.Look script.Show) (verdicts_on scene page) answer
-  show_says sized answer sees =
-      let seen = text_of script.Show answer refl sees in
+  show_says : length scene.identifiers ≡ length scene.game → (answer : Answer) → IsDone (IsShown scene (decisions_of page) hopeful dual) answer → SaysVerdicts scene (script.Looks (script.OfPage page_looks.Show)) (verdicts_on scene page) answer
+  show_says sized answer seen =
       let told = seen.1.1.1 in
       let head = decisions_line scene.names (map literal_of (decisions_of page)) ++ codes "full" ++ answer_line told.full ++ codes "settled" ++ answer_line told.settled in (
         head,
@@ -136,57 +145,38 @@ module _ (scene : Scene) (page : List Entry) where
             (ap (vertex_lines (top_for Hopeful scene.game) (top_for Dual scene.game) scene.identifiers scene.labels hopeful dual) sized ∙ sym (range_lines (length scene.game) (omega arith)))),
       )
 
-  abbrev lines_named : List script.Vertex → List ℕ
-  lines_named vertices = named_lines (top_for Hopeful scene.game) (top_for Dual scene.game) scene.identifiers scene.labels hopeful dual vertices
-
-  abbrev line_found : Option ℕ → List ℕ
-  line_found found = line_at (top_for Hopeful scene.game) (top_for Dual scene.game) scene.identifiers scene.labels hopeful dual found
-
-  -- the places of the vertices that are named
-  record Named (named : List script.Vertex) : Type 0 where
-    vertices : List ℕ
-    are : map (vertex_of scene) named ≡ map Some vertices
-    lines : lines_named named ≡ said_lines vertices
-
   vertex_inside : (named : script.Vertex) (v : ℕ) → vertex_of scene named ≡ Some v → v < length scene.identifiers
   vertex_inside (script.Numbered identifier) v is = (position-Some (λ (n : ℕ). n == identifier) scene.identifiers v 0 is).0
   vertex_inside (script.Named name) v is = absurd (cc is)
 
   module _ (sized : length scene.identifiers ≡ length scene.game) where
-    one_more : (vertex : script.Vertex) (named : List script.Vertex) → (found : Option ℕ) → vertex_of scene vertex ≡ found → is_some found ≡ true → Named named → Named (vertex ∷ named)
-    one_more vertex named None is some more = absurd (cc some)
-    one_more vertex named (Some v) is some more =
-        let within = vertex_inside vertex v is in
-        record {
-          vertices = v ∷ more.vertices;
-          are = λ k. is k ∷ more.are k;
-          lines = flat_map-cons (λ (x : script.Vertex). line_found (vertex_of scene x)) vertex named
-              ∙ (λ k. line_found (is k) ++ more.lines k)
-              ∙ ap (λ (l : List ℕ). l ++ said_lines more.vertices) (sym (line_is v (omega (arith, within, sized))))
-              ∙ sym (flat_map-cons said_line v more.vertices);
-        }
-
-    places_of : (named : List script.Vertex) → has_vertices scene.identifiers (script.Vertices named) ≡ true → Named named
-    places_of [] has = record { vertices = []; are = refl; lines = refl }
-    places_of (vertex ∷ named) has =
-        let b = both_true (is_some (vertex_of scene vertex)) (has_vertices scene.identifiers (script.Vertices named)) has in
-        one_more vertex named (vertex_of scene vertex) refl b.0 (places_of named b.1)
+    -- the lines of the vertices that are named
+    lines_said : (named : List script.Vertex) (vertices : List ℕ) → map (vertex_of scene) named ≡ map Some vertices → sight_lines scene hopeful dual vertices ≡ said_lines vertices
+    lines_said [] [] is = refl
+    lines_said [] (v ∷ vertices) is = absurd (cc is)
+    lines_said (vertex ∷ named) [] is = absurd (cc is)
+    lines_said (vertex ∷ named) (v ∷ vertices) is =
+        let here : vertex_of scene vertex ≡ Some v = cc is in
+        let rest : map (vertex_of scene) named ≡ map Some vertices = cc is in
+        let within = vertex_inside vertex v here in
+        flat_map-cons shown_line v vertices
+        ∙ (λ k. shown_line v ++ lines_said named vertices rest k)
+        ∙ ap (λ (l : List ℕ). l ++ said_lines vertices) (sym (line_is v (omega (arith, within, sized))))
+        ∙ sym (flat_map-cons said_line v vertices)
 
     -- what `show V ..` writes
-    named_says : (named : List script.Vertex) (answer : Answer) → has_vertices scene.identifiers (script.Vertices named) ≡ true → Sees scene (script.Vertices named) page answer →
-        SaysVerdicts scene (script.Look (script.Vertices named)) (verdicts_on scene page) answer
-    named_says named answer has sees =
-        let n = places_of named has in
-        let seen = text_of (script.Vertices named) answer refl sees in
-        (n.vertices, hopeful, dual, n.are, is_done answer _ seen.0 (seen.1 ∙ n.lines))
+    named_says : (named : List script.Vertex) (vertices : List ℕ) (answer : Answer) → places_of scene.identifiers named ≡ Some vertices → IsDone (λ text. text ≡ sight_lines scene hopeful dual vertices) answer →
+        SaysVerdicts scene (script.Looks (script.OfVertices named)) (verdicts_on scene page) answer
+    named_says named vertices answer is seen =
+        let are : map (vertex_of scene) named ≡ map Some vertices = all_are (map (vertex_of scene) named) vertices is in
+        (vertices, hopeful, dual, are, is_done answer _ seen.0 (seen.1 ∙ lines_said named vertices are))
 
     -- what `assert V ..` writes
-    assert_says : (vertex : script.Vertex) (claims : List Claim) (answer : Answer) → (found : Option ℕ) → vertex_of scene vertex ≡ found → is_some found ≡ true → Sees scene (script.Assert (script.Verdicts vertex claims)) page answer →
-        SaysVerdicts scene (script.Look (script.Assert (script.Verdicts vertex claims))) (verdicts_on scene page) answer
-    assert_says vertex claims answer None is some sees = absurd (cc some)
-    assert_says vertex claims answer (Some v) is some (inl none) = inr (inl none.2)
-    assert_says vertex claims answer (Some v) is some (inr (inl short)) = inr (inr short.2)
-    assert_says vertex claims answer (Some v) is some (inr (inr sees)) =
+    assert_says : (vertex : script.Vertex) (claims : List Claim) (v : ℕ) (answer : Answer) → vertex_of scene vertex ≡ Some v → TellsClaims scene answer_limits v claims (decisions_of page) hopeful dual answer →
+        SaysVerdicts scene (script.Looks (script.OfClaims vertex claims)) (verdicts_on scene page) answer
+    assert_says vertex claims v answer is (inl none) = inr (inl none.1)
+    assert_says vertex claims v answer is (inr (inl short)) = inr (inr short.1)
+    assert_says vertex claims v answer is (inr (inr sees)) =
         let told = sees.1.1.1 in
         let within = vertex_inside vertex v is in
         let inside : v < length scene.game = omega (arith, within, sized) in
@@ -195,7 +185,6 @@ module _ (scene : Scene) (page : List Entry) where
           told.settled,
           is,
           told.text_is
-              ∙ ap (verdicts_at (top_for Hopeful scene.game) (top_for Dual scene.game) hopeful dual told.settled claims) is
               ∙ (λ k. verdicts_answer told.settled ((sym (at_page v inside)) k).hopeless ((sym (at_page v inside)) k).sure claims),
         )
 
@@ -230,35 +219,47 @@ module _ (behaviour : Option Behaviour) (scene : Scene) where
   page_told book page (None, (refuses, told)) = cc told
   page_told book page (Some r, (refuses, told)) = absurd (cc told)
 
-  module _ (book : Book) (held : Held) (made label : ℕ) (lookup : script.Lookup) where
-    replied : (reply : Reply) (calls : List Event) (answer : Answer) (new : Held) → IsReply F book Page reply → Follows scene held (Continues behaviour scene held made label (script.Look lookup)) reply calls answer new →
-        IsRefusal answer ⊎ Sees scene lookup book.present answer
+  module _ (book : Book) (held : Held) (made label : ℕ) (look : script.Look) (topic : Topic) (of : topic_of behaviour scene look ≡ Ok topic) where
+    abbrev ToldHere : Answer → Type 0
+    ToldHere answer = IsTold behaviour scene answer_limits topic (sight_on scene book.present) answer
+
+    told_here : (page : List Entry) (answer : Answer) (other : Topic) → page ≡ book.present → topic_of behaviour scene look ≡ Ok other → IsTold behaviour scene answer_limits other (sight_on scene page) answer → ToldHere answer
+    told_here page answer other page_is also told =
+        let same : other ≡ topic = cc (of, also) in
+        coe 0 1 (k. IsTold behaviour scene answer_limits (same k) (sight_on scene (page_is k)) answer) told
+
+    no_order : (decisions : List Decision) (h u : List ℕ) → IsReply F book Page (Ordered decisions h u) → ⊥
+    no_order decisions h u (None, (refuses, told)) = absurd (cc told)
+    no_order decisions h u (Some r, (refuses, told)) = absurd (cc told)
+
+    replied : (reply : Reply) (calls : List Event) (answer : Answer) (new : Held) → IsReply F book Page reply → Follows scene held (Continues behaviour scene held made label (script.Looks look)) reply calls answer new →
+        IsRefusal answer ⊎ ToldHere answer
     replied (Refused r) calls answer new told so = inl (refusal_text scene.names r, so.1)
     replied (Changed s) calls answer new told so = absurd so
     replied (Undone s) calls answer new told so = absurd so
     replied (Redone s) calls answer new told so = absurd so
     replied Spent calls answer new told so = absurd so
-    replied (Ordered d h u) calls answer new told so = absurd so
+    replied (Ordered d h u) calls answer new told so = absurd (no_order d h u told)
     replied (Added n) calls answer new told so = absurd so
     replied (IsSettled b) calls answer new told so = absurd so
     replied (VerdictIs a b) calls answer new told so = absurd so
-    replied (PageIs page) calls answer new told so = inr (subst (λ (p : List Entry). Sees scene lookup p answer) (page_told book page told) so.0)
+    replied (PageIs page) calls answer new told so = inr (told_here page answer so.0.0 (page_told book page told) so.0.1.0 so.0.1.1)
 
-    asked : (before : ℕ) (calls : List Event) (answer : Answer) (new : Held) → IsLegalFrom F book calls → Asks scene held before label Page (Continues behaviour scene held made label (script.Look lookup)) calls answer new →
-        IsRefusal answer ⊎ Sees scene lookup book.present answer
+    asked : (before : ℕ) (calls : List Event) (answer : Answer) (new : Held) → IsLegalFrom F book calls → Asks scene held before label Page (Continues behaviour scene held made label (script.Looks look)) calls answer new →
+        IsRefusal answer ⊎ ToldHere answer
     asked before calls answer new legal (inr (full, so)) = inl (codes "LogFull", so.1)
     asked before [] answer new legal (inl (less, so)) = absurd so
     asked before (e ∷ calls) answer new legal (inl (less, so)) =
         replied e.reply calls answer new (subst (λ c. IsReply F book c e.reply) so.1 legal.0) so.2
 
-  looked : (book : Book) (held : Held) (made label : ℕ) (lookup : script.Lookup) (has : Bool) (calls : List Event) (answer : Answer) (new : Held) → IsLegalFrom F book calls →
-      Begins behaviour scene held made label (script.Look lookup) (page_if has) calls answer new → IsRefusal answer ⊎ ((has ≡ true) × Sees scene lookup book.present answer)
-  looked book held made label lookup false calls answer new legal so = inl (own_text NoVertex, so.1)
-  looked book held made label lookup true calls answer new legal so = seen (asked book held (made + 1) label lookup made calls answer new legal so)
-    where
-      seen : IsRefusal answer ⊎ Sees scene lookup book.present answer → IsRefusal answer ⊎ ((true ≡ true) × Sees scene lookup book.present answer)
-      seen (inl why) = inl why
-      seen (inr sees) = inr (refl, sees)
+  -- a look that takes the page
+  looked : (book : Book) (held : Held) (made label : ℕ) (look : script.Look) (topic : Topic) → topic_of behaviour scene look ≡ Ok topic → takes_order topic ≡ false →
+      (calls : List Event) (answer : Answer) (new : Held) → IsLegalFrom F book calls →
+      Begins behaviour scene held made label (script.Looks look) (first_call behaviour scene held (script.Looks look)) calls answer new → IsRefusal answer ⊎ IsTold behaviour scene answer_limits topic (sight_on scene book.present) answer
+  looked book held made label look topic of page calls answer new legal so =
+      let first : first_call behaviour scene held (script.Looks look) ≡ Ok Page = ap call_or_missing of ∙ ap (λ (b : Bool). Ok (if b then Order else Page)) page in
+      asked book held (made + 1) label look topic of made calls answer new legal
+      (subst (λ (f : Result Call Own). Begins behaviour scene held made label (script.Looks look) f calls answer new) first so)
 
   -- ---- lines
 
@@ -293,29 +294,42 @@ module _ (behaviour : Option Behaviour) (scene : Scene) where
     by_page command answer (inl why) = inl why
     by_page command answer (inr says) = inr (verdicts_on scene book.present, are, says)
 
-    -- of what is looked at
-    seen : (lookup : script.Lookup) (answer : Answer) → (has_vertices scene.identifiers lookup ≡ true → Sees scene lookup book.present answer → SaysVerdicts scene (script.Look lookup) (verdicts_on scene book.present) answer) →
-        (calls : List Event) (new : Held) → IsLegalFrom F book calls → Serves behaviour scene held made (record { label = label; command = script.Look lookup }) calls answer new → Names (script.Look lookup) answer
-    seen lookup answer says calls new legal so = of (looked book held made label lookup (has_vertices scene.identifiers lookup) calls answer new legal so)
+    -- of a look that takes the page
+    seen : (look : script.Look) (topic : Topic) (answer : Answer) → topic_of behaviour scene look ≡ Ok topic → takes_order topic ≡ false →
+        (Tells behaviour scene answer_limits topic (sight_on scene book.present) answer → SaysVerdicts scene (script.Looks look) (verdicts_on scene book.present) answer) →
+        (calls : List Event) (new : Held) → IsLegalFrom F book calls → Serves behaviour scene held made (record { label = label; command = script.Looks look }) calls answer new → Names (script.Looks look) answer
+    seen look topic answer is page says calls new legal so = of (looked book held made label look topic is page calls answer new legal so)
       where
-        of : IsRefusal answer ⊎ ((has_vertices scene.identifiers lookup ≡ true) × Sees scene lookup book.present answer) → Names (script.Look lookup) answer
+        of : IsRefusal answer ⊎ IsTold behaviour scene answer_limits topic (sight_on scene book.present) answer → Names (script.Looks look) answer
         of (inl why) = inl why
-        of (inr sees) = inr (verdicts_on scene book.present, are, says sees.0 sees.1)
+        of (inr told) = inr (verdicts_on scene book.present, are, says told.tells)
+
+    -- of a look for which something is missing
+    lacks : (look : script.Look) (missing : Missing) (answer : Answer) → topic_of behaviour scene look ≡ Err missing →
+        (calls : List Event) (new : Held) → Serves behaviour scene held made (record { label = label; command = script.Looks look }) calls answer new → Names (script.Looks look) answer
+    lacks look missing answer is calls new so =
+        inl (own_text (own_of missing), (subst (λ (f : Result Call Own). Begins behaviour scene held made label (script.Looks look) f calls answer new) (ap call_or_missing is) so).1)
+
+    names_vertices : (named : List script.Vertex) (found : Option (List ℕ)) → places_of scene.identifiers named ≡ found → (calls : List Event) (answer : Answer) (new : Held) → IsLegalFrom F book calls →
+        Serves behaviour scene held made (record { label = label; command = script.Looks (script.OfVertices named) }) calls answer new → Names (script.Looks (script.OfVertices named)) answer
+    names_vertices named None is calls answer new legal so = lacks (script.OfVertices named) missings.Vertex answer (ap (topic_or missings.Vertex OfVertices) is) calls new so
+    names_vertices named (Some vertices) is calls answer new legal so =
+        seen (script.OfVertices named) (OfVertices vertices) answer (ap (topic_or missings.Vertex OfVertices) is) refl (λ told. named_says scene book.present sized named vertices answer is told) calls new legal so
+
+    names_claims : (vertex : script.Vertex) (claims : List Claim) (found : Option ℕ) → vertex_of scene vertex ≡ found → (calls : List Event) (answer : Answer) (new : Held) → IsLegalFrom F book calls →
+        Serves behaviour scene held made (record { label = label; command = script.Looks (script.OfClaims vertex claims) }) calls answer new → Names (script.Looks (script.OfClaims vertex claims)) answer
+    names_claims vertex claims None is calls answer new legal so =
+        lacks (script.OfClaims vertex claims) missings.Vertex answer (ap (topic_or missings.Vertex (λ (v : ℕ). OfClaims v claims)) is) calls new so
+    names_claims vertex claims (Some v) is calls answer new legal so =
+        seen (script.OfClaims vertex claims) (OfClaims v claims) answer (ap (topic_or missings.Vertex (λ (v : ℕ). OfClaims v claims)) is) refl (λ told. assert_says scene book.present sized vertex claims v answer is told) calls new legal so
+
+    names_page : (look : PageLook) (calls : List Event) (answer : Answer) (new : Held) → IsLegalFrom F book calls → Serves behaviour scene held made (record { label = label; command = script.Looks (script.OfPage look) }) calls answer new →
+        Names (script.Looks (script.OfPage look)) answer
+    names_page page_looks.Show calls answer new legal so = seen (script.OfPage page_looks.Show) (OfPage page_looks.Show) answer refl refl (λ told. show_says scene book.present sized answer told) calls new legal so
+    names_page other calls answer new legal so = by_page (script.Looks (script.OfPage other)) answer (inr tt)
 
     names : (command : script.Command) (calls : List Event) (answer : Answer) (new : Held) → IsLegalFrom F book calls → Serves behaviour scene held made (record { label = label; command = command }) calls answer new → Names command answer
-    names (script.Look script.Show) calls answer new legal so = seen script.Show answer (λ has sees. show_says scene book.present sized answer sees) calls new legal so
-    names (script.Look (script.Vertices named)) calls answer new legal so =
-        seen (script.Vertices named) answer (λ has sees. named_says scene book.present sized named answer has sees) calls new legal so
-    names (script.Look (script.Assert (script.Verdicts vertex claims))) calls answer new legal so =
-        seen (script.Assert (script.Verdicts vertex claims)) answer (λ has sees. assert_says scene book.present sized vertex claims answer (vertex_of scene vertex) refl has sees) calls new legal so
     names script.Changed calls answer new legal so = by_page script.Changed answer (changed book held made (made + 1) label calls answer new legal so)
-    names (script.Look (script.Assert script.Full)) calls answer new legal so = by_page (script.Look (script.Assert script.Full)) answer (inr tt)
-    names (script.Look (script.Assert script.Settled)) calls answer new legal so = by_page (script.Look (script.Assert script.Settled)) answer (inr tt)
-    names (script.Look script.Trail) calls answer new legal so = by_page (script.Look script.Trail) answer (inr tt)
-    names (script.Look script.Products) calls answer new legal so = by_page (script.Look script.Products) answer (inr tt)
-    names (script.Look script.Plan) calls answer new legal so = by_page (script.Look script.Plan) answer (inr tt)
-    names (script.Look script.Count) calls answer new legal so = by_page (script.Look script.Count) answer (inr tt)
-    names (script.Look script.Draw) calls answer new legal so = by_page (script.Look script.Draw) answer (inr tt)
     names (script.Select name) calls answer new legal so = by_page (script.Select name) answer (inr tt)
     names (script.Exclude name) calls answer new legal so = by_page (script.Exclude name) answer (inr tt)
     names (script.Retract name) calls answer new legal so = by_page (script.Retract name) answer (inr tt)
@@ -328,8 +342,12 @@ module _ (behaviour : Option Behaviour) (scene : Scene) where
     names script.Harvest calls answer new legal so = by_page script.Harvest answer (inr tt)
     names (script.Commit k) calls answer new legal so = by_page (script.Commit k) answer (inr tt)
     names (script.Settle n) calls answer new legal so = by_page (script.Settle n) answer (inr tt)
-    names (script.Known name) calls answer new legal so = by_page (script.Known name) answer (inr tt)
-    names (script.Ask inquiry) calls answer new legal so = by_page (script.Ask inquiry) answer (inr tt)
+    names (script.Looks (script.OfPage look)) calls answer new legal so = names_page look calls answer new legal so
+    names (script.Looks (script.OfVertices named)) calls answer new legal so = names_vertices named (places_of scene.identifiers named) refl calls answer new legal so
+    names (script.Looks (script.OfClaims vertex claims)) calls answer new legal so = names_claims vertex claims (vertex_of scene vertex) refl calls answer new legal so
+    names (script.Looks (script.OfVertex look vertex)) calls answer new legal so = by_page (script.Looks (script.OfVertex look vertex)) answer (inr tt)
+    names (script.Looks (script.OfFeature look name)) calls answer new legal so = by_page (script.Looks (script.OfFeature look name)) answer (inr tt)
+    names (script.Looks (script.OfChoice value name)) calls answer new legal so = by_page (script.Looks (script.OfChoice value name)) answer (inr tt)
 
   -- the history so far
   record IsSoFar (old : Between) (before : List Event) : Type 0 where

@@ -10,7 +10,7 @@ use Rattle.vpg_steps.specs.Steps.{FindsPath}
 use Rattle.vpg_script.specs.Calling.{meant}
 use Rattle.vpg_script.specs.Script as commands
 use Rattle.vpg_script.specs.Script.{Request, said}
-use Rattle.vpg_script.specs.declared.command.VertexQuestion.TheVariants as questions
+use Rattle.vpg_script.specs.declared.look.VertexLook.TheVariants as vertex_looks
 use Rattle.vpg_script.specs.declared.serving.Ending.{Ending}
 use Rattle.vpg_family.specs.Pages.{IsPageDrawn}
 use Rattle.vpg_family.specs.Systems.{IsSystemFault, IsSystemOn}
@@ -19,12 +19,11 @@ use Rattle.vpg_family.specs.declared.fault.Fault.{Fault}
 use Rattle.vpg_family.specs.declared.known.Context.{Context}
 use Rattle.vpg_texts.specs.Changed.{verdicts_by}
 use Rattle.vpg_texts.specs.Scene.{Scene}
-use Rattle.vpg_answers.specs.Answers.{page_in}
-use Rattle.vpg_answers.specs.declared.query.Query.TheVariants as queries
-use Rattle.vpg_report.specs.Answers.{answer_limits}
+use Rattle.vpg_looks.specs.Answers.{page_in}
+use Rattle.vpg_answers.specs.Topics.{OfVertex, topic_of}
+use Rattle.vpg_engine.specs.Answers.{answer_limits}
 use Rattle.vpg_report.specs.Left.{LeavesBook, IsUnleft, table_left}
-use Rattle.vpg_report.specs.Line.{Between}
-use Rattle.vpg_report.specs.Requests.{query_of}
+use Rattle.vpg_engine.specs.Line.{Between}
 use Rattle.vpg_report.specs.Run.{Called, called_in}
 
 -- the page with these decisions is drawn, with the verdicts by these tables
@@ -62,8 +61,8 @@ tracing_line word = codes "trace " ++ word
 
 -- the command asks for the trace of the vertex at this place
 abbrev pub AsksTrace : Option Behaviour → Scene → commands.Command → ℕ → Type 0
-AsksTrace behaviour scene (commands.Ask inquiry) vertex =
-    query_of behaviour scene inquiry ≡ Ok (queries.OfVertex questions.Trace vertex)
+AsksTrace behaviour scene (commands.Looks look) vertex =
+    topic_of behaviour scene look ≡ Ok (OfVertex vertex_looks.Trace vertex)
 AsksTrace behaviour scene command vertex = ⊥
 
 -- so does the request, as it is meant

@@ -15,9 +15,9 @@ use Rattle.vpg_script.specs.declared.serving.Ending.{Ending}
 use Rattle.vpg_family.specs.declared.known.Context.{Context}
 use Rattle.vpg_family.specs.declared.fault.Fault.{Fault}
 use Rattle.vpg_family.specs.declared.fault.Fault.TheVariants.{LogFull}
-use Rattle.vpg_report.specs.Answers.{room}
-use Rattle.vpg_report.specs.Line.{Between}
-use Rattle.vpg_report.specs.Run.{answering_called, begun, called_in}
+use Rattle.vpg_engine.specs.Answers.{room}
+use Rattle.vpg_engine.specs.Line.{Between, begun}
+use Rattle.vpg_report.specs.Run.{answering_called, called_in}
 use Rattle.vpg_report.specs.Runs.{Ends, IsRun}
 
 -- each line is answered with its text, and a fault ends the script

@@ -1,15 +1,3 @@
-pub mod Client
-pub mod Faults
-pub mod Answers
-pub mod Engine
-pub mod EngineFields
-pub mod Held
-pub mod Made
-pub mod Line
-pub mod Serials
-pub mod Setting
-pub mod Requests
-pub mod Server
 pub mod Output
 pub mod Results
 pub mod Run

@@ -3,11 +3,12 @@ use Rattle.std.specs.Prelude.{◌≡◌, ℕ, ◌+◌, Option, List, [], ◌++�
 use Rattle.vpg_desk.specs.History.{Event, IsLegalFrom, book_after}
 use Rattle.vpg_desk.specs.Desk.{family_of}
 use Rattle.vpg_desk.specs.State.{IsHistoryOf}
-use Rattle.vpg_report.specs.Engine.{EngineState}
-use Rattle.vpg_report.specs.Held.{Held, nothing_held}
-use Rattle.vpg_report.specs.Made.{AreMadeBy}
-pub use Rattle.vpg_report.specs.Line.{Between, begun}
-use Rattle.vpg_report.specs.Setting.{setting_in}
+use Rattle.vpg_engine.specs.Engine.{EngineState}
+use Rattle.vpg_engine.specs.Held.{Held, nothing_held}
+use Rattle.vpg_engine.specs.Made.{AreMadeBy}
+use Rattle.vpg_engine.specs.Line.{Between, begun}
+use Rattle.vpg_engine.specs.Requests.{Serves}
+use Rattle.vpg_engine.specs.Setting.{setting_in}
 use Rattle.vpg_script.specs.Answer.{Answer}
 use Rattle.vpg_script.specs.Output.{Machine, Answered}
 use Rattle.vpg_diagram.specs.DiagramText.{NamedDiagram}
@@ -17,7 +18,6 @@ use Rattle.vpg_family.specs.declared.known.Context.{Context}
 use Rattle.vpg_script.specs.Calling.{Calling, meant}
 use Rattle.vpg_script.specs.Script.{Request}
 use Rattle.vpg_texts.specs.Scene.{Scene, scene_of}
-use Rattle.vpg_report.specs.Requests.{Serves}
 
 -- If the game was made of this, a request makes calls, each with the reply that the book gives at that point. It has
 -- this answer, and leaves the book after the calls.

@@ -7,10 +7,10 @@ use Rattle.vpg_desk.specs.State.{IsOpened}
 use Rattle.vpg_faults.specs.declared.fault.OpenFault.{OpenFault}
 use Rattle.vpg_faults.specs.declared.fault.OpenFault.TheVariants as opens
 use Rattle.vpg_family.specs.Families.{TellsConflict}
-use Rattle.vpg_report.specs.Server.{IsOpenRefusal}
 use Rattle.vpg_report.specs.Output.{OutcomeAs}
-use Rattle.vpg_report.specs.Results.{Opens}
-use Rattle.vpg_report.specs.Run.{answering_called, called_in, begun}
+use Rattle.vpg_report.specs.Results.{IsOpenRefusal, Opens}
+use Rattle.vpg_engine.specs.Line.{begun}
+use Rattle.vpg_report.specs.Run.{answering_called, called_in}
 use Rattle.vpg_family.specs.declared.known.Context.{Context}
 use Rattle.vpg_script.specs.declared.fault.RunFault.{RunFault}
 use Rattle.vpg_script.specs.declared.fault.RunFault.TheVariants as stops

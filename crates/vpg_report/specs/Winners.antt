@@ -8,6 +8,7 @@ use Rattle.vpg_trail.specs.Page.{Entry}
 use Rattle.vpg_desk.specs.Headline.{VerdictMeans}
 use Rattle.vpg_desk.specs.State.{IsOpened}
 use Rattle.vpg_checking.specs.Behaviours.{Behaviour}
+use Rattle.vpg_script.specs.declared.look.PageLook.TheVariants as page_looks
 use Rattle.vpg_script.specs.Script as script
 use Rattle.vpg_script.specs.Script.{Request}
 use Rattle.vpg_script.specs.Answer.{Answer, done, refused}
@@ -17,10 +18,11 @@ use Rattle.vpg_texts.specs.Labels.{label_of, beside}
 use Rattle.vpg_texts.specs.Scene.{Scene, scene_of}
 use Rattle.vpg_texts.specs.Sights.{verdicts_answer}
 use Rattle.vpg_texts.specs.Text.{blank_number, hopeless_text, sure_text}
-use Rattle.vpg_answers.specs.Asserted.{failing}
-use Rattle.vpg_report.specs.Answers.{vertex_of}
-use Rattle.vpg_report.specs.Run.{Between, begun, answering, as_meant}
-use Rattle.vpg_report.specs.Setting.{setting_in}
+use Rattle.vpg_looks.specs.Asserted.{failing}
+use Rattle.vpg_engine.specs.Answers.{vertex_of}
+use Rattle.vpg_engine.specs.Line.{Between, begun}
+use Rattle.vpg_report.specs.Run.{answering, as_meant}
+use Rattle.vpg_engine.specs.Setting.{setting_in}
 
 -- The verdicts of all vertices are true of the page: from a hopeless one Odd wins in every product left, from a sure
 -- one Even does, and none is both.
@@ -44,16 +46,16 @@ verdict_lines scene hopeful dual verdicts vertices = flat_map (verdict_line scen
 -- The answer to a command says these verdicts of vertices.
 abbrev pub SaysVerdicts : Scene → script.Command → List Verdict → Answer → Type 0
 -- it ends with a line for each vertex
-SaysVerdicts scene (script.Look script.Show) verdicts answer =
+SaysVerdicts scene (script.Looks (script.OfPage page_looks.Show)) verdicts answer =
     (head : List ℕ) × (hopeful : List ℕ) × (dual : List ℕ) ×
     (answer ≡ done (head ++ verdict_lines scene hopeful dual verdicts (range_with_len 0 (length scene.game))))
 -- it has a line for each of the vertices that are named
-SaysVerdicts scene (script.Look (script.Vertices named)) verdicts answer =
+SaysVerdicts scene (script.Looks (script.OfVertices named)) verdicts answer =
     (vertices : List ℕ) × (hopeful : List ℕ) × (dual : List ℕ) ×
     (map (vertex_of scene) named ≡ map Some vertices) ×
     (answer ≡ done (verdict_lines scene hopeful dual verdicts vertices))
 -- it compares the vertex's verdict with the asserted ones, or fails since no product was found
-SaysVerdicts scene (script.Look (script.Assert (script.Verdicts named claims))) verdicts answer =
+SaysVerdicts scene (script.Looks (script.OfClaims named claims)) verdicts answer =
     ((v : ℕ) × (settled : Bool) × (vertex_of scene named ≡ Some v) ×
     (answer ≡ verdicts_answer settled (seen_at verdicts v).hopeless (seen_at verdicts v).sure claims))
     ⊎ (answer ≡ failing (codes "empty")) ⊎ (answer ≡ failing (codes "unsettled"))

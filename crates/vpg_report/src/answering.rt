@@ -1,69 +1,28 @@
-//! A server of scripts: an engine, with questions about the page.
+//! A server of scripts: an engine, in a context of lines.
 ghost use Rattle.std.specs.Prelude.{◌≡◌, ◌≤◌, IfOk, IsErrOf, OnOk};
 ghost use Rattle.std.specs.Thread.{IsSync};
-ghost use Rattle.vpg_report.specs.Faults.{IsAstray};
-ghost use Rattle.vpg_report.specs.Server.{AnswersTo};
-ghost use Rattle.vpg_report.specs.Engine.{between_of};
+ghost use Rattle.vpg_engine.specs.Faults.{IsAstray};
+ghost use Rattle.vpg_engine.specs.Engine.{between_of};
 ghost use Rattle.vpg_script.specs.Answer.{Gives};
-ghost use Rattle.vpg_script.specs.Script.{Ask};
-ghost use Rattle.vpg_script.specs.View.{inquiry_shown, request_shown};
+ghost use Rattle.vpg_script.specs.View.{request_shown};
 
-use crate::asking::query_of;
-use crate::engine::Engine;
-use crate::lines::{put_missing, put_unanswered};
 use std::alloc::Global;
 use std::sync::Wait;
 use std::thread::Threads;
+use vpg_engine::Engine;
 use vpg_family::Context;
 use vpg_office::Terms;
-use vpg_script::{Command, Inquiry, Request, ServeFault, Server, Tone, meant};
-use vpg_why::Limits;
+use vpg_script::{Command, Request, ServeFault, Server, Tone, meant};
 
-/// The limits of a question about the page. The bounds of a trial's table may look at 2^27 edges and vertices; if they
-/// do not settle it, it has 1,000 rounds of lifts. A search has 10,000 trials.
-pub(crate) const LIMITS: Limits = Limits {
-    budget: 134_217_728,
-    rounds: 1_000,
-    trials: 10_000,
-};
-
-/// Answers a question about the present page.
-fn ask<L: Terms, R: Wait>(
-    engine: &mut Engine<L>,
-    rt: &R,
-    alloc: Global,
-    session: u32,
-    context: &Context,
-    inquiry: Inquiry<'_>,
-    out: &mut Vec<u8>,
-) -> Result<Tone, ServeFault>
-    ensures answer { IfOk result (λ tone. AnswersTo context.now.labels.names context.now.behaviour engine.old
-        (record { label = session; command = Ask (inquiry_shown inquiry.entry) }) tone
-        out.old.items out.new.items engine.new) }
-    ensures strayed { IsErrOf result ServeFault.Stray → IsAstray engine.old.client session engine.new.client }
-{
-    let query = match query_of(&context.behaviour, engine.game(), engine.diagram(), inquiry) {
-        Ok(query) => query,
-        Err(what) => return put_missing(what, out),
-    };
-    let order = match engine.order(rt, alloc, session) {
-        Ok(order) => order,
-        Err(fault) => return put_unanswered(fault, out),
-    };
-    let (labels, behaviour) = (&context.labels, &context.behaviour);
-    let tone = vpg_answers::answer(alloc, order, labels, behaviour, query, LIMITS, out)?;
-    Ok(tone)
-}
-
-/// An engine that also answers questions about the page, with the context of lines. It can't be dropped, as the engine
-/// can't.
+/// An engine in the context of lines. It can't be dropped, as the engine can't.
 pub(crate) struct Answering<'c, L: Terms> {
     pub(crate) engine: Engine<L>,
     pub(crate) context: &'c Context,
 }
 
 impl<L: Terms> Server for Answering<'_, L> {
-    ghost use Rattle.vpg_report.specs.Run.{Between, Called, answering_called, called_by};
+    ghost use Rattle.vpg_engine.specs.Line.{Between};
+    ghost use Rattle.vpg_report.specs.Run.{Called, answering_called, called_by};
 
     ghost Scene = { Called };
 
@@ -75,7 +34,7 @@ impl<L: Terms> Server for Answering<'_, L> {
 
     ghost state = { λ a. between_of a.engine };
 
-    /// Carries a request out, as it is meant in the context: by calls of the engine, or as a question about the page.
+    /// Carries a request out, as it is meant in the context.
     fn serve<T: Threads + Wait + Sync>(
         &mut self,
         rt: &T,
@@ -119,12 +78,8 @@ impl<L: Terms> Server for Answering<'_, L> {
                 self.engine
                     .settle(rt, alloc, session, *sweeps, lifters, out)
             }
-            Command::Look(lookup) => self.engine.look(rt, alloc, session, labels, lookup, out),
             Command::Changed => self.engine.changed(rt, alloc, session, labels, out),
-            Command::Known(name) => self.engine.known(rt, alloc, session, *name, out),
-            Command::Ask(inquiry) => {
-                ask(&mut self.engine, rt, alloc, session, context, *inquiry, out)
-            }
+            Command::Look(look) => self.engine.look(rt, alloc, session, context, look, out),
         }
     }
 }

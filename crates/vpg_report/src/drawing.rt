@@ -1,7 +1,7 @@
 //! Pictures of a family on the page that a script leaves.
 ghost use Rattle.std.specs.Arc.{arc_value};
 ghost use Rattle.std.specs.Prelude.{[], ◌≡◌, ◌<◌, length, IfErr, IfOk, IfSome};
-ghost use Rattle.vpg_answers.specs.Answers.{IsOver};
+ghost use Rattle.vpg_looks.specs.Answers.{IsOver};
 ghost use Rattle.vpg_diagram.specs.FeatureDiagram.{feature_count};
 ghost use Rattle.vpg_game.specs.Game.{graph_of};
 ghost use Rattle.vpg_report.specs.Draws.{tracing_line, AsksTrace, FindsTrail, IsDrawnAfter, IsDrawnOn, IsSystemDrawnAfter, IsSystemUndrawnAfter, IsTracedAfter, IsTracedOn, LineAsksTrace, RequestAsksTrace};
@@ -12,20 +12,18 @@ ghost use Rattle.vpg_texts.specs.Changed.{verdicts_by};
 ghost use Rattle.vpg_texts.specs.Scene.{scene_of};
 ghost use Rattle.vpg_trace.specs.Answering.{page_of};
 
-use crate::answering::LIMITS;
-use crate::asking::query_of;
 use crate::leaving::page_after;
-use crate::lines::{Missing, put_missing};
 use std::alloc::{AllocError, Global};
 use std::sync::Wait;
 use std::thread::Threads;
-use vpg_answers::Query;
+use vpg_answers::{Missing, Topic, topic_of};
 use vpg_checking::Behaviour;
 use vpg_diagram::Diagram;
+use vpg_engine::{LIMITS, put_missing};
 use vpg_family::{Context, Family, Fault, Subject, Texts, page_drawn, system_on};
 use vpg_game::GuardedGame;
 use vpg_measure::Order;
-use vpg_script::{Command, Ending, ReadFault, Request, VertexQuestion, meant, read_line};
+use vpg_script::{Command, Ending, ReadFault, Request, VertexLook, meant, read_line};
 use vpg_sides::Verdict;
 use vpg_steps::path_at;
 use vpg_system_draw::Path;
@@ -141,28 +139,24 @@ fn refused(alloc: Global, missing: Missing) -> Fault {
 
 /// Returns the vertex for whose trace a command asks, `None` if it asks for something else.
 fn vertex_asked(
+    alloc: Global,
     behaviour: &Option<Behaviour>,
     game: &GuardedGame,
     diagram: &Diagram,
     command: &Command<'_>,
-) -> Result<Option<u32>, Missing>
-    ensures asked { IfOk result (λ vertex. IfSome vertex
-        (AsksTrace behaviour.now (scene_of [] game.now diagram.now) (command_shown command.now))) }
-    ensures within { IfOk result (λ vertex. IfSome vertex
-        (λ v. (v < length game.now.vertices) × IsOver (length diagram.now.names) behaviour.now)) }
+) -> Result<Result<Option<u32>, Missing>, AllocError>
+    ensures asked { IfOk result (λ found. IfOk found (λ vertex. IfSome vertex
+        (AsksTrace behaviour.now (scene_of [] game.now diagram.now) (command_shown command.now)))) }
+    ensures within { IfOk result (λ found. IfOk found (λ vertex. IfSome vertex
+        (λ v. (v < length game.now.vertices) × IsOver (length diagram.now.names) behaviour.now))) }
 {
     match command {
-        Command::Ask(inquiry) => match query_of(behaviour, game, diagram, *inquiry) {
-            Ok(
-                Query::OfVertex {
-                    question: VertexQuestion::Trace,
-                    vertex,
-                },
-            ) => Ok(Some(vertex)),
-            Ok(_) => Ok(None),
-            Err(missing) => Err(missing),
+        Command::Look(look) => match topic_of(alloc, behaviour, game, diagram, look)? {
+            Ok(Topic::OfVertex(VertexLook::Trace, vertex)) => Ok(Ok(Some(vertex))),
+            Ok(_) => Ok(Ok(None)),
+            Err(missing) => Ok(Err(missing)),
         },
-        _ => Ok(None),
+        _ => Ok(Ok(None)),
     }
 }
 
@@ -180,7 +174,13 @@ fn vertex_meant(
 {
     let diagram = order.diagram();
     let said = meant(alloc, &context.callings, diagram.names(), request)?;
-    match vertex_asked(&context.behaviour, order.game(), diagram, &said.command) {
+    match vertex_asked(
+        alloc,
+        &context.behaviour,
+        order.game(),
+        diagram,
+        &said.command,
+    )? {
         Ok(Some(vertex)) => Ok(vertex),
         Ok(None) => Err(untraced(alloc, b"")),
         Err(missing) => Err(refused(alloc, missing)),

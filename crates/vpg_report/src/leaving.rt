@@ -2,14 +2,12 @@
 ghost use Rattle.std.specs.Arc.{arc_value};
 ghost use Rattle.std.specs.Prelude.{◌≡◌, ◌⊎◌, Some, None, false, IfOk, IfErr};
 ghost use Rattle.vpg_diagram.specs.FeatureDiagram.{feature_count};
-ghost use Rattle.vpg_report.specs.Engine.{between_of};
+ghost use Rattle.vpg_engine.specs.Engine.{between_of};
 ghost use Rattle.vpg_report.specs.Left.{HandsOver, IsHanded, IsLeft, IsRunStopped, IsStopped, IsUnleft, plain};
 ghost use Rattle.vpg_report.specs.Run.{answering_called, called_by};
 ghost use Rattle.vpg_script.specs.Manners.{Leaves};
 
 use crate::answering::Answering;
-use crate::engine::Engine;
-use crate::fault::ClientFault;
 use crate::running::not_opened;
 use crate::runs::end_engine;
 use std::alloc::Global;
@@ -18,6 +16,7 @@ use std::sync::{Arc, Wait};
 use std::thread::Threads;
 use vpg_desk::OpenFault;
 use vpg_diagram::Diagram;
+use vpg_engine::{ClientFault, Engine};
 use vpg_family::{Context, Family, Fault};
 use vpg_game::GuardedGame;
 use vpg_measure::Order;

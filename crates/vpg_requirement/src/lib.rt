@@ -14,6 +14,8 @@
 //! `specs/NormalForms` and `specs/Priorities`; `specs/Situations` has the game of a plain system, `specs/Building` that
 //! of a family, and `specs/Construction` the proof that there is one. `specs/Laws` has the theorem, and `specs/Example`
 //! an example.
+//!
+//! No code runs here, so there are no trials.
 #![tactic(auto)]
 
 pub mod laws;

@@ -13,6 +13,8 @@
 //! `Grammar` (which rule a text spells); `Clauses` (the clauses of a rule); `Laws` (statements of the laws of the
 //! module `laws`). Only private contracts name `Reading`, the reader as a function on lists, and `Distributing`, lists
 //! of clauses that stop at the limit.
+//!
+//! Trials: the lines `rule` of `vpg_text_rows/data/diagrams`.
 #![tactic(auto)]
 
 mod clause;

@@ -1,10 +1,11 @@
-use Rattle.std.proofs.Common.{◌≡◌, ℕ, suc, zero, ◌+◌, ◌*◌, ◌≤◌, ◌<◌, List, [], ◌∷◌, ◌++◌, length, get_or, drop, min, map, Option, Some, None, option_map, Result, Ok, Err, refl, sym, ap, ◌∙◌, arith, append_assoc}
+use Rattle.std.proofs.Common.{◌≡◌, ℕ, suc, zero, ◌+◌, ◌*◌, ◌≤◌, ◌<◌, Bool, true, false, cond, List, [], ◌∷◌, ◌++◌, length, get_or, drop, min, map, Option, Some, None, option_map, Result, Ok, Err, refl, sym, ap, ◌∙◌, arith, append_assoc}
 use Rattle.std.proofs.lemmas.List.{append-nil, drop_all, drop_more, map-append}
 use Rattle.std.specs.Prelude.{IfOk}
+use Rattle.std.specs.List.{find}
 use Rattle.std.specs.Borrow.{Bor}
 use Rattle.vpg_script.specs.declared.forms.Parameter.{Parameter}
 use Rattle.vpg_script.specs.declared.arguments.Argument.{Argument as Code}
-use Rattle.vpg_script.specs.declared.arguments.State.{State}
+use Rattle.vpg_script.specs.declared.look.PageLook.{PageLook}
 use Rattle.vpg_script.specs.declared.command.Command.{Command}
 use Rattle.vpg_script.specs.Script as script
 use Rattle.vpg_script.specs.Script.{Argument, all_there, argument_and, argument_by, arguments_by, asserted, claims_in, lift_of, next_parameter, verdicts_command}
@@ -36,6 +37,16 @@ module _ {A B X : Type 0} (shown : A → B) (named : B → Option X) where
 -- what is none is shown as none
 pub shown_none : {A B : Type 0} (shown : A → B) (found : Option A) (named : Option B) → found ≡ None → option_map shown found ≡ named → named ≡ None
 shown_none shown found named none is = sym is ∙ ap (option_map shown) none
+
+-- the first value that is shown as one of this kind
+pub find_shown : {A B : Type 0} (shown : A → B) (test : B → Bool) (values : List A) → option_map shown (find (λ v. test (shown v)) values) ≡ find test (map shown values)
+find_shown shown test [] = refl
+find_shown shown test (v ∷ values) = go (test (shown v)) (find_shown shown test values)
+  where
+    go : (b : Bool) → option_map shown (find (λ x. test (shown x)) values) ≡ find test (map shown values)
+        → option_map shown (cond b (Some v) (find (λ x. test (shown x)) values)) ≡ cond b (Some (shown v)) (find test (map shown values))
+    go true rest = refl
+    go false rest = rest
 
 -- ---- words that are read one by one
 
@@ -100,14 +111,14 @@ no_lift first [] h = absurd (omega arith)
 no_lift first (a ∷ []) h = absurd (omega arith)
 no_lift first (a ∷ b ∷ more) h = refl
 
-several : (state : Option State) (vertex : script.Vertex) (verdicts : List Code) → 2 ≤ length verdicts →
+several : (state : Option PageLook) (vertex : script.Vertex) (verdicts : List Code) → 2 ≤ length verdicts →
     option_map (verdicts_command vertex) (claims_in (map argument_shown verdicts)) ≡ asserted state vertex (map argument_shown verdicts)
 several state vertex [] h = absurd (omega arith)
 several state vertex (a ∷ []) h = absurd (omega arith)
 several state vertex (a ∷ b ∷ more) h = refl
 
 -- several verdicts of a vertex
-pub several_as : {E : Type 0} (state : Option State) (vertex : script.Vertex) (verdicts : List Code) (r : Result (Option Command) E) → 2 ≤ length verdicts →
+pub several_as : {E : Type 0} (state : Option PageLook) (vertex : script.Vertex) (verdicts : List Code) (r : Result (Option Command) E) → 2 ≤ length verdicts →
     IfOk r (λ found. option_map command_shown found ≡ option_map (verdicts_command vertex) (claims_in (map argument_shown verdicts))) →
     IfOk r (λ found. option_map command_shown found ≡ asserted state vertex (map argument_shown verdicts))
 several_as state vertex verdicts (Ok found) h is = is ∙ several state vertex verdicts h

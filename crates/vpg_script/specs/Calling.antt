@@ -2,8 +2,10 @@
 use Rattle.std.specs.Prelude.{◌≡◌, ℕ, Bool, not, ◌||◌, ◌==◌, if◌then◌else◌, List, [], map, Option, Some, None, is_some, option_map, bytes_eq}
 use Rattle.std.specs.List.{find, list_all, list_any}
 use Rattle.vpg_features.specs.Names.{index_of}
-use Rattle.vpg_script.specs.declared.command.VertexQuestion.TheVariants as questions
-use Rattle.vpg_script.specs.Script.{Vertex, Numbered, Named, Inquiry, OfVertex, OfFeature, OfExact, Assertion, Verdicts, Lookup, Vertices, Assert, Command, Lift, Look, Ask, Request}
+use Rattle.vpg_script.specs.declared.look.FeatureLook.{FeatureLook}
+use Rattle.vpg_script.specs.declared.look.FeatureLook.TheVariants.{Known, Why}
+use Rattle.vpg_script.specs.declared.look.VertexLook.TheVariants as vertex_looks
+use Rattle.vpg_script.specs.Script.{Vertex, Numbered, Named, Look, OfPage, OfVertex, OfVertices, OfClaims, OfFeature, OfChoice, Command, Lift, Looks, Request}
 
 -- the vertex of this identifier has this name
 pub record Calling : Type 0 where
@@ -47,34 +49,30 @@ abbrev pub meant_vertex : List Calling → Vertex → Vertex
 meant_vertex callings (Numbered identifier) = Numbered identifier
 meant_vertex callings (Named name) = numbered_or name (identifier_of callings name)
 
--- The question that `why` asks of a name: about the feature of this name, if there is one, or about the vertex of this
--- name.
-abbrev pub meant_name : (is_feature is_vertex : Bool) → List Calling → List ℕ → Inquiry
+-- The look of `why` at a name: at the feature of this name, if there is one, or at the vertex of this name.
+abbrev pub meant_name : (is_feature is_vertex : Bool) → List Calling → List ℕ → Look
 meant_name is_feature is_vertex callings name =
-    if is_feature || not is_vertex then OfFeature name
-    else OfVertex questions.Why (meant_vertex callings (Named name))
+    if is_feature || not is_vertex then OfFeature Why name
+    else OfVertex vertex_looks.Why (meant_vertex callings (Named name))
 
--- the inquiry, over these features
-abbrev pub meant_inquiry : List Calling → List (List ℕ) → Inquiry → Inquiry
-meant_inquiry callings features (OfVertex question vertex) = OfVertex question (meant_vertex callings vertex)
-meant_inquiry callings features (OfFeature name) =
+-- a look at a feature, over these features: only `why` has a second meaning
+abbrev pub meant_feature : List Calling → List (List ℕ) → FeatureLook → List ℕ → Look
+meant_feature callings features Known name = OfFeature Known name
+meant_feature callings features Why name =
     meant_name (is_some (index_of features name)) (calls callings name) callings name
-meant_inquiry callings features (OfExact verdict vertex) = OfExact verdict (meant_vertex callings vertex)
-meant_inquiry callings features inquiry = inquiry
 
-abbrev pub meant_assertion : List Calling → Assertion → Assertion
-meant_assertion callings (Verdicts vertex claims) = Verdicts (meant_vertex callings vertex) claims
-meant_assertion callings assertion = assertion
-
-abbrev pub meant_lookup : List Calling → Lookup → Lookup
-meant_lookup callings (Vertices vertices) = Vertices (map (meant_vertex callings) vertices)
-meant_lookup callings (Assert assertion) = Assert (meant_assertion callings assertion)
-meant_lookup callings lookup = lookup
+-- the look, over these features
+abbrev pub meant_look : List Calling → List (List ℕ) → Look → Look
+meant_look callings features (OfPage look) = OfPage look
+meant_look callings features (OfVertex look vertex) = OfVertex look (meant_vertex callings vertex)
+meant_look callings features (OfVertices vertices) = OfVertices (map (meant_vertex callings) vertices)
+meant_look callings features (OfClaims vertex claims) = OfClaims (meant_vertex callings vertex) claims
+meant_look callings features (OfFeature look name) = meant_feature callings features look name
+meant_look callings features (OfChoice value name) = OfChoice value name
 
 abbrev pub meant_command : List Calling → List (List ℕ) → Command → Command
 meant_command callings features (Lift table vertex) = Lift table (meant_vertex callings vertex)
-meant_command callings features (Look lookup) = Look (meant_lookup callings lookup)
-meant_command callings features (Ask inquiry) = Ask (meant_inquiry callings features inquiry)
+meant_command callings features (Looks look) = Looks (meant_look callings features look)
 meant_command callings features command = command
 
 -- The request as meant: that of the line with the identifier of each vertex in place of its name.

@@ -1,5 +1,5 @@
 -- The lines of a script, and the commands that they spell.
-use Rattle.std.specs.Prelude.{◌≡◌, ℕ, zero, suc, ◌+◌, ◌-◌, Bool, true, false, not, ◌&&◌, ◌||◌, ◌==◌, nat_le, nat_lt, if◌then◌else◌, List, [], ◌∷◌, length, map, filter, take, drop, position, Option, Some, None, is_none, option_map, Result, Ok, Err, slice_index, codes, bytes_eq}
+use Rattle.std.specs.Prelude.{◌≡◌, ℕ, zero, suc, ◌+◌, ◌-◌, Bool, true, false, not, ◌&&◌, ◌||◌, ◌==◌, nat_le, nat_lt, if◌then◌else◌, List, [], ◌∷◌, length, map, filter, take, drop, position, Option, Some, None, is_none, option_map, option_and_then, Result, Ok, Err, slice_index, codes, bytes_eq}
 use Rattle.std.specs.List.{list_all, list_any, prefix_len, slice_split}
 use Rattle.std.specs.Char.{is_ascii_digit}
 use Rattle.std.specs.Str.Parse.{digits_value}
@@ -10,17 +10,16 @@ use Rattle.vpg_script.specs.declared.forms.Verb.{Verb}
 use Rattle.vpg_script.specs.declared.forms.Verb.TheVariants as verbs
 use Rattle.vpg_script.specs.declared.forms.Parameter.{Parameter}
 use Rattle.vpg_script.specs.declared.forms.Parameter.TheVariants as kinds
-use Rattle.vpg_script.specs.declared.command.Claim.{Claim}
-use Rattle.vpg_script.specs.declared.command.Claim.TheVariants as claims
-use Rattle.vpg_script.specs.declared.command.VertexQuestion.{VertexQuestion}
-use Rattle.vpg_script.specs.declared.command.VertexQuestion.TheVariants as questions
-use Rattle.vpg_script.specs.declared.command.PageQuestion.{PageQuestion}
-use Rattle.vpg_script.specs.declared.command.PageQuestion.TheVariants as whole
+use Rattle.vpg_script.specs.declared.look.Claim.{Claim}
+use Rattle.vpg_script.specs.declared.look.Claim.TheVariants as claims
+use Rattle.vpg_script.specs.declared.look.FeatureLook.{FeatureLook}
+use Rattle.vpg_script.specs.declared.look.PageLook.{PageLook}
+use Rattle.vpg_script.specs.declared.look.PageLook.TheVariants as page_looks
+use Rattle.vpg_script.specs.declared.look.VertexLook.{VertexLook}
+use Rattle.vpg_script.specs.declared.look.VertexLook.TheVariants as vertex_looks
 use Rattle.vpg_script.specs.declared.exact.ExactVerdict.{ExactVerdict}
 use Rattle.vpg_script.specs.declared.exact.ExactVerdict.TheVariants as exacts
-use Rattle.vpg_script.specs.declared.arguments.State.{State}
-use Rattle.vpg_script.specs.declared.arguments.State.TheVariants as states
-use Rattle.vpg_script.specs.Forms.{Form, form_of, verb_of}
+use Rattle.vpg_script.specs.Forms.{Form, form_named}
 use Rattle.vpg_script.specs.declared.command.LineFault.{LineFault}
 use Rattle.vpg_script.specs.declared.command.LineFault.TheVariants as faults
 
@@ -109,32 +108,17 @@ pub data Vertex : Type 0 where
   Numbered : (identifier : ℕ) → Vertex
   Named : (name : List ℕ) → Vertex
 
--- a question about the page
-pub data Inquiry : Type 0 where
-  OfVertex : (question : VertexQuestion) → (vertex : Vertex) → Inquiry
-  OfFeature : (name : List ℕ) → Inquiry
-  OfChoice : (value : Bool) → (name : List ℕ) → Inquiry
-  OfPage : (question : PageQuestion) → Inquiry
-  -- whether the vertex has this exact verdict
-  OfExact : (verdict : ExactVerdict) → (vertex : Vertex) → Inquiry
+-- A look at the page, which leaves it as it is: at the page as a whole, at a vertex or at the verdicts of some, whether
+-- a vertex has these verdicts, at a feature, or why one more decision contradicts the page.
+pub data Look : Type 0 where
+  OfPage : (look : PageLook) → Look
+  OfVertex : (look : VertexLook) → (vertex : Vertex) → Look
+  OfVertices : (vertices : List Vertex) → Look
+  OfClaims : (vertex : Vertex) → (claims : List Claim) → Look
+  OfFeature : (look : FeatureLook) → (name : List ℕ) → Look
+  OfChoice : (value : Bool) → (name : List ℕ) → Look
 
--- an assertion about the page: of a vertex's verdicts, or of the page as a whole
-pub data Assertion : Type 0 where
-  Verdicts : (vertex : Vertex) → (claims : List Claim) → Assertion
-  Full : Assertion
-  Settled : Assertion
-
--- a lookup, which looks at the page and leaves it as it is
-pub data Lookup : Type 0 where
-  Show : Lookup
-  Vertices : (vertices : List Vertex) → Lookup
-  Trail : Lookup
-  Products : Lookup
-  Plan : Lookup
-  Count : Lookup
-  Draw : Lookup
-  Assert : (assertion : Assertion) → Lookup
-
+-- the command of a line, with its arguments
 pub data Command : Type 0 where
   Select : (name : List ℕ) → Command
   Exclude : (name : List ℕ) → Command
@@ -149,11 +133,9 @@ pub data Command : Type 0 where
   Harvest : Command
   Commit : (number : ℕ) → Command
   Settle : (sweeps : Option ℕ) → Command
-  Look : (lookup : Lookup) → Command
   -- the verdicts that differ from those at the last `changed`
   Changed : Command
-  Known : (name : List ℕ) → Command
-  Ask : (inquiry : Inquiry) → Command
+  Looks : (look : Look) → Command
 
 -- what an argument of a command says
 pub data Argument : Type 0 where
@@ -162,10 +144,10 @@ pub data Argument : Type 0 where
   Number : (value : ℕ) → Argument
   Table : (table : Which) → Argument
   At : (vertex : Vertex) → Argument
-  -- the subject of a `why`
-  Subject : (inquiry : Inquiry) → Argument
+  -- a decision: whether the feature is to be in, and its name
+  Choice : (value : Bool) → (name : List ℕ) → Argument
   -- the vertex of an assertion, and what the word asserts of the page if it stands alone
-  Asserted : (state : Option State) → (vertex : Vertex) → Argument
+  Asserted : (state : Option PageLook) → (vertex : Vertex) → Argument
   Claimed : (claim : Claim) → Argument
   Exactly : (verdict : ExactVerdict) → Argument
 
@@ -200,20 +182,15 @@ vertex_or None name = option_map Named name
 abbrev pub vertex_named : List ℕ → Option Vertex
 vertex_named w = vertex_or (number_of largest_identifier w) (vertex_name w)
 
--- about a vertex
-abbrev pub of_vertex : VertexQuestion → List ℕ → Option Inquiry
-of_vertex question w = option_map (OfVertex question) (vertex_named w)
+-- a decision in, or one out, or else a vertex
+abbrev pub choice_or : Option (List ℕ) → Option (List ℕ) → Option Vertex → Option Argument
+choice_or (Some name) out vertex = Some (Choice true name)
+choice_or None (Some name) vertex = Some (Choice false name)
+choice_or None None vertex = option_map At vertex
 
--- about a decision in, or one out, or else the other question
-abbrev pub why_else : Option (List ℕ) → Option (List ℕ) → Option Inquiry → Option Inquiry
-why_else (Some name) out other = Some (OfChoice true name)
-why_else None (Some name) other = Some (OfChoice false name)
-why_else None None other = other
-
--- about a feature's name; about a decision, `+` (43) or `-` (45) and a name; or about a vertex
-abbrev pub why_of : List ℕ → Option Inquiry
-why_of w = if is_feature_name w then Some (OfFeature w)
-    else why_else (signed 43 w) (signed 45 w) (of_vertex questions.Why w)
+-- the subject of a `why`: a feature's name; a decision, `+` (43) or `-` (45) and a name; or a vertex
+abbrev pub subject_of : List ℕ → Option Argument
+subject_of w = if is_feature_name w then Some (Name w) else choice_or (signed 43 w) (signed 45 w) (vertex_named w)
 
 -- the table that a word names
 abbrev pub table_named : List ℕ → Option Which
@@ -240,10 +217,10 @@ exact_named w =
     else None
 
 -- what a word asserts of the page as a whole
-abbrev pub state_named : List ℕ → Option State
+abbrev pub state_named : List ℕ → Option PageLook
 state_named w =
-    if bytes_eq w (codes "full") then Some states.Full
-    else if bytes_eq w (codes "settled") then Some states.Settled
+    if bytes_eq w (codes "full") then Some page_looks.Full
+    else if bytes_eq w (codes "settled") then Some page_looks.Settled
     else None
 
 abbrev pub claimed_or : Option Claim → Option ExactVerdict → Option Argument
@@ -258,7 +235,7 @@ argument_of kinds.Harvest w = option_map Number (number_of largest_serial w)
 argument_of kinds.Sweeps w = option_map Number (number_of most_sweeps w)
 argument_of kinds.Table w = option_map Table (table_named w)
 argument_of kinds.Vertex w = option_map At (vertex_named w)
-argument_of kinds.Subject w = option_map Subject (why_of w)
+argument_of kinds.Subject w = subject_of w
 argument_of kinds.Asserted w = option_map (Asserted (state_named w)) (vertex_named w)
 argument_of kinds.Verdict w = claimed_or (claim_named w) (exact_named w)
 
@@ -288,34 +265,43 @@ arguments_by parameters rest (w ∷ ws) =
 abbrev pub arguments_of : Form → List (List ℕ) → Option (List Argument)
 arguments_of form ws = if nat_le form.least (length ws) then arguments_by form.parameters form.rest ws else None
 
--- ---- the command of a verb and its arguments
+-- ---- the command of a form and its arguments
+
+-- a look, if there is one, or else another command
+abbrev pub look_or : Option Look → Option Command → Option Command
+look_or (Some look) command = Some (Looks look)
+look_or None command = command
+
+-- a command without arguments that is no look
+abbrev pub bare_change : Verb → Option Command
+bare_change verbs.Reset = Some Reset
+bare_change verbs.Undo = Some (Undo None)
+bare_change verbs.Redo = Some (Redo None)
+bare_change verbs.Harvest = Some Harvest
+bare_change verbs.Settle = Some (Settle None)
+bare_change verbs.Changed = Some Changed
+bare_change _ = None
 
 -- a command without arguments
-abbrev pub bare_command : Verb → Option Command
-bare_command verbs.Reset = Some Reset
-bare_command verbs.Undo = Some (Undo None)
-bare_command verbs.Redo = Some (Redo None)
-bare_command verbs.Harvest = Some Harvest
-bare_command verbs.Settle = Some (Settle None)
-bare_command verbs.Show = Some (Look Show)
-bare_command verbs.Trail = Some (Look Trail)
-bare_command verbs.Products = Some (Look Products)
-bare_command verbs.Plan = Some (Look Plan)
-bare_command verbs.Count = Some (Look Count)
-bare_command verbs.Draw = Some (Look Draw)
-bare_command verbs.Changed = Some Changed
-bare_command verbs.Forced = Some (Ask (OfPage whole.Forced))
-bare_command verbs.Empty = Some (Ask (OfPage whole.Empty))
-bare_command verbs.Number = Some (Ask (OfPage whole.Number))
-bare_command _ = None
+abbrev pub bare_command : Form → Option Command
+bare_command form = look_or (option_map OfPage form.of_page) (option_and_then bare_change form.verb)
+
+-- a command about a feature that is no look
+abbrev pub feature_change : Verb → List ℕ → Option Command
+feature_change verbs.Select name = Some (Select name)
+feature_change verbs.Exclude name = Some (Exclude name)
+feature_change verbs.Retract name = Some (Retract name)
+feature_change _ name = None
 
 -- a command about a feature
-abbrev pub feature_command : Verb → List ℕ → Option Command
-feature_command verbs.Select name = Some (Select name)
-feature_command verbs.Exclude name = Some (Exclude name)
-feature_command verbs.Retract name = Some (Retract name)
-feature_command verbs.Known name = Some (Known name)
-feature_command _ name = None
+abbrev pub feature_command : Form → List ℕ → Option Command
+feature_command form name =
+    look_or (option_map (λ look. OfFeature look name) form.of_feature)
+    (option_and_then (λ verb. feature_change verb name) form.verb)
+
+-- a command about a vertex
+abbrev pub vertex_command : Form → Vertex → Option Command
+vertex_command form vertex = option_map (λ look. Looks (OfVertex look vertex)) form.of_vertex
 
 -- a command with a number
 abbrev pub numbered_command : Verb → ℕ → Option Command
@@ -327,33 +313,13 @@ numbered_command verbs.Commit n = Some (Commit n)
 numbered_command verbs.Settle n = Some (Settle (Some n))
 numbered_command _ n = None
 
--- what a verb asks of a vertex
-abbrev pub question_of : Verb → Option VertexQuestion
-question_of verbs.Example = Some (questions.Example Hopeful)
-question_of verbs.Counterexample = Some (questions.Example Dual)
-question_of verbs.Offer = Some questions.Offer
-question_of verbs.Needs = Some questions.Needs
-question_of verbs.Repair = Some questions.Repair
-question_of verbs.Lost = Some (questions.Lost Hopeful)
-question_of verbs.Won = Some (questions.Lost Dual)
-question_of verbs.Plan = Some (questions.Moves Hopeful)
-question_of verbs.Spoil = Some (questions.Moves Dual)
-question_of verbs.Draw = Some questions.Draw
-question_of verbs.Trace = Some questions.Trace
-question_of verbs.Winners = Some questions.Winners
-question_of verbs.Decide = Some questions.Decide
-question_of _ = None
-
-abbrev pub ask_of : Vertex → VertexQuestion → Command
-ask_of vertex question = Ask (OfVertex question vertex)
-
 -- a command with one argument
-abbrev pub command_with : Verb → Argument → Option Command
-command_with verb (Name name) = feature_command verb name
-command_with verb (Number n) = numbered_command verb n
-command_with verb (At vertex) = option_map (ask_of vertex) (question_of verb)
-command_with verb (Subject inquiry) = Some (Ask inquiry)
-command_with verb _ = None
+abbrev pub command_with : Form → Argument → Option Command
+command_with form (Name name) = feature_command form name
+command_with form (Number n) = option_and_then (λ verb. numbered_command verb n) form.verb
+command_with form (At vertex) = vertex_command form vertex
+command_with form (Choice value name) = Some (Looks (OfChoice value name))
+command_with form _ = None
 
 abbrev pub table_in : Argument → Option Which
 table_in (Table table) = Some table
@@ -395,21 +361,16 @@ abbrev pub exact_in : Argument → Option ExactVerdict
 exact_in (Exactly verdict) = Some verdict
 exact_in _ = None
 
--- an assertion about the page as a whole
-abbrev pub state_command : State → Command
-state_command states.Full = Look (Assert Full)
-state_command states.Settled = Look (Assert Settled)
-
 abbrev pub verdicts_command : Vertex → List Claim → Command
-verdicts_command vertex claims = Look (Assert (Verdicts vertex claims))
+verdicts_command vertex claims = Looks (OfClaims vertex claims)
 
 abbrev pub exact_or : Vertex → Option ExactVerdict → List Argument → Option Command
-exact_or vertex (Some verdict) verdicts = Some (Ask (OfExact verdict vertex))
+exact_or vertex (Some verdict) verdicts = Some (Looks (OfVertex (vertex_looks.Is verdict) vertex))
 exact_or vertex None verdicts = option_map (verdicts_command vertex) (claims_in verdicts)
 
 -- the assertion of a word alone, or of a vertex: an exact verdict stands alone behind it, others in any number
-abbrev pub asserted : Option State → Vertex → List Argument → Option Command
-asserted state vertex [] = option_map state_command state
+abbrev pub asserted : Option PageLook → Vertex → List Argument → Option Command
+asserted state vertex [] = option_map (λ look. Looks (OfPage look)) state
 asserted state vertex (verdict ∷ []) = exact_or vertex (exact_in verdict) (verdict ∷ [])
 asserted state vertex (verdict ∷ second ∷ more) =
     option_map (verdicts_command vertex) (claims_in (verdict ∷ second ∷ more))
@@ -418,30 +379,26 @@ abbrev pub assert_command : Argument → List Argument → Option Command
 assert_command (Asserted state vertex) verdicts = asserted state vertex verdicts
 assert_command _ verdicts = None
 
-abbrev pub command_with_few : Verb → Argument → List Argument → Option Command
-command_with_few verb argument [] = command_with verb argument
-command_with_few verb argument (second ∷ more) = None
+abbrev pub command_with_few : Form → Argument → List Argument → Option Command
+command_with_few form argument [] = command_with form argument
+command_with_few form argument (second ∷ more) = None
 
--- a command with this argument, and more
-abbrev pub command_and : Verb → Argument → List Argument → Option Command
-command_and verbs.Show argument more =
-    option_map (λ vertices. Look (Vertices vertices)) (vertices_in (argument ∷ more))
-command_and verbs.Lift argument more = lift_of argument more
-command_and verbs.Assert argument more = assert_command argument more
-command_and verb argument more = command_with_few verb argument more
+-- a command of this verb with this argument, and more
+abbrev pub command_and : Form → Option Verb → Argument → List Argument → Option Command
+command_and form (Some verbs.Show) argument more =
+    option_map (λ vertices. Looks (OfVertices vertices)) (vertices_in (argument ∷ more))
+command_and form (Some verbs.Lift) argument more = lift_of argument more
+command_and form (Some verbs.Assert) argument more = assert_command argument more
+command_and form _ argument more = command_with_few form argument more
 
--- the command of a verb and its arguments
-abbrev pub command_from : Verb → List Argument → Option Command
-command_from verb [] = bare_command verb
-command_from verb (argument ∷ more) = command_and verb argument more
+-- the command of a form and its arguments
+abbrev pub command_from : Form → List Argument → Option Command
+command_from form [] = bare_command form
+command_from form (argument ∷ more) = command_and form form.verb argument more
 
-abbrev pub command_by : Verb → Option (List Argument) → Option Command
-command_by verb None = None
-command_by verb (Some arguments) = command_from verb arguments
-
--- the command of a verb, and of words behind it that fit its form
-abbrev pub command_of : Verb → List (List ℕ) → Option Command
-command_of verb ws = command_by verb (arguments_of (form_of verb) ws)
+-- the command of a form, and of words that fit it
+abbrev pub command_of : Form → List (List ℕ) → Option Command
+command_of form ws = option_and_then (command_from form) (arguments_of form ws)
 
 -- the label that a word spells: a number from 1 to 64 and a colon
 abbrev pub if_positive : Option ℕ → Option ℕ
@@ -464,13 +421,13 @@ abbrev pub requested : ℕ → Option Command → Said
 requested label None = Err faults.Args
 requested label (Some command) = Ok (Some (record { label = label; command = command }))
 
-abbrev pub with_verb : ℕ → Option Verb → List (List ℕ) → Said
-with_verb label None args = Err faults.Word
-with_verb label (Some verb) args = requested label (command_of verb args)
+abbrev pub with_form : ℕ → Option Form → List (List ℕ) → Said
+with_form label None args = Err faults.Word
+with_form label (Some form) args = requested label (command_of form args)
 
 abbrev pub after_label : ℕ → List (List ℕ) → Said
 after_label label [] = Err faults.Word
-after_label label (w ∷ args) = with_verb label (verb_of w) args
+after_label label (w ∷ args) = with_form label (form_named w) args
 
 abbrev pub labelled : Option ℕ → List (List ℕ) → List (List ℕ) → Said
 labelled None all rest = after_label 1 all

@@ -2,16 +2,12 @@
 use Rattle.std.specs.Prelude.{◌≡◌, ℕ, List, map, Option, option_map, Result, Ok, Err}
 use Rattle.std.specs.Borrow.{Bor}
 use Rattle.vpg_script.specs.Script as script
-use Rattle.vpg_script.specs.declared.command.Vertex.{Vertex}
-use Rattle.vpg_script.specs.declared.command.Vertex.TheVariants as vertices
-use Rattle.vpg_script.specs.declared.command.Assertion.{Assertion}
-use Rattle.vpg_script.specs.declared.command.Assertion.TheVariants as assertions
-use Rattle.vpg_script.specs.declared.command.Lookup.{Lookup}
-use Rattle.vpg_script.specs.declared.command.Lookup.TheVariants as lookups
+use Rattle.vpg_script.specs.declared.look.Vertex.{Vertex}
+use Rattle.vpg_script.specs.declared.look.Vertex.TheVariants as vertices
+use Rattle.vpg_script.specs.declared.look.Look.{Look}
+use Rattle.vpg_script.specs.declared.look.Look.TheVariants as looks
 use Rattle.vpg_script.specs.declared.command.Command.{Command}
 use Rattle.vpg_script.specs.declared.command.Command.TheVariants as commands
-use Rattle.vpg_script.specs.declared.command.Inquiry.{Inquiry}
-use Rattle.vpg_script.specs.declared.command.Inquiry.TheVariants as inquiries
 use Rattle.vpg_script.specs.declared.command.Request.{Request}
 use Rattle.vpg_script.specs.declared.arguments.Argument.{Argument}
 use Rattle.vpg_script.specs.declared.arguments.Argument.TheVariants as arguments
@@ -23,12 +19,14 @@ abbrev pub vertex_shown : Vertex → script.Vertex
 vertex_shown (vertices.Number identifier) = script.Numbered identifier
 vertex_shown (vertices.Name name) = script.Named name.now
 
-abbrev pub inquiry_shown : Inquiry → script.Inquiry
-inquiry_shown (inquiries.OfVertex question v) = script.OfVertex question (vertex_shown v)
-inquiry_shown (inquiries.OfFeature f) = script.OfFeature f.now
-inquiry_shown (inquiries.OfChoice value f) = script.OfChoice value f.now
-inquiry_shown (inquiries.OfPage question) = script.OfPage question
-inquiry_shown (inquiries.OfExact verdict v) = script.OfExact verdict (vertex_shown v)
+-- a look, as definitions see it
+abbrev pub look_shown : Look → script.Look
+look_shown (looks.OfPage look) = script.OfPage look
+look_shown (looks.OfVertex look v) = script.OfVertex look (vertex_shown v)
+look_shown (looks.OfVertices vs) = script.OfVertices (map vertex_shown vs.items)
+look_shown (looks.OfClaims v claims) = script.OfClaims (vertex_shown v) claims.items
+look_shown (looks.OfFeature look f) = script.OfFeature look f.now
+look_shown (looks.OfChoice value f) = script.OfChoice value f.now
 
 -- an argument, as definitions see it
 abbrev pub argument_shown : Argument → script.Argument
@@ -36,27 +34,10 @@ argument_shown (arguments.Name name) = script.Name name.now
 argument_shown (arguments.Number n) = script.Number n
 argument_shown (arguments.Table table) = script.Table table
 argument_shown (arguments.Vertex v) = script.At (vertex_shown v)
-argument_shown (arguments.Subject inquiry) = script.Subject (inquiry_shown inquiry)
+argument_shown (arguments.Choice value name) = script.Choice value name.now
 argument_shown (arguments.Asserted state v) = script.Asserted state (vertex_shown v)
 argument_shown (arguments.Claim claim) = script.Claimed claim
 argument_shown (arguments.Exact verdict) = script.Exactly verdict
-
--- an assertion, as definitions see it
-abbrev pub assertion_shown : Assertion → script.Assertion
-assertion_shown (assertions.Verdicts v claims) = script.Verdicts (vertex_shown v) claims.items
-assertion_shown assertions.Full = script.Full
-assertion_shown assertions.Settled = script.Settled
-
--- a lookup, as definitions see it
-abbrev pub lookup_shown : Lookup → script.Lookup
-lookup_shown lookups.Show = script.Show
-lookup_shown (lookups.Vertices vs) = script.Vertices (map vertex_shown vs.items)
-lookup_shown lookups.Trail = script.Trail
-lookup_shown lookups.Products = script.Products
-lookup_shown lookups.Plan = script.Plan
-lookup_shown lookups.Count = script.Count
-lookup_shown lookups.Draw = script.Draw
-lookup_shown (lookups.Assert assertion) = script.Assert (assertion_shown assertion)
 
 abbrev pub command_shown : Command → script.Command
 command_shown (commands.Select f) = script.Select f.now
@@ -71,10 +52,8 @@ command_shown (commands.Lift table v) = script.Lift table (vertex_shown v)
 command_shown commands.Harvest = script.Harvest
 command_shown (commands.Commit k) = script.Commit k
 command_shown (commands.Settle n) = script.Settle n
-command_shown (commands.Look lookup) = script.Look (lookup_shown lookup)
 command_shown commands.Changed = script.Changed
-command_shown (commands.Known f) = script.Known f.now
-command_shown (commands.Ask inquiry) = script.Ask (inquiry_shown inquiry)
+command_shown (commands.Look look) = script.Looks (look_shown look)
 
 abbrev pub texts : List (Bor (List ℕ)) → List (List ℕ)
 texts words = map (λ w. w.now) words

@@ -4,14 +4,14 @@ ghost use Rattle.std.specs.List.{list_all, list_any};
 ghost use Rattle.std.specs.Char.{is_ascii_digit, digit_value};
 ghost use Rattle.std.specs.Str.Parse.{digits_value};
 ghost use Rattle.vpg_script.specs.Forms.{form_shown};
-ghost use Rattle.vpg_script.specs.Script.{is_quote, closed, quoted, vertex_name, vertex_named, is_feature_name, number_of, signed, why_of, of_vertex, table_named, claim_named, state_named};
+ghost use Rattle.vpg_script.specs.Script.{is_quote, closed, quoted, vertex_name, vertex_named, is_feature_name, number_of, signed, table_named, claim_named, state_named};
 ghost use Rattle.vpg_script.specs.Script.{argument_of, argument_by, arguments_by, arguments_of, next_parameter};
 ghost use Rattle.vpg_script.specs.Script as script;
-ghost use Rattle.vpg_script.specs.View.{argument_shown, inquiry_shown, texts, vertex_shown};
+ghost use Rattle.vpg_script.specs.View.{argument_shown, texts, vertex_shown};
 
-use crate::command::{Claim, Inquiry, Vertex, VertexQuestion};
 use crate::exact::{ExactVerdict, exact_named};
 use crate::forms::{CommandForm, Parameter};
+use crate::look::{Claim, PageLook, Vertex};
 use crate::words::is_nonempty;
 use std::alloc::{AllocError, Global};
 use vpg_features::is_feature_name;
@@ -23,15 +23,6 @@ const LARGEST_IDENTIFIER: u64 = u32::MAX as u64;
 
 const MOST_SWEEPS: u64 = 1_000_000_000;
 
-/// An assertion of the page as a whole.
-#[derive(Clone, Copy, Debug, PartialEq, Eq)]
-pub enum State {
-    /// Each feature is known.
-    Full,
-    /// Both tables are progress tables.
-    Settled,
-}
-
 /// An argument of a command. Names stand in the line that was read.
 #[derive(Clone, Copy)]
 pub enum Argument<'t> {
@@ -40,10 +31,10 @@ pub enum Argument<'t> {
     Number(u64),
     Table(Which),
     Vertex(Vertex<'t>),
-    /// The subject of a `why`.
-    Subject(Inquiry<'t>),
+    /// A decision: whether the feature is to be in, and its name.
+    Choice(bool, &'t [u8]),
     /// The vertex of an assertion, and what the word asserts of the page if it stands alone.
-    Asserted(Option<State>, Vertex<'t>),
+    Asserted(Option<PageLook>, Vertex<'t>),
     Claim(Claim),
     Exact(ExactVerdict),
 }
@@ -163,28 +154,20 @@ pub(crate) fn vertex_named(word: &[u8]) -> Option<Vertex>
     }
 }
 
-/// Returns a question about the vertex that a word names.
-fn of_vertex(question: VertexQuestion, word: &[u8]) -> Option<Inquiry>
-    ensures { option_map inquiry_shown result ≡ of_vertex question word.now }
-{
-    let vertex = vertex_named(word)?;
-    Some(Inquiry::OfVertex(question, vertex))
-}
-
-/// Returns the question that `why` asks: about a vertex, a feature, or a decision.
-fn why_of(word: &[u8]) -> Option<Inquiry>
-    ensures { option_map inquiry_shown result ≡ why_of word.now }
+/// Returns the subject of a `why`: a feature, a decision, or else a vertex.
+fn subject(word: &[u8]) -> Option<Argument>
+    ensures { option_map argument_shown result ≡ argument_of Parameter.Subject word.now }
 {
     if is_name(word) {
-        return Some(Inquiry::OfFeature(word));
+        return Some(Argument::Name(word));
     }
     if let Some(name) = signed(b'+', word) {
-        return Some(Inquiry::OfChoice(true, name));
+        return Some(Argument::Choice(true, name));
     }
     if let Some(name) = signed(b'-', word) {
-        return Some(Inquiry::OfChoice(false, name));
+        return Some(Argument::Choice(false, name));
     }
-    of_vertex(VertexQuestion::Why, word)
+    Some(Argument::Vertex(vertex_named(word)?))
 }
 
 fn table_named(word: &[u8]) -> Option<Which>
@@ -215,13 +198,14 @@ fn claim_named(word: &[u8]) -> Option<Claim>
     }
 }
 
-fn state_named(word: &[u8]) -> Option<State>
+/// Returns what a word asserts of the page as a whole.
+fn state_named(word: &[u8]) -> Option<PageLook>
     ensures { result ≡ state_named word.now }
 {
     if same(word, b"full") {
-        Some(State::Full)
+        Some(PageLook::Full)
     } else if same(word, b"settled") {
-        Some(State::Settled)
+        Some(PageLook::Settled)
     } else {
         None
     }
@@ -275,7 +259,7 @@ pub fn argument_of(parameter: Parameter, word: &[u8]) -> Option<Argument>
         Parameter::Sweeps => numbered(word, MOST_SWEEPS),
         Parameter::Table => Some(Argument::Table(table_named(word)?)),
         Parameter::Vertex => Some(Argument::Vertex(vertex_named(word)?)),
-        Parameter::Subject => Some(Argument::Subject(why_of(word)?)),
+        Parameter::Subject => subject(word),
         Parameter::Asserted => asserted(word),
         Parameter::Verdict => verdict(word),
     }

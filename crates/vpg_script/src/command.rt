@@ -1,11 +1,13 @@
 //! The command that a line of a script spells.
 ghost use Rattle.std.specs.Prelude.{◌≡◌, map, option_map, IfOk};
-ghost use Rattle.vpg_script.specs.Script.{ask_of, bare_command, command_from, command_of, command_with, command_with_few, feature_command, label_of, lift_of, is_comment, numbered_command, question_of, table_in, vertex_in, vertices_in};
+ghost use Rattle.vpg_script.specs.Script.{bare_change, bare_command, command_from, command_of, command_with, command_with_few, feature_change, feature_command, label_of, lift_of, is_comment, numbered_command, table_in, vertex_command, vertex_in, vertices_in};
+ghost use Rattle.vpg_script.specs.Forms.{form_shown};
 ghost use Rattle.vpg_script.specs.View.{argument_shown, command_shown, texts, vertex_shown};
 
 use crate::arguments::{Argument, arguments_of, number};
-use crate::exact::{ExactVerdict, assert_command};
-use crate::forms::{Verb, form_of, verb_named};
+use crate::exact::assert_command;
+use crate::forms::{CommandForm, Verb, form_named};
+use crate::look::{Look, Vertex};
 use crate::words::words_of;
 use std::alloc::{AllocError, Global};
 use thiserror::Error;
@@ -15,103 +17,6 @@ use vpg_sides::Which;
 pub const LONGEST_LINE: usize = 4096;
 
 const MOST_LABELS: u64 = 64;
-
-/// A question about a vertex.
-#[derive(Clone, Copy)]
-pub enum VertexQuestion {
-    /// Why it has its verdicts.
-    Why,
-    /// A product left in which Even wins from it, for the hopeful table, or Odd, for the dual.
-    Example(Which),
-    /// Its verdicts after each further decision.
-    Offer,
-    /// The features that all products left have, or lack, in which Even wins from it.
-    Needs,
-    /// The decisions to retract so that it is not hopeless any more.
-    Repair,
-    /// Why Even wins from it in no product left, for the hopeful table, or Odd, for the dual.
-    Lost(Which),
-    /// Moves of Even, for the hopeful table, or Odd, for the dual, that win from it in every product left.
-    Moves(Which),
-    /// A picture of the vertices that can be reached from it.
-    Draw,
-    /// The trace of its verdict, as steps of the system.
-    Trace,
-    /// In which products left Even wins from it, and in which Odd.
-    Winners,
-    /// Who wins from it in the products left.
-    Decide,
-}
-
-/// A question about the page as a whole.
-#[derive(Clone, Copy)]
-pub enum PageQuestion {
-    /// Which features that are not known are the same in every product left.
-    Forced,
-    /// Whether no product is left.
-    Empty,
-    /// The number of products that are left.
-    Number,
-}
-
-/// A vertex, as a line names it. A name stands in the line that was read.
-#[derive(Clone, Copy)]
-pub enum Vertex<'t> {
-    /// By its identifier.
-    Number(u32),
-    /// By its name.
-    Name(&'t [u8]),
-}
-
-/// A verdict that a line asserts of a vertex.
-#[derive(Clone, Copy, Debug, PartialEq, Eq)]
-pub enum Claim {
-    Hopeless,
-    Possible,
-    Sure,
-    Unsure,
-}
-
-/// An assertion of a line about the page.
-#[derive(Drop)]
-pub enum Assertion<'t> {
-    /// A vertex has these verdicts.
-    Verdicts(Vertex<'t>, Vec<Claim>),
-    /// Each feature is known.
-    Full,
-    /// Both tables are progress tables.
-    Settled,
-}
-
-/// A lookup, which looks at the page and leaves it as it is.
-#[derive(Drop)]
-pub enum Lookup<'t> {
-    Show,
-    /// Some vertices.
-    Vertices(Vec<Vertex<'t>>),
-    Trail,
-    Products,
-    Plan,
-    Count,
-    /// The picture of its game.
-    Draw,
-    Assert(Assertion<'t>),
-}
-
-/// A question about the page. Names stand in the line that was read.
-#[derive(Clone, Copy)]
-pub enum Inquiry<'t> {
-    /// About a vertex.
-    OfVertex(VertexQuestion, Vertex<'t>),
-    /// Why a feature is known, or a vertex of this name has its verdicts.
-    OfFeature(&'t [u8]),
-    /// Why one more decision contradicts the page: whether the feature is to be in, and its name.
-    OfChoice(bool, &'t [u8]),
-    /// About the page as a whole.
-    OfPage(PageQuestion),
-    /// Whether a vertex has this exact verdict.
-    OfExact(ExactVerdict, Vertex<'t>),
-}
 
 /// A command. Names stand in the line that was read.
 #[derive(Drop)]
@@ -129,11 +34,9 @@ pub enum Command<'t> {
     Harvest,
     Commit(u64),
     Settle(Option<u64>),
-    Look(Lookup<'t>),
     /// The verdicts that differ from those at the last `changed`.
     Changed,
-    Known(&'t [u8]),
-    Ask(Inquiry<'t>),
+    Look(Look<'t>),
 }
 
 /// The fault of a line.
@@ -157,9 +60,9 @@ pub struct Request<'t> {
     pub command: Command<'t>,
 }
 
-/// Returns a command without arguments.
-fn bare_command<'t>(verb: Verb) -> Option<Command<'t>>
-    ensures { option_map command_shown result ≡ bare_command verb }
+/// Returns a command without arguments that is no look.
+fn bare_change<'t>(verb: Verb) -> Option<Command<'t>>
+    ensures { option_map command_shown result ≡ bare_change verb }
 {
     match verb {
         Verb::Reset => Some(Command::Reset),
@@ -167,50 +70,40 @@ fn bare_command<'t>(verb: Verb) -> Option<Command<'t>>
         Verb::Redo => Some(Command::Redo(None)),
         Verb::Harvest => Some(Command::Harvest),
         Verb::Settle => Some(Command::Settle(None)),
-        Verb::Show => Some(Command::Look(Lookup::Show)),
-        Verb::Trail => Some(Command::Look(Lookup::Trail)),
-        Verb::Products => Some(Command::Look(Lookup::Products)),
-        Verb::Plan => Some(Command::Look(Lookup::Plan)),
-        Verb::Count => Some(Command::Look(Lookup::Count)),
-        Verb::Draw => Some(Command::Look(Lookup::Draw)),
         Verb::Changed => Some(Command::Changed),
-        Verb::Forced => Some(Command::Ask(Inquiry::OfPage(PageQuestion::Forced))),
-        Verb::Empty => Some(Command::Ask(Inquiry::OfPage(PageQuestion::Empty))),
-        Verb::Number => Some(Command::Ask(Inquiry::OfPage(PageQuestion::Number))),
-        Verb::Select
-        | Verb::Exclude
-        | Verb::Retract
-        | Verb::Keep
-        | Verb::Forget
-        | Verb::Lift
-        | Verb::Commit
-        | Verb::Known
-        | Verb::Assert
-        | Verb::Why
-        | Verb::Example
-        | Verb::Counterexample
-        | Verb::Offer
-        | Verb::Needs
-        | Verb::Repair
-        | Verb::Lost
-        | Verb::Won
-        | Verb::Spoil
-        | Verb::Trace
-        | Verb::Winners
-        | Verb::Decide => None,
+        _ => None,
     }
 }
 
-/// Returns a command about a feature.
-fn feature_command<'t>(verb: Verb, name: &'t [u8]) -> Option<Command<'t>>
-    ensures { option_map command_shown result ≡ feature_command verb name.now }
+/// Returns a command without arguments.
+fn bare_command<'t>(form: &CommandForm) -> Option<Command<'t>>
+    ensures { option_map command_shown result ≡ bare_command (form_shown form.now) }
+{
+    match form.of_page {
+        Some(look) => Some(Command::Look(Look::OfPage(look))),
+        None => bare_change(form.verb?),
+    }
+}
+
+/// Returns a command about a feature that is no look.
+fn feature_change<'t>(verb: Verb, name: &'t [u8]) -> Option<Command<'t>>
+    ensures { option_map command_shown result ≡ feature_change verb name.now }
 {
     match verb {
         Verb::Select => Some(Command::Select(name)),
         Verb::Exclude => Some(Command::Exclude(name)),
         Verb::Retract => Some(Command::Retract(name)),
-        Verb::Known => Some(Command::Known(name)),
         _ => None,
+    }
+}
+
+/// Returns a command about a feature.
+fn feature_command<'t>(form: &CommandForm, name: &'t [u8]) -> Option<Command<'t>>
+    ensures { option_map command_shown result ≡ feature_command (form_shown form.now) name.now }
+{
+    match form.of_feature {
+        Some(look) => Some(Command::Look(Look::OfFeature(look, name))),
+        None => feature_change(form.verb?, name),
     }
 }
 
@@ -229,47 +122,25 @@ fn numbered_command<'t>(verb: Verb, n: u64) -> Option<Command<'t>>
     }
 }
 
-/// Returns what a verb asks of a vertex.
-fn question_of(verb: Verb) -> Option<VertexQuestion>
-    ensures { result ≡ question_of verb }
-{
-    match verb {
-        Verb::Example => Some(VertexQuestion::Example(Which::Hopeful)),
-        Verb::Counterexample => Some(VertexQuestion::Example(Which::Dual)),
-        Verb::Offer => Some(VertexQuestion::Offer),
-        Verb::Needs => Some(VertexQuestion::Needs),
-        Verb::Repair => Some(VertexQuestion::Repair),
-        Verb::Lost => Some(VertexQuestion::Lost(Which::Hopeful)),
-        Verb::Won => Some(VertexQuestion::Lost(Which::Dual)),
-        Verb::Plan => Some(VertexQuestion::Moves(Which::Hopeful)),
-        Verb::Spoil => Some(VertexQuestion::Moves(Which::Dual)),
-        Verb::Draw => Some(VertexQuestion::Draw),
-        Verb::Trace => Some(VertexQuestion::Trace),
-        Verb::Winners => Some(VertexQuestion::Winners),
-        Verb::Decide => Some(VertexQuestion::Decide),
-        _ => None,
-    }
-}
-
 /// Returns a command about a vertex.
-fn vertex_command<'t>(verb: Verb, vertex: Vertex<'t>) -> Option<Command<'t>>
-    ensures { option_map command_shown result ≡ option_map (ask_of (vertex_shown vertex.entry)) (question_of verb) }
+fn vertex_command<'t>(form: &CommandForm, vertex: Vertex<'t>) -> Option<Command<'t>>
+    ensures { option_map command_shown result ≡ vertex_command (form_shown form.now) (vertex_shown vertex.entry) }
 {
-    match question_of(verb) {
-        Some(question) => Some(Command::Ask(Inquiry::OfVertex(question, vertex))),
+    match form.of_vertex {
+        Some(look) => Some(Command::Look(Look::OfVertex(look, vertex))),
         None => None,
     }
 }
 
 /// Returns a command with one argument.
-fn command_with<'t>(verb: Verb, argument: Argument<'t>) -> Option<Command<'t>>
-    ensures { option_map command_shown result ≡ command_with verb (argument_shown argument.entry) }
+fn command_with<'t>(form: &CommandForm, argument: Argument<'t>) -> Option<Command<'t>>
+    ensures { option_map command_shown result ≡ command_with (form_shown form.now) (argument_shown argument.entry) }
 {
     match argument {
-        Argument::Name(name) => feature_command(verb, name),
-        Argument::Number(n) => numbered_command(verb, n),
-        Argument::Vertex(vertex) => vertex_command(verb, vertex),
-        Argument::Subject(inquiry) => Some(Command::Ask(inquiry)),
+        Argument::Name(name) => feature_command(form, name),
+        Argument::Number(n) => numbered_command(form.verb?, n),
+        Argument::Vertex(vertex) => vertex_command(form, vertex),
+        Argument::Choice(value, name) => Some(Command::Look(Look::OfChoice(value, name))),
         Argument::Table(_) | Argument::Asserted(_, _) | Argument::Claim(_) | Argument::Exact(_) =>
             None,
     }
@@ -277,15 +148,15 @@ fn command_with<'t>(verb: Verb, argument: Argument<'t>) -> Option<Command<'t>>
 
 /// Returns a command with one argument, if there are no more.
 fn command_with_few<'t>(
-    verb: Verb,
+    form: &CommandForm,
     argument: Argument<'t>,
     more: &[Argument<'t>],
 ) -> Option<Command<'t>>
     ensures { option_map command_shown result
-        ≡ command_with_few verb (argument_shown argument.entry) (map argument_shown more.now) }
+        ≡ command_with_few (form_shown form.now) (argument_shown argument.entry) (map argument_shown more.now) }
 {
     match more {
-        [] => command_with(verb, argument),
+        [] => command_with(form, argument),
         [_, ..] => None,
     }
 }
@@ -342,39 +213,40 @@ fn lift_of<'t>(first: Argument<'t>, more: &[Argument<'t>]) -> Option<Command<'t>
     }
 }
 
-/// Returns the command of a verb and its arguments.
+/// Returns the command of a form and its arguments.
 fn command_from<'t>(
     alloc: Global,
-    verb: Verb,
+    form: &CommandForm,
     arguments: &[Argument<'t>],
 ) -> Result<Option<Command<'t>>, AllocError>
     ensures { IfOk result (λ found. option_map command_shown found
-        ≡ command_from verb (map argument_shown arguments.now)) }
+        ≡ command_from (form_shown form.now) (map argument_shown arguments.now)) }
 {
     let [first, more @ ..] = arguments else {
-        return Ok(bare_command(verb));
+        return Ok(bare_command(form));
     };
-    match verb {
-        Verb::Show => match vertices_in(alloc, arguments)? {
-            Some(vertices) => Ok(Some(Command::Look(Lookup::Vertices(vertices)))),
+    match form.verb {
+        Some(Verb::Show) => match vertices_in(alloc, arguments)? {
+            Some(vertices) => Ok(Some(Command::Look(Look::OfVertices(vertices)))),
             None => Ok(None),
         },
-        Verb::Lift => Ok(lift_of(*first, more)),
-        Verb::Assert => assert_command(alloc, *first, more),
-        _ => Ok(command_with_few(verb, *first, more)),
+        Some(Verb::Lift) => Ok(lift_of(*first, more)),
+        Some(Verb::Assert) => assert_command(alloc, *first, more),
+        _ => Ok(command_with_few(form, *first, more)),
     }
 }
 
-/// Returns the command of a verb, and of words behind it that fit its form.
+/// Returns the command of a form, and of words that fit it.
 fn command_of<'t>(
     alloc: Global,
-    verb: Verb,
+    form: &CommandForm,
     words: &[&'t [u8]],
 ) -> Result<Option<Command<'t>>, AllocError>
-    ensures { IfOk result (λ found. option_map command_shown found ≡ command_of verb (texts words.now)) }
+    ensures { IfOk result (λ found. option_map command_shown found
+        ≡ command_of (form_shown form.now) (texts words.now)) }
 {
-    match arguments_of(alloc, &form_of(verb), words)? {
-        Some(arguments) => command_from(alloc, verb, &arguments),
+    match arguments_of(alloc, form, words)? {
+        Some(arguments) => command_from(alloc, form, &arguments),
         None => Ok(None),
     }
 }
@@ -394,7 +266,7 @@ fn label(word: &[u8]) -> Option<u32>
 }
 
 ghost use Rattle.std.specs.Prelude.{Some};
-ghost use Rattle.vpg_script.specs.Script.{requested, with_verb, after_label, labelled, said_by, said};
+ghost use Rattle.vpg_script.specs.Script.{requested, with_form, after_label, labelled, said_by, said};
 ghost use Rattle.vpg_script.specs.View.{Says};
 
 /// Why a line gives no request.
@@ -425,10 +297,10 @@ fn after_label<'t>(
     let [word, args @ ..] = words else {
         return Err(ReadFault::Line(LineFault::Word));
     };
-    let Some(verb) = verb_named(word) else {
+    let Some(form) = form_named(word) else {
         return Err(ReadFault::Line(LineFault::Word));
     };
-    match command_of(alloc, verb, args) {
+    match command_of(alloc, &form, args) {
         Ok(Some(command)) => Ok(Some(Request { label, command })),
         Ok(None) => Err(ReadFault::Line(LineFault::Args)),
         Err(_) => Err(ReadFault::Memory),

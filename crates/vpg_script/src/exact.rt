@@ -1,10 +1,11 @@
 //! Assertions.
 ghost use Rattle.std.specs.Prelude.{◌≡◌, IfOk, map, option_map};
-ghost use Rattle.vpg_script.specs.Script.{assert_command, asserted, claim_in, claims_in, exact_in, exact_named, exact_or, state_command, verdicts_command};
+ghost use Rattle.vpg_script.specs.Script.{assert_command, asserted, claim_in, claims_in, exact_in, exact_named, exact_or, verdicts_command};
 ghost use Rattle.vpg_script.specs.View.{argument_shown, command_shown, vertex_shown};
 
-use crate::arguments::{Argument, State, same};
-use crate::command::{Assertion, Claim, Command, Inquiry, Lookup, Vertex};
+use crate::arguments::{Argument, same};
+use crate::command::Command;
+use crate::look::{Claim, Look, PageLook, Vertex, VertexLook};
 use std::alloc::{AllocError, Global};
 
 /// An exact verdict of a vertex, that a line asserts.
@@ -65,16 +66,6 @@ fn claims_in(alloc: Global, arguments: &[Argument<'_>]) -> Result<Option<Vec<Cla
     Ok(Some(claims))
 }
 
-/// Returns the assertion about the page as a whole.
-fn state_command<'t>(state: State) -> Command<'t>
-    ensures { command_shown result ≡ state_command state }
-{
-    match state {
-        State::Full => Command::Look(Lookup::Assert(Assertion::Full)),
-        State::Settled => Command::Look(Lookup::Assert(Assertion::Settled)),
-    }
-}
-
 /// Returns the assertion of the verdicts of a vertex that arguments name.
 fn verdicts_command<'t>(
     alloc: Global,
@@ -87,8 +78,7 @@ fn verdicts_command<'t>(
     let Some(claims) = claims_in(alloc, arguments)? else {
         return Ok(None);
     };
-    let assertion = Assertion::Verdicts(vertex, claims);
-    Ok(Some(Command::Look(Lookup::Assert(assertion))))
+    Ok(Some(Command::Look(Look::OfClaims(vertex, claims))))
 }
 
 /// Returns the assertion of a vertex: of the exact verdict if there is one, or else of those that arguments name.
@@ -102,7 +92,7 @@ fn exact_or<'t>(
         ≡ exact_or (vertex_shown vertex.entry) exact (map argument_shown arguments.now)) }
 {
     match exact {
-        Some(verdict) => Ok(Some(Command::Ask(Inquiry::OfExact(verdict, vertex)))),
+        Some(verdict) => Ok(Some(Command::Look(Look::OfVertex(VertexLook::Is(verdict), vertex)))),
         None => verdicts_command(alloc, vertex, arguments),
     }
 }
@@ -110,7 +100,7 @@ fn exact_or<'t>(
 /// Returns the assertion of a word alone, or of a vertex and the verdicts that arguments name.
 fn asserted<'t>(
     alloc: Global,
-    state: Option<State>,
+    state: Option<PageLook>,
     vertex: Vertex<'t>,
     arguments: &[Argument<'_>],
 ) -> Result<Option<Command<'t>>, AllocError>
@@ -119,7 +109,7 @@ fn asserted<'t>(
 {
     match arguments {
         [] => match state {
-            Some(state) => Ok(Some(state_command(state))),
+            Some(state) => Ok(Some(Command::Look(Look::OfPage(state)))),
             None => Ok(None),
         },
         [verdict] => exact_or(alloc, vertex, exact_in(*verdict), arguments),

@@ -1,12 +1,15 @@
 //! The commands of scripts: their words, their arguments, and their help.
 //!
-//! Each command has one row, a `CommandForm`. By its word and its parameters lines are read (`specs/Forms` repeats
-//! these). Messages about faulty lines use it too, and help prints its lines.
-ghost use Rattle.std.specs.Prelude.{◌≡◌};
+//! Each command has one row of `FORMS`, a `CommandForm`. Lines are read by its word, its parameters, its verb, and what
+//! it looks at (`specs/Forms` repeats these). Messages about faulty lines use it too, and help prints its lines.
+ghost use Rattle.std.specs.Prelude.{◌≡◌, map, option_map};
 ghost use Rattle.std.specs.List.{find};
-ghost use Rattle.vpg_script.specs.Forms.{form_of, form_shown, is_named, verb_of};
+ghost use Rattle.vpg_script.specs.Forms.{form_named, form_shown, forms, is_named};
 
-/// The words that name commands.
+use crate::look::{FeatureLook, PageLook, VertexLook};
+use vpg_sides::Which;
+
+/// The commands that do more than look at the page, a vertex or a feature.
 #[derive(Clone, Copy)]
 pub enum Verb {
     Select,
@@ -21,30 +24,10 @@ pub enum Verb {
     Harvest,
     Commit,
     Settle,
-    Show,
-    Trail,
-    Products,
-    Plan,
-    Count,
-    Draw,
     Changed,
-    Known,
+    /// It also looks at several vertices.
+    Show,
     Assert,
-    Why,
-    Example,
-    Counterexample,
-    Offer,
-    Needs,
-    Repair,
-    Lost,
-    Won,
-    Forced,
-    Empty,
-    Spoil,
-    Trace,
-    Winners,
-    Decide,
-    Number,
 }
 
 /// The kind of an argument of a command.
@@ -80,481 +63,404 @@ pub struct CommandForm {
     pub least: usize,
     /// The parameter of each further argument, if there may be any.
     pub rest: Option<Parameter>,
+    /// Its verb, if it does more than the looks of its row.
+    pub verb: Option<Verb>,
+    /// The look at the page, if it stands alone.
+    pub of_page: Option<PageLook>,
+    /// The look at the vertex that is its argument.
+    pub of_vertex: Option<VertexLook>,
+    /// The look at the feature whose name is its argument.
+    pub of_feature: Option<FeatureLook>,
     /// Its lines of help, each after a line feed, of at most 80 columns. They may be about other commands too, whose
     /// rows then have none.
     pub help: &'static str,
 }
 
-const SELECT: CommandForm = CommandForm {
-    word: "select",
-    written: "select F",
-    parameters: &[Parameter::Feature],
-    least: 1,
-    rest: None,
-    help: "",
-};
-
-const EXCLUDE: CommandForm = CommandForm {
-    word: "exclude",
-    written: "exclude F",
-    parameters: &[Parameter::Feature],
-    least: 1,
-    rest: None,
-    help: "
-  select F, exclude F    decide that F is in or out",
-};
-
-const RETRACT: CommandForm = CommandForm {
-    word: "retract",
-    written: "retract F",
-    parameters: &[Parameter::Feature],
-    least: 1,
-    rest: None,
-    help: "",
-};
-
-const RESET: CommandForm = CommandForm {
-    word: "reset",
-    written: "reset",
+/// The form of a command without arguments, which is no look: rows say in what they differ from it.
+const PLAIN: CommandForm = CommandForm {
+    word: "",
+    written: "",
     parameters: &[],
     least: 0,
     rest: None,
-    help: "
-  retract F, reset       take that decision back; take all of them back",
-};
-
-const UNDO: CommandForm = CommandForm {
-    word: "undo",
-    written: "undo [S]",
-    parameters: &[Parameter::Serial],
-    least: 0,
-    rest: None,
+    verb: None,
+    of_page: None,
+    of_vertex: None,
+    of_feature: None,
     help: "",
 };
 
-const REDO: CommandForm = CommandForm {
-    word: "redo",
-    written: "redo [S]",
-    parameters: &[Parameter::Serial],
-    least: 0,
-    rest: None,
-    help: "
+/// The commands, in the order of their help.
+const FORMS: &[CommandForm] = &[
+    CommandForm {
+        word: "select",
+        written: "select F",
+        parameters: &[Parameter::Feature],
+        least: 1,
+        verb: Some(Verb::Select),
+        ..PLAIN
+    },
+    CommandForm {
+        word: "exclude",
+        written: "exclude F",
+        parameters: &[Parameter::Feature],
+        least: 1,
+        verb: Some(Verb::Exclude),
+        help: "
+  select F, exclude F    decide that F is in or out",
+        ..PLAIN
+    },
+    CommandForm {
+        word: "retract",
+        written: "retract F",
+        parameters: &[Parameter::Feature],
+        least: 1,
+        verb: Some(Verb::Retract),
+        ..PLAIN
+    },
+    CommandForm {
+        word: "reset",
+        written: "reset",
+        verb: Some(Verb::Reset),
+        help: "
+  retract F, reset       take that decision back; take all of them back",
+        ..PLAIN
+    },
+    CommandForm {
+        word: "undo",
+        written: "undo [S]",
+        parameters: &[Parameter::Serial],
+        verb: Some(Verb::Undo),
+        ..PLAIN
+    },
+    CommandForm {
+        word: "redo",
+        written: "redo [S]",
+        parameters: &[Parameter::Serial],
+        verb: Some(Verb::Redo),
+        help: "
   undo [S], redo [S]     the latest change, or the change S",
-};
-
-const KEEP: CommandForm = CommandForm {
-    word: "keep",
-    written: "keep S",
-    parameters: &[Parameter::Serial],
-    least: 1,
-    rest: None,
-    help: "
+        ..PLAIN
+    },
+    CommandForm {
+        word: "keep",
+        written: "keep S",
+        parameters: &[Parameter::Serial],
+        least: 1,
+        verb: Some(Verb::Keep),
+        help: "
   keep S                 give up the right to undo S and all before it",
-};
-
-const FORGET: CommandForm = CommandForm {
-    word: "forget",
-    written: "forget S",
-    parameters: &[Parameter::Serial],
-    least: 1,
-    rest: None,
-    help: "
+        ..PLAIN
+    },
+    CommandForm {
+        word: "forget",
+        written: "forget S",
+        parameters: &[Parameter::Serial],
+        least: 1,
+        verb: Some(Verb::Forget),
+        help: "
   forget S               give up the right to redo S and all behind it",
-};
-
-const LIFT: CommandForm = CommandForm {
-    word: "lift",
-    written: "lift TABLE V",
-    parameters: &[Parameter::Table, Parameter::Vertex],
-    least: 2,
-    rest: None,
-    // `settle` is told of first: most scripts have no `lift`.
-    help: "
+        ..PLAIN
+    },
+    CommandForm {
+        word: "lift",
+        written: "lift TABLE V",
+        parameters: &[Parameter::Table, Parameter::Vertex],
+        least: 2,
+        verb: Some(Verb::Lift),
+        // `settle` is told of first: most scripts have no `lift`.
+        help: "
   settle [N]             raise both tables until they are settled, or in at most
                          N sweeps
   lift hopeful V         raise one vertex of one table;
   lift dual V            the same of the other",
-};
-
-const HARVEST: CommandForm = CommandForm {
-    word: "harvest",
-    written: "harvest",
-    parameters: &[],
-    least: 0,
-    rest: None,
-    help: "",
-};
-
-const COMMIT: CommandForm = CommandForm {
-    word: "commit",
-    written: "commit K",
-    parameters: &[Parameter::Harvest],
-    least: 1,
-    rest: None,
-    help: "
+        ..PLAIN
+    },
+    CommandForm {
+        word: "harvest",
+        written: "harvest",
+        verb: Some(Verb::Harvest),
+        ..PLAIN
+    },
+    CommandForm {
+        word: "commit",
+        written: "commit K",
+        parameters: &[Parameter::Harvest],
+        least: 1,
+        verb: Some(Verb::Commit),
+        help: "
   harvest, commit K      settle copies of the tables; take them into the page",
-};
-
-const SETTLE: CommandForm = CommandForm {
-    word: "settle",
-    written: "settle [N]",
-    parameters: &[Parameter::Sweeps],
-    least: 0,
-    rest: None,
-    help: "",
-};
-
-const SHOW: CommandForm = CommandForm {
-    word: "show",
-    written: "show [V ..]",
-    parameters: &[],
-    least: 0,
-    rest: Some(Parameter::Vertex),
-    help: "",
-};
-
-const TRAIL: CommandForm = CommandForm {
-    word: "trail",
-    written: "trail",
-    parameters: &[],
-    least: 0,
-    rest: None,
-    help: "
+        ..PLAIN
+    },
+    CommandForm {
+        word: "settle",
+        written: "settle [N]",
+        parameters: &[Parameter::Sweeps],
+        verb: Some(Verb::Settle),
+        ..PLAIN
+    },
+    CommandForm {
+        word: "show",
+        written: "show [V ..]",
+        rest: Some(Parameter::Vertex),
+        verb: Some(Verb::Show),
+        of_page: Some(PageLook::Show),
+        ..PLAIN
+    },
+    CommandForm {
+        word: "trail",
+        written: "trail",
+        of_page: Some(PageLook::Trail),
+        help: "
   show, trail            verdicts; the page's entries
   show V ..              the verdicts of these vertices",
-};
-
-const PRODUCTS: CommandForm = CommandForm {
-    word: "products",
-    written: "products",
-    parameters: &[],
-    least: 0,
-    rest: None,
-    help: "",
-};
-
-const PLAN: CommandForm = CommandForm {
-    word: "plan",
-    written: "plan [V]",
-    parameters: &[Parameter::Vertex],
-    least: 0,
-    rest: None,
-    help: "
+        ..PLAIN
+    },
+    CommandForm {
+        word: "products",
+        written: "products",
+        of_page: Some(PageLook::Products),
+        ..PLAIN
+    },
+    CommandForm {
+        word: "plan",
+        written: "plan [V]",
+        parameters: &[Parameter::Vertex],
+        of_page: Some(PageLook::Plan),
+        of_vertex: Some(VertexLook::Moves(Which::Hopeful)),
+        help: "
   products, plan         known features; Even's moves, where all is known",
-};
-
-const COUNT: CommandForm = CommandForm {
-    word: "count",
-    written: "count",
-    parameters: &[],
-    least: 0,
-    rest: None,
-    help: "
+        ..PLAIN
+    },
+    CommandForm {
+        word: "count",
+        written: "count",
+        of_page: Some(PageLook::Count),
+        help: "
   count                  how many vertices have which verdict; whether the page
                          is settled, full or empty",
-};
-
-const DRAW: CommandForm = CommandForm {
-    word: "draw",
-    written: "draw [V]",
-    parameters: &[Parameter::Vertex],
-    least: 0,
-    rest: None,
-    help: "
+        ..PLAIN
+    },
+    CommandForm {
+        word: "draw",
+        written: "draw [V]",
+        parameters: &[Parameter::Vertex],
+        of_page: Some(PageLook::Draw),
+        of_vertex: Some(VertexLook::Draw),
+        help: "
   draw                   a picture of the game, for Graphviz;
   draw V                 the same of what can be reached from V, by moves that
                          win in every product left, where V is hopeless or sure",
-};
-
-const CHANGED: CommandForm = CommandForm {
-    word: "changed",
-    written: "changed",
-    parameters: &[],
-    least: 0,
-    rest: None,
-    help: "
+        ..PLAIN
+    },
+    CommandForm {
+        word: "changed",
+        written: "changed",
+        verb: Some(Verb::Changed),
+        help: "
   changed                verdicts that are other than at the last `changed`",
-};
-
-const KNOWN: CommandForm = CommandForm {
-    word: "known",
-    written: "known F",
-    parameters: &[Parameter::Feature],
-    least: 1,
-    rest: None,
-    help: "
+        ..PLAIN
+    },
+    CommandForm {
+        word: "known",
+        written: "known F",
+        parameters: &[Parameter::Feature],
+        least: 1,
+        of_feature: Some(FeatureLook::Known),
+        help: "
   known F                whether F is known to be in or out",
-};
-
-const ASSERT: CommandForm = CommandForm {
-    word: "assert",
-    written: "assert V WORD .. | full | settled",
-    parameters: &[Parameter::Asserted],
-    least: 1,
-    rest: Some(Parameter::Verdict),
-    help: "
+        ..PLAIN
+    },
+    CommandForm {
+        word: "assert",
+        written: "assert V WORD .. | full | settled",
+        parameters: &[Parameter::Asserted],
+        least: 1,
+        rest: Some(Parameter::Verdict),
+        verb: Some(Verb::Assert),
+        help: "
   assert V WORD ..       whether V is hopeless, possible, sure or unsure, and
                          stays so
   assert V won           whether a product is left, and Even wins at V in each;
                          lost: Odd in each; mixed: each of them in some
   assert full            whether each feature is known;
   assert settled         whether the page is settled",
-};
-
-const WHY: CommandForm = CommandForm {
-    word: "why",
-    written: "why V | F | +F | -F",
-    parameters: &[Parameter::Subject],
-    least: 1,
-    rest: None,
-    help: "
+        ..PLAIN
+    },
+    CommandForm {
+        word: "why",
+        written: "why V | F | +F | -F",
+        parameters: &[Parameter::Subject],
+        least: 1,
+        of_vertex: Some(VertexLook::Why),
+        of_feature: Some(FeatureLook::Why),
+        help: "
   why V, why F           decisions that make V's verdicts so, or F known
   why +F, why -F         decisions that contradict one more",
-};
-
-const EXAMPLE: CommandForm = CommandForm {
-    word: "example",
-    written: "example V",
-    parameters: &[Parameter::Vertex],
-    least: 1,
-    rest: None,
-    help: "
+        ..PLAIN
+    },
+    CommandForm {
+        word: "example",
+        written: "example V",
+        parameters: &[Parameter::Vertex],
+        least: 1,
+        of_vertex: Some(VertexLook::Example(Which::Hopeful)),
+        help: "
   example V              the first product left in which Even wins at V",
-};
-
-const COUNTEREXAMPLE: CommandForm = CommandForm {
-    word: "counterexample",
-    written: "counterexample V",
-    parameters: &[Parameter::Vertex],
-    least: 1,
-    rest: None,
-    help: "
+        ..PLAIN
+    },
+    CommandForm {
+        word: "counterexample",
+        written: "counterexample V",
+        parameters: &[Parameter::Vertex],
+        least: 1,
+        of_vertex: Some(VertexLook::Example(Which::Dual)),
+        help: "
   counterexample V       the same of Odd",
-};
-
-const LOST: CommandForm = CommandForm {
-    word: "lost",
-    written: "lost V",
-    parameters: &[Parameter::Vertex],
-    least: 1,
-    rest: None,
-    help: "
+        ..PLAIN
+    },
+    CommandForm {
+        word: "lost",
+        written: "lost V",
+        parameters: &[Parameter::Vertex],
+        least: 1,
+        of_vertex: Some(VertexLook::Lost(Which::Hopeful)),
+        help: "
   lost V                 decisions because of which Even wins at V in no product",
-};
-
-const WON: CommandForm = CommandForm {
-    word: "won",
-    written: "won V",
-    parameters: &[Parameter::Vertex],
-    least: 1,
-    rest: None,
-    help: "
+        ..PLAIN
+    },
+    CommandForm {
+        word: "won",
+        written: "won V",
+        parameters: &[Parameter::Vertex],
+        least: 1,
+        of_vertex: Some(VertexLook::Lost(Which::Dual)),
+        help: "
   won V                  the same of Odd",
-};
-
-const OFFER: CommandForm = CommandForm {
-    word: "offer",
-    written: "offer V",
-    parameters: &[Parameter::Vertex],
-    least: 1,
-    rest: None,
-    help: "
+        ..PLAIN
+    },
+    CommandForm {
+        word: "offer",
+        written: "offer V",
+        parameters: &[Parameter::Vertex],
+        least: 1,
+        of_vertex: Some(VertexLook::Offer),
+        help: "
   offer V                what each further decision would make of V",
-};
-
-const NEEDS: CommandForm = CommandForm {
-    word: "needs",
-    written: "needs V",
-    parameters: &[Parameter::Vertex],
-    least: 1,
-    rest: None,
-    help: "
+        ..PLAIN
+    },
+    CommandForm {
+        word: "needs",
+        written: "needs V",
+        parameters: &[Parameter::Vertex],
+        least: 1,
+        of_vertex: Some(VertexLook::Needs),
+        help: "
   needs V                what every product has that is left and won at V",
-};
-
-const REPAIR: CommandForm = CommandForm {
-    word: "repair",
-    written: "repair V",
-    parameters: &[Parameter::Vertex],
-    least: 1,
-    rest: None,
-    help: "
+        ..PLAIN
+    },
+    CommandForm {
+        word: "repair",
+        written: "repair V",
+        parameters: &[Parameter::Vertex],
+        least: 1,
+        of_vertex: Some(VertexLook::Repair),
+        help: "
   repair V               what to retract so that Even wins at V in some product",
-};
-
-const SPOIL: CommandForm = CommandForm {
-    word: "spoil",
-    written: "spoil V",
-    parameters: &[Parameter::Vertex],
-    least: 1,
-    rest: None,
-    help: "
+        ..PLAIN
+    },
+    CommandForm {
+        word: "spoil",
+        written: "spoil V",
+        parameters: &[Parameter::Vertex],
+        least: 1,
+        of_vertex: Some(VertexLook::Moves(Which::Dual)),
+        help: "
   spoil V                moves of Odd that win at V in every product left;
   plan V                 the same of Even",
-};
-
-const TRACE: CommandForm = CommandForm {
-    word: "trace",
-    written: "trace V",
-    parameters: &[Parameter::Vertex],
-    least: 1,
-    rest: None,
-    help: "
+        ..PLAIN
+    },
+    CommandForm {
+        word: "trace",
+        written: "trace V",
+        parameters: &[Parameter::Vertex],
+        least: 1,
+        of_vertex: Some(VertexLook::Trace),
+        help: "
   trace V                where V is hopeless or sure, how the winner wins there,
                          as steps of the system that stands in place of a game",
-};
-
-const WINNERS: CommandForm = CommandForm {
-    word: "winners",
-    written: "winners V",
-    parameters: &[Parameter::Vertex],
-    least: 1,
-    rest: None,
-    help: "
+        ..PLAIN
+    },
+    CommandForm {
+        word: "winners",
+        written: "winners V",
+        parameters: &[Parameter::Vertex],
+        least: 1,
+        of_vertex: Some(VertexLook::Winners),
+        help: "
   winners V              which products that are left Even wins at V, and which
                          Odd, in parts",
-};
-
-const DECIDE: CommandForm = CommandForm {
-    word: "decide",
-    written: "decide V",
-    parameters: &[Parameter::Vertex],
-    least: 1,
-    rest: None,
-    help: "
+        ..PLAIN
+    },
+    CommandForm {
+        word: "decide",
+        written: "decide V",
+        parameters: &[Parameter::Vertex],
+        least: 1,
+        of_vertex: Some(VertexLook::Decide),
+        help: "
   decide V               who wins at V in the products that are left, exactly",
-};
-
-const FORCED: CommandForm = CommandForm {
-    word: "forced",
-    written: "forced",
-    parameters: &[],
-    least: 0,
-    rest: None,
-    help: "
+        ..PLAIN
+    },
+    CommandForm {
+        word: "forced",
+        written: "forced",
+        of_page: Some(PageLook::Forced),
+        help: "
   forced                 what every product has that is left",
-};
-
-const EMPTY: CommandForm = CommandForm {
-    word: "empty",
-    written: "empty",
-    parameters: &[],
-    least: 0,
-    rest: None,
-    help: "
+        ..PLAIN
+    },
+    CommandForm {
+        word: "empty",
+        written: "empty",
+        of_page: Some(PageLook::Empty),
+        help: "
   empty                  decisions that leave no product; else the first left",
-};
-
-const NUMBER: CommandForm = CommandForm {
-    word: "number",
-    written: "number",
-    parameters: &[],
-    least: 0,
-    rest: None,
-    help: "
+        ..PLAIN
+    },
+    CommandForm {
+        word: "number",
+        written: "number",
+        of_page: Some(PageLook::Number),
+        help: "
   number                 how many products are left",
-};
-
-/// All commands, in the order of their help.
-pub const VERBS: [Verb; 36] = [
-    Verb::Select,
-    Verb::Exclude,
-    Verb::Retract,
-    Verb::Reset,
-    Verb::Undo,
-    Verb::Redo,
-    Verb::Keep,
-    Verb::Forget,
-    Verb::Lift,
-    Verb::Harvest,
-    Verb::Commit,
-    Verb::Settle,
-    Verb::Show,
-    Verb::Trail,
-    Verb::Products,
-    Verb::Plan,
-    Verb::Count,
-    Verb::Draw,
-    Verb::Changed,
-    Verb::Known,
-    Verb::Assert,
-    Verb::Why,
-    Verb::Example,
-    Verb::Counterexample,
-    Verb::Lost,
-    Verb::Won,
-    Verb::Offer,
-    Verb::Needs,
-    Verb::Repair,
-    Verb::Spoil,
-    Verb::Trace,
-    Verb::Winners,
-    Verb::Decide,
-    Verb::Forced,
-    Verb::Empty,
-    Verb::Number,
+        ..PLAIN
+    },
 ];
 
-/// Returns the form of a command.
-pub fn form_of(verb: Verb) -> CommandForm
-    ensures { form_shown result ≡ form_of verb }
+/// Returns the forms of all commands, in the order of their help.
+pub fn all_forms() -> &'static [CommandForm]
+    ensures { map form_shown result.now ≡ forms }
 {
-    match verb {
-        Verb::Select => SELECT,
-        Verb::Exclude => EXCLUDE,
-        Verb::Retract => RETRACT,
-        Verb::Reset => RESET,
-        Verb::Undo => UNDO,
-        Verb::Redo => REDO,
-        Verb::Keep => KEEP,
-        Verb::Forget => FORGET,
-        Verb::Lift => LIFT,
-        Verb::Harvest => HARVEST,
-        Verb::Commit => COMMIT,
-        Verb::Settle => SETTLE,
-        Verb::Show => SHOW,
-        Verb::Trail => TRAIL,
-        Verb::Products => PRODUCTS,
-        Verb::Plan => PLAN,
-        Verb::Count => COUNT,
-        Verb::Draw => DRAW,
-        Verb::Changed => CHANGED,
-        Verb::Known => KNOWN,
-        Verb::Assert => ASSERT,
-        Verb::Why => WHY,
-        Verb::Example => EXAMPLE,
-        Verb::Counterexample => COUNTEREXAMPLE,
-        Verb::Lost => LOST,
-        Verb::Won => WON,
-        Verb::Offer => OFFER,
-        Verb::Needs => NEEDS,
-        Verb::Repair => REPAIR,
-        Verb::Spoil => SPOIL,
-        Verb::Trace => TRACE,
-        Verb::Winners => WINNERS,
-        Verb::Decide => DECIDE,
-        Verb::Forced => FORCED,
-        Verb::Empty => EMPTY,
-        Verb::Number => NUMBER,
-    }
+    FORMS
 }
 
-fn is_named(word: &[u8], verb: Verb) -> bool
-    ensures { result ≡ is_named word.now verb }
+fn is_named(word: &[u8], form: &CommandForm) -> bool
+    ensures { result ≡ is_named word.now (form_shown form.now) }
 {
-    form_of(verb).word.as_bytes() == word
+    form.word.as_bytes() == word
 }
 
-/// Returns the first of some commands that a word names.
-fn named_in(verbs: &[Verb], word: &[u8]) -> Option<Verb>
-    ensures { result ≡ find (is_named word.now) verbs.now }
+/// Returns the first of some forms that a word names.
+fn named_in(forms: &[CommandForm], word: &[u8]) -> Option<CommandForm>
+    ensures { result ≡ find (λ form. is_named word.now (form_shown form)) forms.now }
 {
-    verbs.iter().copied().find(|verb| is_named(word, *verb))
+    forms.iter().copied().find(|form| is_named(word, form))
 }
 
-/// Returns the command that a word names.
-pub fn verb_named(word: &[u8]) -> Option<Verb>
-    ensures { result ≡ verb_of word.now }
+/// Returns the form of the command that a word names.
+pub fn form_named(word: &[u8]) -> Option<CommandForm>
+    ensures { option_map form_shown result ≡ form_named word.now }
 {
-    named_in(&VERBS, word)
+    named_in(all_forms(), word)
 }

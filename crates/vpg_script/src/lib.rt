@@ -2,16 +2,15 @@
 //!
 //! A script is read from a `Source`, a piece at a time, and `next_line` returns its next line. A line is blank, a
 //! comment, or a command with its arguments, under a label from 1 to 64 or none; `read_line` says which. The commands
-//! are `select`, `exclude`, `retract`, `undo`, `redo`, `keep`, `forget`, `lift`, `harvest`, `commit`, `settle`,
-//! `changed` and `known`. A `Lookup` looks at the page: `show`, `trail`, `products`, `plan`, `count`, `draw` and
-//! `assert`. An `Inquiry` is a question about it: `why`, `example`, `counterexample`, `offer`, `needs`, `repair`,
-//! `lost`, `won`, `spoil`, `trace`, `winners`, `decide`, `plan` and `draw` of a vertex, `forced`, `empty` and `number`,
-//! and `assert` of an exact verdict. Each other first word is a fault of its line. A further question about a vertex is
-//! a new `VertexQuestion`, and one about the page as a whole a new `PageQuestion`. The crate of answers has to know it;
-//! the crate of runs does not.
+//! are `select`, `exclude`, `retract`, `reset`, `undo`, `redo`, `keep`, `forget`, `lift`, `harvest`, `commit`, `settle`
+//! and `changed`. All others only look at the page. Such a `Look` says what it is about: the page as a whole
+//! (`PageLook`), a vertex (`VertexLook`), a feature (`FeatureLook`), some vertices, asserted verdicts, or one more
+//! decision. Each other first word is a fault of its line.
 //!
-//! The forms of commands are one table, `VERBS` with `form_of`: lines are read by it, messages and help are made of it.
-//! `verb_named` returns the command that a word names, and `argument_of` what a word says as an argument.
+//! The forms of commands are one table, `all_forms`: lines are read by it, messages and help are made of it. A row also
+//! says what its command looks at. So a further look is a variant, a row, and a row of `specs/Forms`; the crate of
+//! answers has to know it, and the crate of runs does not. `form_named` returns the form of the command that a word
+//! names, and `argument_of` what a word says as an argument.
 //!
 //! A vertex is named by its identifier, or by a name. `Callings` are the names of vertices, and `meant` returns the
 //! request with the identifier of each vertex in place of its name.
@@ -28,6 +27,8 @@
 //! `specs/Calling`; the next line of a text in `specs/Lines`, and a failed write in `specs/Devices`. `specs/Answer`
 //! defines answers, `specs/Framing` their forms, `specs/Output` the output, `specs/Manners` that of scripts in a
 //! manner, and `specs/Results` results. All are this project's own.
+//!
+//! Trials: scripts of `vpg_examples` (`scripts/served`, `scripts/manners`, `scripts/order`).
 #![tactic(auto)]
 
 mod answering;
@@ -41,23 +42,22 @@ mod forms;
 mod framing;
 pub mod laws;
 mod lines;
+mod look;
 mod meaning;
 mod serving;
 mod tone;
 mod words;
 
-pub use arguments::{Argument, State, argument_of};
+pub use arguments::{Argument, argument_of};
 pub use calling::Callings;
-pub use command::{
-    Assertion, Claim, Command, Inquiry, LONGEST_LINE, LineFault, Lookup, PageQuestion, ReadFault,
-    Request, Vertex, VertexQuestion, read_line,
-};
+pub use command::{Command, LONGEST_LINE, LineFault, ReadFault, Request, read_line};
 pub use device::{Device, Failed, Sink, Source};
 pub use exact::ExactVerdict;
 pub use fault::RunFault;
-pub use forms::{CommandForm, Parameter, VERBS, Verb, form_of, verb_named};
+pub use forms::{CommandForm, Parameter, Verb, all_forms, form_named};
 pub use framing::Form;
 pub use lines::{MOST_READS, Next, NextFault, next_line, pass_line};
+pub use look::{Claim, FeatureLook, Look, PageLook, Vertex, VertexLook};
 pub use meaning::meant;
 pub use serving::{Ending, Manner, ServeFault, Server, answer_script, answer_script_as};
 pub use tone::{Tone, done};

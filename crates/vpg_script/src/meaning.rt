@@ -1,11 +1,12 @@
 //! The meaning of lines with names for vertices.
 ghost use Rattle.std.specs.Prelude.{◌≡◌, map, IfOk, is_some};
 ghost use Rattle.vpg_features.specs.Names.{index_of};
-ghost use Rattle.vpg_script.specs.Calling.{calls, meant, meant_assertion, meant_command, meant_inquiry, meant_lookup, meant_name, meant_vertex};
-ghost use Rattle.vpg_script.specs.View.{assertion_shown, command_shown, inquiry_shown, lookup_shown, request_shown, vertex_shown};
+ghost use Rattle.vpg_script.specs.Calling.{calls, meant, meant_command, meant_feature, meant_look, meant_name, meant_vertex};
+ghost use Rattle.vpg_script.specs.View.{command_shown, look_shown, request_shown, vertex_shown};
 
 use crate::calling::Callings;
-use crate::command::{Assertion, Claim, Command, Inquiry, Lookup, Request, Vertex, VertexQuestion};
+use crate::command::{Command, Request};
+use crate::look::{Claim, FeatureLook, Look, Vertex, VertexLook};
 use std::alloc::{AllocError, Global};
 use vpg_features::Names;
 
@@ -38,80 +39,60 @@ fn meant_vertices<'t>(
     Ok(numbered)
 }
 
-fn meant_assertion<'t>(
-    alloc: Global,
-    callings: &Callings,
-    assertion: &Assertion<'t>,
-) -> Result<Assertion<'t>, AllocError>
-    ensures { IfOk result (λ r. assertion_shown r
-        ≡ meant_assertion callings.now (assertion_shown assertion.now)) }
-{
-    match assertion {
-        Assertion::Verdicts(vertex, claims) => {
-            let claims: Vec<Claim> = Vec::from_slice(alloc, claims)?;
-            Ok(Assertion::Verdicts(meant_vertex(callings, *vertex), claims))
-        }
-        Assertion::Full => Ok(Assertion::Full),
-        Assertion::Settled => Ok(Assertion::Settled),
-    }
-}
-
-fn meant_lookup<'t>(
-    alloc: Global,
-    callings: &Callings,
-    lookup: &Lookup<'t>,
-) -> Result<Lookup<'t>, AllocError>
-    ensures { IfOk result (λ r. lookup_shown r ≡ meant_lookup callings.now (lookup_shown lookup.now)) }
-{
-    match lookup {
-        Lookup::Show => Ok(Lookup::Show),
-        Lookup::Vertices(vertices) => {
-            Ok(Lookup::Vertices(meant_vertices(alloc, callings, vertices)?))
-        }
-        Lookup::Trail => Ok(Lookup::Trail),
-        Lookup::Products => Ok(Lookup::Products),
-        Lookup::Plan => Ok(Lookup::Plan),
-        Lookup::Count => Ok(Lookup::Count),
-        Lookup::Draw => Ok(Lookup::Draw),
-        Lookup::Assert(assertion) => {
-            Ok(Lookup::Assert(meant_assertion(alloc, callings, assertion)?))
-        }
-    }
-}
-
 fn is_feature(features: &Names, name: &[u8]) -> bool
     ensures { result ≡ is_some (index_of features.now name.now) }
 {
     features.get(name).is_some()
 }
 
-/// Returns the question why the feature of a name is known, or else why a vertex of this name has its verdicts.
-fn meant_name<'t>(callings: &Callings, features: &Names, name: &'t [u8]) -> Inquiry<'t>
-    ensures { inquiry_shown result ≡ meant_name (is_some (index_of features.now name.now)) (calls callings.now name.now)
+/// Returns the look at why the feature of a name is known, or else at why a vertex of this name has its verdicts.
+fn meant_name<'t>(callings: &Callings, features: &Names, name: &'t [u8]) -> Look<'t>
+    ensures { look_shown result ≡ meant_name (is_some (index_of features.now name.now)) (calls callings.now name.now)
         callings.now name.now }
 {
     if is_feature(features, name) || !callings.calls(name) {
-        return Inquiry::OfFeature(name);
+        return Look::OfFeature(FeatureLook::Why, name);
     }
-    Inquiry::OfVertex(
-        VertexQuestion::Why,
-        meant_vertex(callings, Vertex::Name(name)),
-    )
+    Look::OfVertex(VertexLook::Why, meant_vertex(callings, Vertex::Name(name)))
 }
 
-fn meant_inquiry<'t>(callings: &Callings, features: &Names, inquiry: Inquiry<'t>) -> Inquiry<'t>
-    ensures { inquiry_shown result ≡ meant_inquiry callings.now features.now (inquiry_shown inquiry.entry) }
+/// Returns a look at a feature. Only `why` has a second meaning.
+fn meant_feature<'t>(
+    callings: &Callings,
+    features: &Names,
+    look: FeatureLook,
+    name: &'t [u8],
+) -> Look<'t>
+    ensures { look_shown result ≡ meant_feature callings.now features.now look name.now }
 {
-    match inquiry {
-        Inquiry::OfVertex(question, vertex) => {
-            Inquiry::OfVertex(question, meant_vertex(callings, vertex))
+    match look {
+        FeatureLook::Known => Look::OfFeature(look, name),
+        FeatureLook::Why => meant_name(callings, features, name),
+    }
+}
+
+fn meant_look<'t>(
+    alloc: Global,
+    callings: &Callings,
+    features: &Names,
+    look: &Look<'t>,
+) -> Result<Look<'t>, AllocError>
+    ensures { IfOk result (λ r. look_shown r ≡ meant_look callings.now features.now (look_shown look.now)) }
+{
+    match look {
+        Look::OfPage(what) => Ok(Look::OfPage(*what)),
+        Look::OfVertex(what, vertex) => {
+            Ok(Look::OfVertex(*what, meant_vertex(callings, *vertex)))
         }
-        Inquiry::OfFeature(name) => meant_name(callings, features, name),
-        Inquiry::OfChoice(value, name) => Inquiry::OfChoice(value, name),
-        Inquiry::OfPage(question) => Inquiry::OfPage(question),
-        Inquiry::OfExact(verdict, vertex) => {
-            Inquiry::OfExact(verdict, meant_vertex(callings, vertex))
+        Look::OfVertices(vertices) => {
+            Ok(Look::OfVertices(meant_vertices(alloc, callings, vertices)?))
         }
+        Look::OfClaims(vertex, claims) => {
+            let claims: Vec<Claim> = Vec::from_slice(alloc, claims)?;
+            Ok(Look::OfClaims(meant_vertex(callings, *vertex), claims))
+        }
+        Look::OfFeature(what, name) => Ok(meant_feature(callings, features, *what, *name)),
+        Look::OfChoice(value, name) => Ok(Look::OfChoice(*value, *name)),
     }
 }
 
@@ -139,10 +120,8 @@ fn meant_command<'t>(
         Command::Harvest => Ok(Command::Harvest),
         Command::Commit(number) => Ok(Command::Commit(*number)),
         Command::Settle(sweeps) => Ok(Command::Settle(*sweeps)),
-        Command::Look(lookup) => Ok(Command::Look(meant_lookup(alloc, callings, lookup)?)),
         Command::Changed => Ok(Command::Changed),
-        Command::Known(name) => Ok(Command::Known(*name)),
-        Command::Ask(inquiry) => Ok(Command::Ask(meant_inquiry(callings, features, *inquiry))),
+        Command::Look(look) => Ok(Command::Look(meant_look(alloc, callings, features, look)?)),
     }
 }
 

@@ -7,6 +7,8 @@
 //! decides about time, and no layer above or below does.
 //!
 //! The harvests of sweeps are defined in `specs/Sweeping`. It is this project's own.
+//!
+//! Trials: tests of `vpg_lifting_tests` (`climbing`, `policy`, `sweeps`).
 #![tactic(auto)]
 
 mod sweeping;

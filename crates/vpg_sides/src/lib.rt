@@ -4,6 +4,8 @@
 //! watchers name tables and report verdicts, and need no measure for it.
 //!
 //! The definitions stand in `specs/Players`: the other player, and the parity with which each wins.
+//!
+//! Trials: those of the layers above.
 #![tactic(auto)]
 
 mod player;

@@ -6,6 +6,8 @@
 //!
 //! `specs/Steps` defines the path of a walk, and that of the trace of a verdict. This is this project's own; walks and
 //! their texts are those of `vpg_trace`.
+//!
+//! Trials: scripts of `vpg_examples` (`scripts/drawn`).
 #![tactic(auto)]
 
 mod path;

@@ -12,6 +12,8 @@
 //! code's transitions as those of the definitions); `Coding` (systems as lists of numbers, for models that hold them);
 //! `Laws` (statements of the laws of the module `laws`). `SystemReading` and `ReadCode` are the reader as a function on
 //! lists; only private contracts name them.
+//!
+//! Trials: rows of `vpg_text_rows/data/systems`.
 #![tactic(auto)]
 
 mod actions;

@@ -10,6 +10,8 @@
 //! that can be reached, and `specs/Traced` the marks of a trace. `specs/Laws` has the statements of the laws in `laws`,
 //! on the meaning of arrows for products. `specs/Searched` has words for private functions. Labels and styles are those
 //! of pictures of games, of the crate below.
+//!
+//! Trials: rows of `vpg_text_rows/data/pictures`, scripts of `vpg_examples` (`scripts/drawn`).
 #![tactic(auto)]
 
 mod arrows;

@@ -6,6 +6,8 @@
 //!
 //! The layers above, `vpg_values` and `vpg_guess`, use `solve_regions` for a whole game and `solve_part` for some of
 //! its vertices.
+//!
+//! Trials: tests of `vpg_lifting_tests` (`asks`, `climbing`), by certified guesses.
 #![tactic(auto)]
 
 mod learning;

@@ -14,6 +14,8 @@
 //! just those to the lines that are handed on.
 //!
 //! `specs/Following` defines the kinds of answers and the lines that follow them. It is this project's own.
+//!
+//! Trials: tests of `vpg_family_tests` (`words`, `typing`).
 #![tactic(auto)]
 
 mod following;

@@ -1,6 +1,6 @@
 //! The text of the help.
 use std::alloc::{AllocError, Global};
-use vpg_script::{VERBS, form_of};
+use vpg_script::all_forms;
 
 /// The program's purpose, in a few lines.
 pub(crate) const ABOUT: &str = "\
@@ -62,8 +62,8 @@ All formats, commands, answers and faults: docs/FORMATS.md";
 /// Appends the list of commands of scripts.
 fn put_commands(list: &mut String) -> Result<(), AllocError> {
     list.push_str(LIST_BEGIN)?;
-    for verb in VERBS {
-        list.push_str(form_of(verb).help)?;
+    for form in all_forms() {
+        list.push_str(form.help)?;
     }
     list.push_str(LIST_END)
 }

@@ -1,5 +1,5 @@
 -- What is counted of a page, and asserted of it.
-use Rattle.std.proofs.Common.{◌≡◌, ℕ, ◌≤◌, Bool, List, [], ◌++◌, length, All, ap, ◌∙◌, append_assoc}
+use Rattle.std.proofs.Common.{◌≡◌, ℕ, ◌≤◌, Bool, List, [], ◌++◌, length, All, refl, ap, ◌∙◌, append_assoc}
 use Rattle.std.specs.Prelude.{map}
 use Rattle.std.specs.Bool.{Decides}
 use Rattle.vpg_diagram.specs.DiagramText.{NamedDiagram}
@@ -8,11 +8,10 @@ use Rattle.vpg_game.specs.Levels.{top_of}
 use Rattle.vpg_guards.specs.Known.{AreAllKnown}
 use Rattle.vpg_measure.specs.Games.{GamesView, ArePageGames}
 use Rattle.vpg_measure.specs.TwoGames.{top_for}
-use Rattle.vpg_script.specs.Script as script
 use Rattle.vpg_trail.specs.Page.{Hopeful, Dual, Decision, literal_of}
 use Rattle.vpg_script.specs.Answer.{Answer}
 use Rattle.vpg_texts.specs.Scene.{AreSettledTables, IsCounted, scene_of}
-use Rattle.vpg_texts.specs.Sights.{IsAsserted, assertion_answer}
+use Rattle.vpg_texts.specs.Sights.{IsAsserted}
 use Rattle.vpg_texts.specs.Text.{count_text}
 use Rattle.vpg_texts.proofs.Settled.{settled_tells}
 use Rattle.vpg_texts.proofs.Shown.{tells}
@@ -36,16 +35,18 @@ counts game diagram decisions games are hopeful dual mark text hopeful_len dual_
   ),
 )
 
+-- an answer that is made of whether each feature is known and the page is settled, by the tops of the games
 pub asserts : (game : NamedGame) (diagram : NamedDiagram) (decisions : List Decision) (games : GamesView) → ArePageGames game diagram (map literal_of decisions) games →
-    (hopeful dual : List ℕ) (answer : Answer) → length hopeful ≡ length game.vertices → length dual ≡ length game.vertices →
-    All (λ n. n ≤ top_for Hopeful (graph_of game)) hopeful → All (λ n. n ≤ top_for Dual (graph_of game)) dual → (assertion : script.Assertion) →
+    (hopeful dual : List ℕ) → length hopeful ≡ length game.vertices → length dual ≡ length game.vertices →
+    All (λ n. n ≤ top_for Hopeful (graph_of game)) hopeful → All (λ n. n ≤ top_for Dual (graph_of game)) dual → (answer_by : ℕ → ℕ → Bool → Bool → Answer) →
     (full settled : Bool) → Decides full (AreAllKnown (length games.known) games.known) → Decides settled (AreSettledTables games hopeful dual) →
-    answer ≡ assertion_answer (top_of games.hopeful_levels) (top_of games.dual_levels) (vertex_ids game.vertices) hopeful dual assertion full settled → IsAsserted (scene_of [] game diagram) assertion decisions hopeful dual answer
-asserts game diagram decisions games are hopeful dual answer hopeful_len dual_len hopeful_within dual_within assertion full settled full_is settled_is answer_is = (
+    IsAsserted (scene_of [] game diagram) (answer_by (top_for Hopeful (graph_of game)) (top_for Dual (graph_of game))) decisions hopeful dual
+    (answer_by (top_of games.hopeful_levels) (top_of games.dual_levels) full settled)
+asserts game diagram decisions games are hopeful dual hopeful_len dual_len hopeful_within dual_within answer_by full settled full_is settled_is = (
   games.known,
   (
     are.known,
-    tells game diagram (map literal_of decisions) games are (λ first second is_full is_settled. assertion_answer first second (vertex_ids game.vertices) hopeful dual assertion is_full is_settled) full settled hopeful dual answer full_is
-        (settled_tells game diagram (map literal_of decisions) games are hopeful dual hopeful_len dual_len hopeful_within dual_within settled settled_is) answer_is,
+    tells game diagram (map literal_of decisions) games are answer_by full settled hopeful dual (answer_by (top_of games.hopeful_levels) (top_of games.dual_levels) full settled) full_is
+        (settled_tells game diagram (map literal_of decisions) games are hopeful dual hopeful_len dual_len hopeful_within dual_within settled settled_is) refl,
   ),
 )

@@ -1,17 +1,13 @@
 -- Vertices that lines name.
-use Rattle.std.proofs.Common.{◌≡◌, ℕ, zero, suc, ◌+◌, ◌<◌, Bool, true, false, cond, List, [], ◌∷◌, length, map, get_or, Option, Some, None, refl, sym, ap, ◌∙◌, subst, arith, eq-eqb}
-use Rattle.std.specs.Prelude.{◌==◌, ◌&&◌, not, nat_lt, slice_get, slice_index_or, position, IfSome}
-use Rattle.std.specs.List.{list_all, position_or_len}
+use Rattle.std.proofs.Common.{◌≡◌, ℕ, zero, suc, ◌+◌, ◌<◌, Bool, true, false, cond, List, [], ◌∷◌, length, Option, Some, None, refl, sym, ap, ◌∙◌, subst, arith, eq-eqb}
+use Rattle.std.specs.Prelude.{◌==◌, not, nat_lt, slice_get, slice_index_or, position, IfSome}
+use Rattle.std.specs.List.{position_or_len}
 use Rattle.std.proofs.lemmas.List.{length-map}
 use Rattle.std.proofs.lemmas.List.Quantifiers.{position-Some}
 use Rattle.std.proofs.lemmas.Option.{slice_get_within}
 use Rattle.std.proofs.lemmas.Bool.{eqb-true}
 use Rattle.std.proofs.lemmas.Bool.Decides.{nat_tests}
 use Rattle.vpg_game.specs.Game.{NamedVertex, vertex_ids}
-use Rattle.vpg_script.specs.Script as script
-use Rattle.vpg_script.specs.View.{vertex_shown}
-use Rattle.vpg_script.specs.declared.command.Vertex.{Vertex}
-use Rattle.vpg_texts.specs.Sights.{has_vertices, is_vertex}
 
 -- ---- the place of an identifier
 
@@ -56,28 +52,6 @@ pub vertex_within : (vertices : List NamedVertex) (id : ℕ) (found : Option ℕ
 vertex_within vertices id None h = tt
 vertex_within vertices id (Some v) h = subst (λ (n : ℕ). v < n) (length-map vertices (λ (x : NamedVertex). x.id)) (slice_get_within (vertex_ids vertices) v id h)
 
--- ---- each of some
-
-first_passes : (a b : Bool) → (a && b) ≡ true → a ≡ true
-first_passes true b h = refl
-first_passes false b h = absurd (cc h)
-
-others_pass : (a b : Bool) → (a && b) ≡ true → b ≡ true
-others_pass true b h = h
-others_pass false b h = absurd (cc h)
-
-pub passes_at : (p : script.Vertex → Bool) (vs : List Vertex) (i : ℕ) (d : Vertex) → list_all p (map vertex_shown vs) ≡ true → i < length vs → p (vertex_shown (get_or vs i d)) ≡ true
-passes_at p [] i d all l = absurd (omega (arith, l))
-passes_at p (v ∷ vs) zero d all l = first_passes (p (vertex_shown v)) (list_all p (map vertex_shown vs)) all
-passes_at p (v ∷ vs) (suc i) d all l = passes_at p vs i d (others_pass (p (vertex_shown v)) (list_all p (map vertex_shown vs)) all) (omega (arith, l))
-
--- the same test of each
-pub all_shown : (p : script.Vertex → Bool) (vs : List Vertex) → list_all (λ v. p (vertex_shown v)) vs ≡ list_all p (map vertex_shown vs)
-all_shown p [] = refl
-all_shown p (v ∷ vs) = ap (λ (b : Bool). p (vertex_shown v) && b) (all_shown p vs)
-
--- what is said of the vertices of a lookup is said of the lookup
-pub are_there : (ids : List ℕ) (result : Bool) (seen vs : List Vertex) (lookup : script.Lookup) → script.Vertices (map vertex_shown vs) ≡ lookup → seen ≡ vs →
-    result ≡ list_all (λ v. is_vertex ids (vertex_shown v)) seen → result ≡ has_vertices ids lookup
-are_there ids result seen vs lookup same read is =
-    is ∙ all_shown (is_vertex ids) seen ∙ ap (λ (ws : List Vertex). list_all (is_vertex ids) (map vertex_shown ws)) read ∙ ap (has_vertices ids) same
+-- a place below a length is below one that is the same
+pub below_as : (v n m : ℕ) → m ≡ n → v < n → v < m
+below_as v n m same less = subst (λ (k : ℕ). v < k) (sym same) less

@@ -8,12 +8,15 @@
 //! (`put_beside`, `put_beside_both`). The crates of answers and runs above answer lines by these texts, and take
 //! `blank_number` and `blank_name` for their own answers.
 //!
-//! `look_over` answers a `Lookup` of a script by each of these except `put_known`; it also writes the lines of some
-//! vertices, and whether an assertion holds. `verdicts_over` returns the verdicts of a page, `verdicts_by` those of
-//! two tables, and `put_changed` writes which of them differ from some that were seen earlier.
+//! `vertices_over` writes the lines of some vertices. `plan_answer` writes a plan or why there is none, and
+//! `claims_over`, `full_over` and `settled_over` whether an assertion holds; they return the answer's tone.
+//! `verdicts_over` returns the verdicts of a page, `verdicts_by` those of two tables, and `put_changed` writes which of
+//! them differ from some that were seen earlier.
 //!
 //! The texts are defined in `specs/Text`, `specs/Labels`, `specs/Sights` and `specs/Changed`, and their meaning for a
 //! page in `specs/Scene`, `specs/Picture` and `specs/Plan`. All are this project's own.
+//!
+//! Trials: scripts of `vpg_examples` (`scripts/rows`), calls with little memory in `vpg_refusals` (`texts`).
 #![tactic(auto)]
 
 mod changed;
@@ -24,8 +27,8 @@ mod text;
 
 pub use labels::{put_beside, put_beside_both};
 pub use showing::{
-    PlanFault, count, draw_over, look_over, plan, products, put_changed, put_known, show, trail,
-    verdicts_by, verdicts_over,
+    PlanFault, claims_over, count, draw_over, full_over, plan, plan_answer, products, put_changed,
+    put_known, settled_over, show, trail, verdicts_by, verdicts_over, vertices_over,
 };
-pub use sights::{has_vertices, vertex_at};
+pub use sights::vertex_at;
 pub use text::{blank_name, blank_number};

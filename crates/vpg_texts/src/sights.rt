@@ -1,17 +1,17 @@
 //! The texts of some vertices of a page, and of assertions about it.
-ghost use Rattle.std.specs.Prelude.{◌≡◌, ◌==◌, ◌++◌, ◌<◌, IfSome, Some, flat_map, length, map, not, position, true, IfOk, OnOk};
+ghost use Rattle.std.specs.Prelude.{◌≡◌, ◌==◌, ◌++◌, ◌<◌, All, IfSome, flat_map, length, not, position, IfOk, OnOk};
 ghost use Rattle.std.specs.List.{list_all};
 ghost use Rattle.vpg_game.specs.Game.{vertex_ids};
 ghost use Rattle.vpg_game.specs.Levels.{top_of};
-ghost use Rattle.vpg_script.specs.View.{assertion_shown, lookup_shown, vertex_shown};
+ghost use Rattle.vpg_script.specs.View.{vertex_shown};
 ghost use Rattle.vpg_script.specs.Answer.{IsGiven, failed};
-ghost use Rattle.vpg_texts.specs.Sights.{assertion_answer, claim_text, failing_text, full_answer, has_asserted, has_vertices, holding, holds, is_open, is_vertex, named_lines, open_text, settled_answer, verdicts_answer, vertex_of};
+ghost use Rattle.vpg_texts.specs.Sights.{claim_text, failing_text, full_answer, holding, holds, is_open, lines_at, open_text, settled_answer, verdicts_answer, verdicts_at, vertex_of};
 
 use crate::text;
 use std::alloc::AllocError;
 use vpg_game::{GuardedGame, VertexNames};
 use vpg_measure::{PageGames, Table};
-use vpg_script::{Assertion, Claim, Lookup, Tone, Vertex};
+use vpg_script::{Claim, Tone, Vertex};
 use vpg_sides::Which;
 
 /// Returns the place of the vertex of an identifier.
@@ -34,75 +34,25 @@ pub fn vertex_at(game: &GuardedGame, vertex: Vertex<'_>) -> Option<u32>
     }
 }
 
-fn is_vertex(game: &GuardedGame, vertex: Vertex<'_>) -> bool
-    ensures { result ≡ is_vertex (vertex_ids game.now.vertices) (vertex_shown vertex.entry) }
-{
-    vertex_at(game, vertex).is_some()
-}
-
-fn are_vertices(game: &GuardedGame, vertices: &[Vertex<'_>]) -> bool
-    ensures { result ≡ list_all (λ v. is_vertex (vertex_ids game.now.vertices) (vertex_shown v)) vertices.now }
-{
-    vertices.iter().all(|v| is_vertex(game, *v))
-}
-
-fn has_asserted(game: &GuardedGame, assertion: &Assertion<'_>) -> bool
-    ensures { result ≡ has_asserted (vertex_ids game.now.vertices) (assertion_shown assertion.now) }
-{
-    match assertion {
-        Assertion::Verdicts(vertex, _) => is_vertex(game, *vertex),
-        Assertion::Full | Assertion::Settled => true,
-    }
-}
-
-/// Whether the game has each vertex that a lookup names.
-pub fn has_vertices(game: &GuardedGame, lookup: &Lookup<'_>) -> bool
-    ensures { result ≡ has_vertices (vertex_ids game.now.vertices) (lookup_shown lookup.now) }
-{
-    match lookup {
-        Lookup::Vertices(vertices) => are_vertices(game, vertices),
-        Lookup::Assert(assertion) => has_asserted(game, assertion),
-        Lookup::Show
-        | Lookup::Trail
-        | Lookup::Products
-        | Lookup::Plan
-        | Lookup::Count
-        | Lookup::Draw => true,
-    }
-}
-
-/// Returns the place of a vertex that the game has.
-fn place(game: &GuardedGame, vertex: Vertex<'_>) -> u32
-    requires { is_vertex (vertex_ids game.now.vertices) (vertex_shown vertex) ≡ true }
-    ensures place { vertex_of (vertex_ids game.now.vertices) (vertex_shown vertex.entry) ≡ Some result }
-    ensures within { result < length game.now.vertices }
-{
-    match vertex_at(game, vertex) {
-        Some(v) => v,
-        None => unreachable!(),
-    }
-}
-
-/// Appends the lines of these vertices.
-pub(crate) fn named(
+/// Appends the lines of the vertices at these places.
+pub(crate) fn lines_at(
     games: &PageGames,
     game: &GuardedGame,
     labels: &VertexNames,
     hopeful: &Table,
     dual: &Table,
-    vertices: &[Vertex<'_>],
+    vertices: &[u32],
     out: &mut Vec<u8>,
 ) -> Result<(), AllocError>
-    requires vertices { list_all (is_vertex (vertex_ids game.now.vertices)) (map vertex_shown vertices.now) ≡ true }
+    requires vertices { All (λ v. v < length game.now.vertices) vertices.now }
     requires hopeful { length hopeful.now ≡ length game.now.vertices }
     requires dual { length dual.now ≡ length game.now.vertices }
     ensures { OnOk result (out.new.items ≡ out.old.items
-        ++ named_lines (top_of games.now.hopeful_levels) (top_of games.now.dual_levels)
-        (vertex_ids game.now.vertices) labels.now.names hopeful.now dual.now (map vertex_shown vertices.now)) }
+        ++ lines_at (top_of games.now.hopeful_levels) (top_of games.now.dual_levels)
+        (vertex_ids game.now.vertices) labels.now.names hopeful.now dual.now vertices.now) }
 {
-    for named in vertices {
-        let v = place(game, *named);
-        text::vertex(games, game, labels, hopeful, dual, v, out)?;
+    for v in vertices {
+        text::vertex(games, game, labels, hopeful, dual, *v, out)?;
     }
     Ok(())
 }
@@ -218,7 +168,8 @@ fn verdicts(
     Ok(Tone::Failed)
 }
 
-fn full_line(full: bool, out: &mut Vec<u8>) -> Result<Tone, AllocError>
+/// Appends whether each feature is known.
+pub(crate) fn full_line(full: bool, out: &mut Vec<u8>) -> Result<Tone, AllocError>
     ensures { IfOk result (λ tone. IsGiven (full_answer full) tone out.old.items out.new.items) }
 {
     if full {
@@ -228,7 +179,8 @@ fn full_line(full: bool, out: &mut Vec<u8>) -> Result<Tone, AllocError>
     }
 }
 
-fn settled_line(settled: bool, out: &mut Vec<u8>) -> Result<Tone, AllocError>
+/// Appends whether both tables are progress tables.
+pub(crate) fn settled_line(settled: bool, out: &mut Vec<u8>) -> Result<Tone, AllocError>
     ensures { IfOk result (λ tone. IsGiven (settled_answer settled) tone out.old.items out.new.items) }
 {
     if settled {
@@ -238,33 +190,23 @@ fn settled_line(settled: bool, out: &mut Vec<u8>) -> Result<Tone, AllocError>
     }
 }
 
-/// Appends the answer to an assertion, and returns its tone.
-pub(crate) fn assertion(
+/// Appends whether the vertex at a place has these verdicts, or those that it has not, and returns the answer's tone.
+pub(crate) fn verdicts_at(
     games: &PageGames,
-    game: &GuardedGame,
     hopeful: &Table,
     dual: &Table,
-    asserted: &Assertion<'_>,
-    full: bool,
     settled: bool,
+    claims: &[Claim],
+    vertex: u32,
     out: &mut Vec<u8>,
 ) -> Result<Tone, AllocError>
-    requires vertices { has_asserted (vertex_ids game.now.vertices) (assertion_shown asserted.now) ≡ true }
-    requires hopeful { length hopeful.now ≡ length game.now.vertices }
-    requires dual { length dual.now ≡ length game.now.vertices }
+    requires hopeful { vertex < length hopeful.now }
+    requires dual { vertex < length dual.now }
     ensures { IfOk result (λ tone. IsGiven
-        (assertion_answer (top_of games.now.hopeful_levels) (top_of games.now.dual_levels)
-        (vertex_ids game.now.vertices) hopeful.now dual.now (assertion_shown asserted.now) full settled) tone
-        out.old.items out.new.items) }
+        (verdicts_at (top_of games.now.hopeful_levels) (top_of games.now.dual_levels) hopeful.now dual.now settled
+        claims.now vertex) tone out.old.items out.new.items) }
 {
-    match asserted {
-        Assertion::Verdicts(vertex, claims) => {
-            let v = place(game, *vertex);
-            let hopeless = hopeful.get(v) == games.shape(Which::Hopeful).top();
-            let sure = dual.get(v) == games.shape(Which::Dual).top();
-            verdicts(settled, hopeless, sure, claims, out)
-        }
-        Assertion::Full => full_line(full, out),
-        Assertion::Settled => settled_line(settled, out),
-    }
+    let hopeless = hopeful.get(vertex) == games.shape(Which::Hopeful).top();
+    let sure = dual.get(vertex) == games.shape(Which::Dual).top();
+    verdicts(settled, hopeless, sure, claims, out)
 }

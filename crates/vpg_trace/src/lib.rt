@@ -11,6 +11,8 @@
 //! the report of a step of the system; `Taking`, the one transition that is reported; `Texts`, the text of a walk;
 //! `Answering`, the answer for a vertex. `Laws` states that reported steps are there in products, and that the winner
 //! goes on.
+//!
+//! Trials: tests of `vpg_family_tests` (`walks`).
 #![tactic(auto)]
 
 mod answering;

@@ -8,6 +8,8 @@
 //!
 //! Definitions stand in `specs/`: `Tree` (feature trees and their configurations), `Lines` (the lines of the diagram
 //! that a tree stands for), `DiagramText` (the text of these lines), and `Laws` (statements of the module `laws`).
+//!
+//! Trials: tests of `vpg_family_tests` (`family/meant`), by the formats that spell trees.
 #![tactic(auto)]
 
 mod group;

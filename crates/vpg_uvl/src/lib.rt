@@ -17,6 +17,8 @@
 //! (lines without comments), `Places` (lines and columns), `Items` (heads of groups, and features), `Nesting` (the tree
 //! that rows spell by their indentation), `Quotes` and `Arrows` (chains). `laws` says what follows for chains. `Views`
 //! has the code's values as those of the definitions, for private contracts.
+//!
+//! Trials: tests of `vpg_family_tests` (`family/meant`).
 #![tactic(auto)]
 
 mod arrows;

@@ -7,6 +7,8 @@
 //! The layer above, `vpg_guess`, makes a `GuessGround` of an arena: its graph, and the `Scale` of measures for either
 //! player. Over it `guess_table` returns a `Guess` of values, and `ranked_top` and `ranked` return `RankedBounds`.
 //! `TableGround` and `LiftGround` have what lifts use. This crate has no arenas and no tables, only their numbers.
+//!
+//! Trials: tests of `vpg_lifting_tests` (`asks`, `climbing`), by certified guesses.
 #![tactic(auto)]
 
 mod bounds;

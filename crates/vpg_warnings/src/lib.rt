@@ -8,6 +8,8 @@
 //! `specs/States` defines these states, by paths; `specs/Guards` the guards, by the diagram's products, and the
 //! features that are tried; `specs/Actions` the actions, by the words of a text; `specs/Numbers` has marks and their
 //! numbers.
+//!
+//! Trials: tests of `vpg_family_tests` (`family/models`).
 #![tactic(auto)]
 
 mod actions;

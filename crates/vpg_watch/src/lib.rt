@@ -17,6 +17,8 @@
 //! Definitions: `specs/Rule` (when a sheet belongs to its front; the invariant of every step on the shared shelf, and
 //! what the step shows), `specs/Fronts` (a front that begins with all that was seen), `specs/Reads` (values read one
 //! after another). The laws of the reads of one watch, however many, stand in `laws`.
+//!
+//! Trials: tests of `vpg_book_tests` (`watching`), calls with little memory in `vpg_refusals` (`presses`).
 #![tactic(auto)]
 
 mod fault;

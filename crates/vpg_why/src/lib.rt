@@ -33,6 +33,8 @@
 //! `specs/Offered`, `specs/Foreseen`, `specs/Spared`, `specs/Repaired` (the meaning of the answers); `specs/Moves`,
 //! `specs/Played` and `specs/Reachable` (moves that win, and the vertices that they come to); `specs/Searched` for the
 //! search of vertices; `specs/Reasons` (why a search finds nothing). Their laws stand in `laws`.
+//!
+//! Trials: rows of `vpg_text_rows/data` (`small`, `limits`, `families`).
 #![tactic(auto)]
 
 mod answering;

@@ -1,12 +1,11 @@
 -- What is found on the part that decides a vertex holds of the whole game.
-use Rattle.std.proofs.Common.{◌≡◌, ℕ, ◌<◌, Bool, List, [], ◌∷◌, length, Option, Some, None, IfSome, subst, sym, ◌∙◌}
+use Rattle.std.proofs.Common.{◌≡◌, ℕ, ◌<◌, Bool, List, [], ◌∷◌, length, Option, Some, None, IfSome, subst, sym}
 use Rattle.vpg_diagram.specs.DiagramText.{NamedDiagram}
 use Rattle.vpg_diagram.specs.declared.clause.Literal.{Literal}
 use Rattle.vpg_game.specs.Game.{NamedGame, graph_of}
 use Rattle.vpg_measure.specs.Orders.{OrderView}
 use Rattle.vpg_open.specs.OpenVertices.{IsLeft}
 use Rattle.vpg_open.specs.ReachedGames.{HasWinnersOf}
-use Rattle.vpg_open.specs.SettledGames.{HasSameWinners}
 use Rattle.vpg_open.specs.declared.reaching.Reached.{Reached}
 use Rattle.vpg_partial.specs.KnownLaws.{IsRemaining}
 use Rattle.vpg_partial.specs.declared.decision.Decision.{Decision}
@@ -170,20 +169,11 @@ module _ (order : OrderView) (vertex : ℕ) (made : OrderView) (place : ℕ)
 
 -- ---- the part of the game with each verdict won at once
 
-pub part_is : (order : OrderView) (vertex : ℕ) (game : NamedGame) (found : Option Reached) →
-    vertex < length (graph_of order.game) → game.features ≡ order.game.features →
-    ((p : List Bool) → IsLeft order p → HasSameWinners (graph_of order.game) (graph_of game) p) →
-    IfSome found (λ x. x.game.features ≡ game.features) → IfSome found (λ x. x.vertex < length (graph_of x.game)) →
-    IfSome found (λ x. (p : List Bool) → HasWinnersOf (graph_of game) vertex p (graph_of x.game) x.vertex) →
+pub part_is : (order : OrderView) (vertex : ℕ) (found : Option Reached) →
+    IfSome found (λ x. x.game.features ≡ order.game.features) →
+    IfSome found (λ x. x.vertex < length (graph_of x.game)) →
+    IfSome found (λ x. (p : List Bool) → IsLeft order p →
+    HasWinnersOf (graph_of order.game) vertex p (graph_of x.game) x.vertex) →
     IfSome found (λ x. IsPartOf order vertex x.game x.vertex)
-part_is order vertex game None inside same win f v w = tt
-part_is order vertex game (Some x) inside same win f v w = record {
-  features = f ∙ same;
-  within = v;
-  wins = λ p left player.
-      (λ h. (win p left player vertex inside).0 ((w p player).0 h), λ h. (w p player).1 ((win p left player vertex inside).1 h));
-}
-
-pub no_other : (order : OrderView) (p : List Bool) → IsLeft order p →
-    HasSameWinners (graph_of order.game) (graph_of order.game) p
-no_other order p left player v lt = ((λ h. h), (λ h. h))
+part_is order vertex None f v w = tt
+part_is order vertex (Some x) f v w = record { features = f; within = v; wins = w }

@@ -25,6 +25,8 @@
 //! `specs/OpenParts` (the part that decides a vertex), `specs/Divided`, `specs/Cutting` and `specs/Pairs` (the two
 //! sets), `specs/Finding` and `specs/Gathering` (the products that meet an aim, as a set), `specs/Sampled` (some of
 //! them). For the search: `specs/Searched`, `specs/Standing`.
+//!
+//! Trials: scripts of `vpg_examples` (`scripts/rows`).
 #![tactic(auto)]
 
 mod cutting;

@@ -8,7 +8,7 @@ use vpg_game::GuardedGame;
 use vpg_guess::{Groundwork, harvest_by_bounds};
 use vpg_measure::laws::orders::zeros_are_opening;
 use vpg_measure::{Order, OrderFault, Shape, Table};
-use vpg_open::{Reached, is_open, open_game, reached_game};
+use vpg_open::{Reached, reached_open};
 use vpg_why::{Limits, is_small};
 
 /// An order on a part of a game, and the place of a vertex there.
@@ -67,17 +67,6 @@ pub(crate) fn on_part(
     })
 }
 
-// Whether some vertex has a verdict.
-fn has_verdicts(order: &Order) -> bool {
-    let vertices = order.game().vertices();
-    for vertex in 0..vertices {
-        if !is_open(order, vertex as u32) {
-            return true;
-        }
-    }
-    false
-}
-
 /// Returns the part of the order's game that decides the vertex: what plays from it can come to, where each vertex
 /// with a verdict is won at once.
 pub(crate) fn part_of(
@@ -89,12 +78,7 @@ pub(crate) fn part_of(
     ensures { IfOk result
         (λ found. IfSome found (λ part. IsPartOf order.now vertex part.game part.vertex)) }
 {
-    if !has_verdicts(order) {
-        let found = reached_game(alloc, order.game(), vertex)?;
-        return Ok(found);
-    }
-    let game = open_game(alloc, order)?;
-    let found = reached_game(alloc, &game, vertex)?;
+    let found = reached_open(alloc, order, vertex)?;
     Ok(found)
 }
 

@@ -12,6 +12,8 @@
 //! Definitions stand in `specs/`: `Translations` has those of the public contract. `Shapes` and `Trees` have the normal
 //! form of a formula as a tree of marks. `Parsing`, `Terms`, `Actions`, `Naming`, `Tasks`, `Openings`, `Entries` and
 //! `Whole` view the code's values; only private contracts name them.
+//!
+//! Trials: tests of `vpg_family_tests` (`family/models`), by the games of systems.
 #![tactic(auto)]
 
 mod naming;

@@ -10,6 +10,8 @@
 //! Definitions stand in `specs/`: `Elements` (documents as lists of elements), `Tokens` (the tokens of a text),
 //! `Nesting` (which text spells which document), `Faults` (which fault a text has, and where). `Reading` and `View` are
 //! the reader as a function on lists; only private contracts name them.
+//!
+//! Trials: tests of `vpg_family_tests` (`family/meant`, `configured`).
 #![tactic(auto)]
 
 mod element;

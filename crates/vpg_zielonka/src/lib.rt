@@ -13,6 +13,8 @@
 //! `specs/Parts` (a set at each vertex), `specs/Edges`, `specs/Stops`. `proofs/Attractions`, `proofs/Solutions`,
 //! `proofs/Turns` and `proofs/Recursion` have the recursion in one product's game. `proofs/Bits`, `proofs/Places` and
 //! `proofs/Columns` are about words.
+//!
+//! Trials: scripts of `vpg_examples` (`scripts/rows`), by `winners`.
 #![tactic(auto)]
 
 mod attracting;

@@ -2,8 +2,9 @@
 
 use std::alloc::Global;
 use std::error::Error;
+use vpg_answers::Missing;
 use vpg_desk::RedoFault;
-use vpg_report::{ClientFault, Missing};
+use vpg_engine::ClientFault;
 use vpg_script::{Failed, LineFault, NextFault, ReadFault};
 
 /// Whether a fault shows itself so.

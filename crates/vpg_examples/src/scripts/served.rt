@@ -26,7 +26,7 @@ struct Refuser;
 
 impl Server for Refuser {
     ghost use Rattle.std.specs.Prelude.{◌≡◌, true, []};
-    ghost use Rattle.vpg_report.specs.Run.{Between, begun};
+    ghost use Rattle.vpg_engine.specs.Line.{Between, begun};
     ghost use Rattle.vpg_script.specs.Answer.{is_refusal};
     ghost use Rattle.vpg_texts.specs.Scene.{Scene as OfScene};
 

@@ -8,8 +8,10 @@ ghost use Rattle.vpg_game.specs.Game.{graph_of};
 ghost use Rattle.vpg_measure.specs.Games.{ArePageGames};
 ghost use Rattle.vpg_measure.specs.Lifts.{IsTableOf, AreChoices};
 ghost use Rattle.vpg_measure.specs.TwoGames.{top_for};
+ghost use Rattle.vpg_script.specs.Answer.{Gives};
 ghost use Rattle.vpg_texts.specs.Plan.{IsPlanned, IsPlanFault, PlanWins};
 ghost use Rattle.vpg_texts.specs.Scene.{AreSettledTables, scene_of};
+ghost use Rattle.vpg_texts.specs.Sights.{IsPlanAnswer};
 
 use crate::showing::page::is_settled_table;
 use crate::text;
@@ -18,6 +20,7 @@ use thiserror::Error;
 use vpg_diagram::Diagram;
 use vpg_game::{GuardedGame, VertexNames};
 use vpg_measure::{PageGames, StrategyFault, Table, strategy};
+use vpg_script::Tone;
 use vpg_sides::Which;
 use vpg_trail::Page;
 
@@ -123,4 +126,45 @@ pub fn plan(
     text::plan(game, labels, &chosen, &mut text)?;
     out.extend_from_slice(&text)?;
     Ok(())
+}
+
+/// Appends a refusal.
+fn refused(text: &[u8], out: &mut Vec<u8>) -> Result<Tone, AllocError>
+    ensures given { IfOk result
+        (λ tone. (tone ≡ Tone.Refused) × (out.new.items ≡ out.old.items ++ text.now)) }
+    ensures unchanged { OnErr result (out.new.items ≡ out.old.items) }
+{
+    out.extend_from_slice(text)?;
+    Ok(Tone::Refused)
+}
+
+/// Appends a plan, or why there is none, and returns the answer's tone.
+pub fn plan_answer(
+    alloc: Global,
+    games: &PageGames,
+    page: &Page,
+    game: &GuardedGame,
+    diagram: &Diagram,
+    labels: &VertexNames,
+    out: &mut Vec<u8>,
+) -> Result<Tone, AllocError>
+    requires features { game.now.features ≡ feature_count diagram.now.lines }
+    requires games { ArePageGames game.now diagram.now (map literal_of page.now.decisions) games.now }
+    requires named { AreChoicesOf diagram.now.lines (map literal_of page.now.decisions) }
+    requires hopeful { length page.now.hopeful ≡ length game.now.vertices }
+    requires dual { length page.now.dual ≡ length game.now.vertices }
+    requires hopeful_within { All (λ n. n ≤ top_for Which.Hopeful (graph_of game.now)) page.now.hopeful }
+    requires dual_within { All (λ n. n ≤ top_for Which.Dual (graph_of game.now)) page.now.dual }
+    ensures planned { IfOk result
+        (λ tone. Gives
+        (IsPlanAnswer (scene_of labels.now.names game.now diagram.now) page.now.decisions page.now.hopeful
+        page.now.dual) tone out.old.items out.new.items) }
+    ensures unchanged { OnErr result (out.new.items ≡ out.old.items) }
+{
+    match plan(alloc, games, page, game, diagram, labels, out) {
+        Ok(()) => Ok(Tone::Done),
+        Err(PlanFault::NotFull) => refused(b"refused NotFull\n", out),
+        Err(PlanFault::NotSettled) => refused(b"refused NotSettled\n", out),
+        Err(PlanFault::Memory) => Err(AllocError),
+    }
 }

@@ -1,7 +1,7 @@
 use Rattle.std.proofs.Common.{Option, subst}
 use Rattle.vpg_checking.specs.Behaviours.{Behaviour}
 use Rattle.vpg_diagram.specs.FeatureDiagram.{feature_count}
-use Rattle.vpg_answers.specs.Answers.{IsOver}
+use Rattle.vpg_looks.specs.Answers.{IsOver}
 use Rattle.vpg_report.proofs.Draws.{system_over}
 use Rattle.vpg_report.proofs.drawing.path_for.Goals as goal
 

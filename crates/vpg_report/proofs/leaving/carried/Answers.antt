@@ -1,7 +1,7 @@
 use Rattle.std.proofs.Common.{Option, None, List, ℕ, subst}
 use Rattle.std.specs.Prelude.{IfErr, IfOk}
 use Rattle.vpg_script.specs.Manners.{Leaves}
-use Rattle.vpg_report.specs.Engine.{between_of}
+use Rattle.vpg_engine.specs.Engine.{between_of}
 use Rattle.vpg_report.specs.Left.{plain, IsStopped}
 use Rattle.vpg_report.specs.Run.{answering_called, called_by}
 use Rattle.vpg_report.proofs.leaving.carried.Goals as goal

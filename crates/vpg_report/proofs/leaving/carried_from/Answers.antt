@@ -1,4 +1,4 @@
-use Rattle.vpg_report.specs.Engine.{between_of}
+use Rattle.vpg_engine.specs.Engine.{between_of}
 use Rattle.vpg_report.specs.Run.{answering_called, called_by}
 use Rattle.vpg_report.proofs.Left.{stopped_of}
 use Rattle.vpg_report.proofs.leaving.carried_from.Goals as goal

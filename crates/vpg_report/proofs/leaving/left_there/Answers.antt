@@ -1,5 +1,5 @@
 use Rattle.std.specs.Arc.{arc_value}
-use Rattle.vpg_report.specs.Engine.{between_of}
+use Rattle.vpg_engine.specs.Engine.{between_of}
 use Rattle.vpg_report.proofs.Left.{handed_of, leaves_of, left_of, not_opened, out_of_memory, stopped_by, stops_there}
 use Rattle.vpg_report.proofs.leaving.left_there.Goals as goal
 

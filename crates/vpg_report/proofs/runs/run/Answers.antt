@@ -1,8 +1,9 @@
 use Rattle.std.proofs.Common.{refl, false, None, []}
 use Rattle.std.specs.Arc.{arc_value}
 use Rattle.vpg_texts.specs.Scene.{scene_of}
-use Rattle.vpg_report.specs.Server.{IsOpenRefusal}
-use Rattle.vpg_report.specs.Run.{answering, begun}
+use Rattle.vpg_report.specs.Results.{IsOpenRefusal}
+use Rattle.vpg_engine.specs.Line.{begun}
+use Rattle.vpg_report.specs.Run.{answering}
 use Rattle.vpg_script.specs.declared.framing.Form.TheVariants.{Plain}
 use Rattle.vpg_script.specs.declared.serving.Ending.{Ending}
 use Rattle.vpg_script.specs.declared.fault.RunFault.TheVariants as stops

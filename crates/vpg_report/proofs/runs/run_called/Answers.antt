@@ -2,7 +2,8 @@ use Rattle.std.proofs.Common.{[]}
 use Rattle.std.specs.Arc.{arc_value}
 use Rattle.std.specs.Io.KnownBytes.{prepend_known}
 use Rattle.vpg_script.proofs.MannerLemmas.{went_nothing}
-use Rattle.vpg_report.specs.Run.{answering_called, begun, called_in}
+use Rattle.vpg_engine.specs.Line.{begun}
+use Rattle.vpg_report.specs.Run.{answering_called, called_in}
 use Rattle.vpg_report.proofs.runs.run_called.Goals as goal
 
 pub returns-in_default-clause-output : goal.returns-in_default-clause-output

@@ -3,9 +3,10 @@ use Rattle.std.specs.Arc.{arc_value}
 use Rattle.std.specs.Io.KnownBytes.{prepend_known}
 use Rattle.vpg_script.specs.Manners.{MannerOutcome}
 use Rattle.vpg_script.proofs.MannerLemmas.{went_nothing}
-use Rattle.vpg_report.specs.Engine.{EngineState, between_of}
-use Rattle.vpg_report.specs.Server.{IsOpenRefusal}
-use Rattle.vpg_report.specs.Run.{answering_called, begun, called_by, called_in}
+use Rattle.vpg_engine.specs.Engine.{EngineState, between_of}
+use Rattle.vpg_report.specs.Results.{IsOpenRefusal}
+use Rattle.vpg_engine.specs.Line.{begun}
+use Rattle.vpg_report.specs.Run.{answering_called, called_by, called_in}
 use Rattle.vpg_report.proofs.Results.{outcome_as}
 use Rattle.vpg_report.proofs.runs.run_there.Goals as goal
 

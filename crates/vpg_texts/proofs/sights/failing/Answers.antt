@@ -1,7 +1,7 @@
 use Rattle.std.proofs.Common.{List, arith}
 use Rattle.std.specs.Prelude.{flat_map}
 use Rattle.std.proofs.lemmas.Grind.{common_steps}
-use Rattle.vpg_script.specs.declared.command.Claim.{Claim}
+use Rattle.vpg_script.specs.declared.look.Claim.{Claim}
 use Rattle.vpg_texts.specs.Sights.{failing_text}
 use Rattle.vpg_texts.proofs.Pieces.{all_written}
 use Rattle.vpg_texts.proofs.sights.failing.Goals as goal

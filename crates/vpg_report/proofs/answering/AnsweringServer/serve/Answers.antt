@@ -1,9 +1,8 @@
 use Rattle.std.proofs.Common.{sym, ap}
 use Rattle.vpg_script.specs.Script as script
 use Rattle.vpg_script.specs.Script.{Request}
-use Rattle.vpg_script.specs.View.{command_shown, inquiry_shown, lookup_shown, request_shown, vertex_shown}
-use Rattle.vpg_report.proofs.Asked.{served, served_by, served_with}
-use Rattle.vpg_report.proofs.Served.{asked, asked_stays, called_stays, called_told, own_called, own_called_stays}
+use Rattle.vpg_script.specs.View.{command_shown, look_shown, request_shown, vertex_shown}
+use Rattle.vpg_report.proofs.Served.{asked, asked_stays, called_stays, called_told, own_called, own_called_stays, served, served_by, served_with}
 use Rattle.vpg_report.proofs.answering.AnsweringServer.serve.Goals as goal
 
 pub returns-in-Select-clause-answer : goal.returns-in-Select-clause-answer
@@ -174,20 +173,6 @@ returns-in-Settle-clause-scene g c =
     (served_by c.args.self.now.context.now.labels.names c.settle.result c.args.self.now.engine c.settle.new.self c.args.lifters (asks (script.Settle c.in-Settle.sweeps)) (request_shown c.in_ok-said.said) c.args.out.now.items c.settle.new.out.items
     (ap (λ command. asks (command_shown command)) (sym c.in-Settle.is)) tt c.settle.ensures.answer)
 
-pub returns-in-Look-clause-answer : goal.returns-in-Look-clause-answer
-returns-in-Look-clause-answer g c =
-    let asks : script.Command → Request = λ command. record { label = c.in_ok-said.said.label; command = command } in
-    own_called c.look.result c.args.self.now.engine c.look.new.self c.args.self.now.context.now c.diagram.result.now c.names-features.result.now c.args.lifters (request_shown c.args.request.now) (request_shown c.in_ok-said.said) c.args.out.now.items c.look.new.out.items c.diagram.ensures c.names-features.ensures.names c.in_ok-said.ensures
-    (served_with c.args.self.now.context.now.labels.names c.look.result c.args.self.now.engine c.look.new.self c.args.lifters (asks (script.Look (lookup_shown c.in-Look.lookup))) (request_shown c.in_ok-said.said) c.args.out.now.items c.look.new.out.items
-    (ap (λ command. asks (command_shown command)) (sym c.in-Look.is)) tt (λ calls held. tt) c.look.ensures.answer)
-
-pub returns-in-Look-clause-scene : goal.returns-in-Look-clause-scene
-returns-in-Look-clause-scene g c =
-    let asks : script.Command → Request = λ command. record { label = c.in_ok-said.said.label; command = command } in
-    own_called_stays c.look.result c.args.self.now.engine c.look.new.self c.args.self.now.context.now c.diagram.result.now c.names-features.result.now c.args.lifters (request_shown c.args.request.now) (request_shown c.in_ok-said.said) c.args.out.now.items c.look.new.out.items
-    (served_with c.args.self.now.context.now.labels.names c.look.result c.args.self.now.engine c.look.new.self c.args.lifters (asks (script.Look (lookup_shown c.in-Look.lookup))) (request_shown c.in_ok-said.said) c.args.out.now.items c.look.new.out.items
-    (ap (λ command. asks (command_shown command)) (sym c.in-Look.is)) tt (λ calls held. tt) c.look.ensures.answer)
-
 pub returns-in-Changed-clause-answer : goal.returns-in-Changed-clause-answer
 returns-in-Changed-clause-answer g c =
     let asks : script.Command → Request = λ command. record { label = c.in_ok-said.said.label; command = command } in
@@ -202,28 +187,14 @@ returns-in-Changed-clause-scene g c =
     (served_with c.args.self.now.context.now.labels.names c.changed.result c.args.self.now.engine c.changed.new.self c.args.lifters (asks (script.Changed)) (request_shown c.in_ok-said.said) c.args.out.now.items c.changed.new.out.items
     (ap (λ command. asks (command_shown command)) (sym c.in-Changed.is)) tt (λ calls held. tt) c.changed.ensures.answer)
 
-pub returns-in-Known-clause-answer : goal.returns-in-Known-clause-answer
-returns-in-Known-clause-answer g c =
-    let asks : script.Command → Request = λ command. record { label = c.in_ok-said.said.label; command = command } in
-    own_called c.known.result c.args.self.now.engine c.known.new.self c.args.self.now.context.now c.diagram.result.now c.names-features.result.now c.args.lifters (request_shown c.args.request.now) (request_shown c.in_ok-said.said) c.args.out.now.items c.known.new.out.items c.diagram.ensures c.names-features.ensures.names c.in_ok-said.ensures
-    (served c.args.self.now.context.now.labels.names c.known.result c.args.self.now.engine c.known.new.self c.args.lifters (asks (script.Known c.in-Known.name.now)) (request_shown c.in_ok-said.said) c.args.out.now.items c.known.new.out.items
-    (ap (λ command. asks (command_shown command)) (sym c.in-Known.is)) tt (λ calls held. tt) c.known.ensures.answer)
-
-pub returns-in-Known-clause-scene : goal.returns-in-Known-clause-scene
-returns-in-Known-clause-scene g c =
-    let asks : script.Command → Request = λ command. record { label = c.in_ok-said.said.label; command = command } in
-    own_called_stays c.known.result c.args.self.now.engine c.known.new.self c.args.self.now.context.now c.diagram.result.now c.names-features.result.now c.args.lifters (request_shown c.args.request.now) (request_shown c.in_ok-said.said) c.args.out.now.items c.known.new.out.items
-    (served c.args.self.now.context.now.labels.names c.known.result c.args.self.now.engine c.known.new.self c.args.lifters (asks (script.Known c.in-Known.name.now)) (request_shown c.in_ok-said.said) c.args.out.now.items c.known.new.out.items
-    (ap (λ command. asks (command_shown command)) (sym c.in-Known.is)) tt (λ calls held. tt) c.known.ensures.answer)
-
 pub returns-clause-answer : goal.returns-clause-answer
 returns-clause-answer g c =
     let asks : script.Command → Request = λ command. record { label = c.in_ok-said.said.label; command = command } in
-    called_told c.ask.result c.args.self.now.engine c.ask.new.engine c.args.self.now.context.now c.diagram.result.now c.names-features.result.now c.args.lifters (request_shown c.args.request.now) (request_shown c.in_ok-said.said) c.args.out.now.items c.ask.new.out.items c.diagram.ensures c.names-features.ensures.names c.in_ok-said.ensures
-    (asked c.args.self.now.context.now.labels.names c.ask.result c.args.self.now.context.now.behaviour c.args.self.now.engine c.ask.new.engine c.args.lifters c.in_ok-said.said.label (inquiry_shown c.in-Ask.inquiry) (request_shown c.in_ok-said.said) c.args.out.now.items c.ask.new.out.items
-    (ap (λ command. asks (command_shown command)) (sym c.in-Ask.is)) c.ask.ensures.answer)
+    called_told c.look.result c.args.self.now.engine c.look.new.self c.args.self.now.context.now c.diagram.result.now c.names-features.result.now c.args.lifters (request_shown c.args.request.now) (request_shown c.in_ok-said.said) c.args.out.now.items c.look.new.out.items c.diagram.ensures c.names-features.ensures.names c.in_ok-said.ensures
+    (asked c.args.self.now.context.now.labels.names c.look.result c.args.self.now.context.now.behaviour c.args.self.now.engine c.look.new.self c.args.lifters c.in_ok-said.said.label (look_shown c.in-Look.look) (request_shown c.in_ok-said.said) c.args.out.now.items c.look.new.out.items
+    (ap (λ command. asks (command_shown command)) (sym c.in-Look.is)) c.look.ensures.answer)
 
 pub returns-clause-scene : goal.returns-clause-scene
 returns-clause-scene g c =
-    called_stays c.ask.result c.args.self.now.engine c.ask.new.engine c.args.self.now.context.now
-    (asked_stays c.args.self.now.context.now.labels.names c.ask.result c.args.self.now.context.now.behaviour c.args.self.now.engine c.ask.new.engine (record { label = c.in_ok-said.said.label; command = script.Ask (inquiry_shown c.in-Ask.inquiry) }) c.args.out.now.items c.ask.new.out.items c.ask.ensures.answer)
+    called_stays c.look.result c.args.self.now.engine c.look.new.self c.args.self.now.context.now
+    (asked_stays c.args.self.now.context.now.labels.names c.look.result c.args.self.now.context.now.behaviour c.args.self.now.engine c.look.new.self (record { label = c.in_ok-said.said.label; command = script.Looks (look_shown c.in-Look.look) }) c.args.out.now.items c.look.new.out.items c.look.ensures.answer)

@@ -1,6 +1,0 @@
-use Rattle.std.proofs.lemmas.Grind.{common_steps}
-use Rattle.std.proofs.Common.{arith}
-use Rattle.vpg_answers.proofs.lines.names_in.Goals as goal
-
-pub loop-f-preserved : goal.loop-f-preserved
-loop-f-preserved c = grind (arith, common_steps)

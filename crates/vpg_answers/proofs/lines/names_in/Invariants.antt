@@ -1,6 +1,0 @@
-use Rattle.std.proofs.Common.{◌≡◌, ◌++◌}
-use Rattle.vpg_answers.specs.Texts.{names_in}
-use Rattle.vpg_answers.proofs.lines.names_in.Given as goal
-
-abbrev pub invariant-loop-f : goal.invariant-loop-f
-invariant-loop-f l = l.out.items ≡ l.fn.out.items ++ names_in l.names l.product l.f

@@ -1,7 +1,0 @@
-use Rattle.std.proofs.Common.{◌≡◌, ◌++◌, take}
-use Rattle.std.specs.Prelude.{flat_map}
-use Rattle.vpg_answers.specs.Texts.{choice_line}
-use Rattle.vpg_answers.proofs.needs.each.Given as goal
-
-abbrev pub invariant-loop-l : goal.invariant-loop-l
-invariant-loop-l l = l.out.items ≡ l.fn.out.items ++ flat_map (choice_line l.word l.names) (take l.l-index l.listed)

@@ -1,0 +1,132 @@
+-- Trying each decision of a page alone, and each step of it.
+use Rattle.std.proofs.Common.{◌≡◌, ◌≢◌, ℕ, zero, suc, ◌+◌, ◌<◌, ◌≤◌, Bool, List, [], ◌∷◌, ◌++◌, length, map, get_or, refl, sym, ap, ap₂, ◌∙◌, subst, append-nil, add-one, arith}
+use Rattle.std.specs.Prelude.{All}
+use Rattle.std.specs.List.{AllByRecursion}
+use Rattle.std.proofs.Math.Seq.{take-length, take-suc}
+use Rattle.std.proofs.lemmas.List.{length-map, length-take-le, map-append}
+use Rattle.vpg_diagram.specs.DiagramText.{NamedDiagram, IsNamedDiagram}
+use Rattle.vpg_diagram.specs.FeatureDiagram.{Line, feature_count}
+use Rattle.vpg_diagram.specs.declared.clause.Literal.{Literal}
+use Rattle.vpg_game.specs.Game.{NamedGame, graph_of}
+use Rattle.vpg_sides.specs.declared.which.Which.TheVariants.{Hopeful}
+use Rattle.vpg_partial.specs.TableLaws.{AreAmong, AreChoicesOf}
+use Rattle.vpg_partial.specs.declared.decision.Decision.{Decision}
+use Rattle.vpg_texts.specs.Scene.{Scene, scene_of}
+use Rattle.vpg_why.specs.Explained.{choices}
+use Rattle.vpg_why.specs.Found.{IsSought}
+use Rattle.vpg_why.specs.Repaired.{KeepsOldest, ends, keeps, gives_up}
+use Rattle.vpg_why.specs.Suffices.{IsSettled, SufficeIn}
+use Rattle.vpg_why.proofs.Listing.{among_named}
+use Rattle.vpg_why.proofs.Monotone.{more_choices_suffice}
+use Rattle.vpg_why.specs.declared.question.Question.{Question}
+use Rattle.vpg_why.specs.declared.question.Aim.TheVariants as aims
+use Rattle.vpg_why.specs.declared.question.Limits.{Limits}
+use Rattle.vpg_why.specs.declared.question.Question.TheVariants as asks
+use Rattle.vpg_why.specs.declared.searching.Example.{Example}
+use Rattle.vpg_why.specs.declared.searching.Found.{Found}
+use Rattle.vpg_why.specs.declared.searching.Found.TheVariants as founds
+use Rattle.vpg_looks.specs.Repairs.{AreTried, HasWinner, HaveEffects, IsEffect, IsLostBy, without}
+use Rattle.vpg_looks.specs.Room.{RoundsSettle, SearchEnds}
+use Rattle.vpg_looks.specs.declared.retracting.Effect.{Effect}
+use Rattle.vpg_looks.specs.declared.retracting.Effect.TheVariants as effects
+use Rattle.vpg_looks.specs.declared.retracting.Tried.{Tried}
+
+-- what is given up is of the decisions
+pub given_named : (Suffices : List Literal → Type 0) (P : Literal → Type 0) {exact : Bool} {before rest kept given : List Decision} → KeepsOldest Suffices exact before rest kept given →
+    AllByRecursion P (choices rest) → AllByRecursion P (choices given)
+given_named Suffices P ends named = tt
+given_named Suffices P (keeps a) named = given_named Suffices P a named.1
+given_named Suffices P (gives_up so a) named = (named.0, given_named Suffices P a named.1)
+
+-- what was tried names features that have names
+below : (n m : ℕ) (tried : List Tried) (decisions : List Decision) → n ≡ m → map (λ t. t.decision) tried ≡ decisions → AllByRecursion (λ c. c.feature < m) (choices decisions) →
+    All (λ t. t.decision.feature < n) tried
+below n m [] ds is same named k d less = absurd (omega (arith, less))
+below n m (t ∷ tried) [] is same named k d less = absurd (cc same)
+below n m (t ∷ tried) (e ∷ ds) is same named zero d less =
+    subst (λ (f : ℕ). f < n) (ap (λ (x : Decision). x.feature) (sym (first same))) (subst (λ (x : ℕ). e.feature < x) (sym is) named.0)
+  where
+    first : t.decision ∷ map (λ u. u.decision) tried ≡ e ∷ ds → t.decision ≡ e
+    first s = cc s
+below n m (t ∷ tried) (e ∷ ds) is same named (suc k) d less = below n m tried ds is (rest same) named.1 k d (omega (arith, less))
+  where
+    rest : t.decision ∷ map (λ u. u.decision) tried ≡ e ∷ ds → map (λ u. u.decision) tried ≡ ds
+    rest s = cc s
+
+module _ (scene : Scene) (limits : Limits) (vertex : ℕ) (was_hopeless : Bool) (decisions : List Decision) where
+  abbrev Are : ℕ → List Tried → Type 0
+  Are n tried = AreTried scene limits vertex was_hopeless decisions n tried
+
+  abbrev Is : ℕ → Effect → Type 0
+  Is place effect = IsEffect scene limits vertex was_hopeless (choices (without place decisions)) effect
+
+  pub none_tried : Are 0 []
+  none_tried = record { each = refl; effects = tt }
+
+  effects_more : (place : ℕ) (tried : List Tried) (t : Tried) → HaveEffects scene limits vertex was_hopeless decisions place tried → Is (place + length tried) t.effect →
+      HaveEffects scene limits vertex was_hopeless decisions place (tried ++ t ∷ [])
+  effects_more place [] t so is = let same : place + 0 ≡ place = omega (arith) in (subst (λ (n : ℕ). Is n t.effect) same is, tt)
+  effects_more place (u ∷ tried) t so is =
+      let same : place + suc (length tried) ≡ suc place + length tried = omega (arith) in
+      (so.0, effects_more (suc place) tried t so.1 (subst (λ (n : ℕ). Is n t.effect) same is))
+
+  length_is : (n : ℕ) (tried : List Tried) → n ≤ length decisions → Are n tried → length tried ≡ n
+  length_is n tried within so = sym (length-map tried (λ (t : Tried). t.decision)) ∙ ap (λ (ds : List Decision). length ds) so.each ∙ length-take-le n decisions within
+
+  -- one more decision was tried
+  pub next_tried : (n : ℕ) (tried : List Tried) (t : Tried) (x : Decision) → n < length decisions → t.decision ≡ get_or decisions n x → Is n t.effect → Are n tried → Are (n + 1) (tried ++ t ∷ [])
+  next_tried n tried t x inside same is so = let within : n ≤ length decisions = omega (arith, inside) in let count : length tried ≡ n = length_is n tried within so in
+      let all : n ≡ 0 + length tried = omega (arith, count) in subst (λ (m : ℕ). Are m (tried ++ t ∷ [])) (sym (add-one n)) (record {
+        each = map-append (λ (u : Tried). u.decision) tried (t ∷ []) ∙ ap₂ (λ (ds : List Decision) (d : Decision). ds ++ d ∷ []) so.each same ∙ sym (take-suc decisions n x inside);
+        effects = effects_more 0 tried t so.effects (subst (λ (m : ℕ). Is m t.effect) all is);
+      })
+
+  -- all of them were
+  pub all_tried : (n : ℕ) (tried : List Tried) → length decisions ≤ n → n ≤ length decisions → Are n tried → Are (length decisions) tried
+  all_tried n tried most least so = let same : n ≡ length decisions = omega (arith, most, least) in subst (λ (m : ℕ). Are m tried) same so
+
+  pub each_tried : (tried : List Tried) → Are (length decisions) tried → map (λ t. t.decision) tried ≡ decisions
+  each_tried tried so = so.each ∙ take-length decisions
+
+  pub tried_named : (lines : List Line) (n : ℕ) (tried : List Tried) → n ≡ feature_count lines → AreChoicesOf lines (choices decisions) → Are (length decisions) tried → All (λ t. t.decision.feature < n) tried
+  tried_named lines n tried is named so = below n (feature_count lines) tried decisions is (each_tried tried so) named
+
+-- ---- the effect of one retraction, by what a search finds
+
+module _ (game : NamedGame) (diagram : NamedDiagram) (limits : Limits) (vertex : ℕ) (was_hopeless : Bool) (chosen : List Literal) where
+  abbrev Found_is : Found → Type 0
+  Found_is found = IsSought game diagram (aims.Won Hopeful vertex) chosen found
+
+  abbrev Ends : Type 0
+  Ends = SearchEnds (scene_of [] game diagram) limits (aims.Won Hopeful vertex) chosen
+
+  abbrev Settled : Type 0
+  Settled = IsSettled game diagram limits (asks.Lost (aims.Won Hopeful vertex)) chosen
+
+  pub room_of : Ends → Settled
+  room_of s = (s.0, s.1)
+
+  -- the table of these choices is settled too
+  pub verdict_room : Ends → RoundsSettle (scene_of [] game diagram) limits.rounds Hopeful chosen
+  verdict_room s = subst (λ (cs : List Literal). RoundsSettle (scene_of [] game diagram) limits.rounds Hopeful cs) (append-nil chosen) (s.0 [])
+
+  pub found_winner : (found : Found) (e : Example) → found ≡ founds.Product e → Found_is found → HasWinner (scene_of [] game diagram) vertex chosen
+  found_winner found e is so = let p = subst Found_is is so in (e.features.items, p.0, p.1)
+
+  pub found_lost : (found : Found) → found ≡ founds.Nothing → Found_is found → IsLostBy (scene_of [] game diagram) vertex chosen
+  found_lost found is so = subst Found_is is so
+
+  pub found_short : (found : Found) → found ≡ founds.Unsettled → (Settled → found ≢ founds.Unsettled) → Ends → ⊥
+  found_short found is settled s = settled (room_of s) is
+
+-- ---- more decisions than a reason
+
+module _ (game : NamedGame) (diagram : NamedDiagram) (vertex : ℕ) (few many : List Literal) (is : IsNamedDiagram diagram) (named : AreChoicesOf diagram.lines many) (among : AreAmong few many) where
+  stays : (question : Question) → SufficeIn (graph_of game) diagram.lines question few → SufficeIn (graph_of game) diagram.lines question many
+  stays question h = more_choices_suffice (graph_of game) diagram.lines question few many is.diagram (among_named diagram.lines few many among named) among h
+
+  pub lost_stays : IsLostBy (scene_of [] game diagram) vertex few → IsLostBy (scene_of [] game diagram) vertex many
+  lost_stays h = stays (asks.Lost (aims.Won Hopeful vertex)) h
+
+  pub nothing_stays : (limits : Limits) (was_hopeless : Bool) → IsEffect (scene_of [] game diagram) limits vertex was_hopeless few effects.Nothing → IsEffect (scene_of [] game diagram) limits vertex was_hopeless many effects.Nothing
+  nothing_stays limits was_hopeless h = (lost_stays h.0, λ w. stays (asks.Verdict Hopeful vertex) (h.1 w))

@@ -1,0 +1,6 @@
+use Rattle.std.proofs.lemmas.Grind.{common_steps}
+use Rattle.std.proofs.Common.{arith}
+use Rattle.vpg_looks.proofs.losses.tell.Goals as goal
+
+pub reason-requires : goal.reason-requires
+reason-requires c = grind (arith, common_steps)

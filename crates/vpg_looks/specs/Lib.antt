@@ -1,0 +1,11 @@
+pub mod Answers
+pub mod Asserted
+pub mod Looked
+pub mod Meanings
+pub mod Numbers
+pub mod Offers
+pub mod Parts
+pub mod Repairs
+pub mod Room
+pub mod Texts
+pub mod Winners

@@ -1,5 +1,0 @@
-use Rattle.vpg_report.proofs.Inquired.{name_within}
-use Rattle.vpg_report.proofs.asking.feature_at.Goals as goal
-
-pub returns-clause-within : goal.returns-clause-within
-returns-clause-within c = name_within c.args.names.now c.args.name.now c.get.result c.get.ensures.found
