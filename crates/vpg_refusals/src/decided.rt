@@ -1,5 +1,6 @@
 //! Calls that make something of decisions.
 
+ghost use Rattle.std.specs.Prelude.{IsTrue};
 ghost use Rattle.vpg_measure.specs.Lifts.{IsTableOf};
 
 use crate::done_if;

@@ -3,7 +3,7 @@ use denote.Param.{param}
 use denote.Param.Send.{IsSend, IsSync, sendable}
 use Rattle.std.proofs.Crossing.{crosses}
 use Rattle.vpg_office.proofs.Crossing.{office_sync}
-use Rattle.vpg_bench.proofs.offices.calls.Seat.TheSendSync.{the_send as seat_send}
+use Rattle.vpg_scarce.proofs.office.Seat.TheSendSync.{the_send as seat_send}
 use Rattle.vpg_bench.proofs.offices.day.works.Goals as goal
 
 -- what each captured value may do stands beside the goal, since a search through all of it takes too many steps
