@@ -14,13 +14,12 @@
 //! `refused ..` to a line of a script leaves 0. All that was written before stays written. Formats, commands and faults
 //! are described in `docs/FORMATS.md`; the contract of `run` in `vpg_report` is the promise of a run.
 //!
-//! It is no program itself: the `main` of `vpgdesk` only calls `program`, and so does each crate with a stored run that
-//! ends with another status.
+//! It is no program itself: the `main` of `vpgdesk` reads the words, carries their task out, reports what failed, and
+//! returns the status.
 //!
-//! `program` reads the words, carries their task out, reports what failed, and returns the status. `tasks` has a
-//! function of another module for each task: `running` runs scripts, after a configuration of `configuring`; `typed`
-//! answers a person at a terminal; `texts` writes what files alone decide, and `leaving` what a script leaves. `words`
-//! has the words and the messages.
+//! `words` has the words and the messages. `tasks` has a function of another module for each task: `running` runs
+//! scripts, after a configuration of `configuring`; `typed` answers a person at a terminal; `texts` writes what files
+//! alone decide, and `leaving` what a script leaves.
 //!
 //! Trials: the rows of words in `vpg_status/data/rows`.
 #![tactic(auto)]
@@ -37,32 +36,29 @@ mod words;
 
 pub use crate::tasks::carry_out;
 use crate::tasks::explanation_of;
-use crate::words::{read_words, tell, unread};
-use std::process::ExitCode;
-use std::sync::Wait;
-use std::thread::Threads;
-use vpg_family::{Texts, line_of};
-use vpg_report::{End, refused_line, status};
-use vpg_terminal::read;
+use crate::words::tell;
+pub use crate::words::{Spoken, asked_by, read_words};
+use clap::Error;
+use std::alloc::Global;
+use vpg_family::{Fault, Texts, line_of};
+use vpg_report::{End, refused_line};
+use vpg_terminal::Invocation;
 
-/// Carries out the task of the program's words, and reports what fails. Returns the status that the program ends with.
-/// The runtime is handed in twice: for its files, and for the threads of the lifters.
-pub fn program<T: Threads + Wait + Sync>(rt: &HostRuntime, threads: &T) -> ExitCode {
-    let alloc = rt.alloc();
-    let spoken = read_words(rt, alloc);
-    let asked = match &spoken {
-        Ok(spoken) => read(alloc, &spoken.words, &spoken.help),
-        Err(why) => Err(unread(alloc, *why)),
-    };
-    let mut texts = Texts::none(alloc);
-    let ended = carry_out(rt, threads, alloc, &asked, &mut texts);
-    match &ended {
+/// Reports on standard error what failed, or at which line a strict script was refused. The texts of the task's files
+/// explain a fault.
+pub fn report(
+    rt: &HostRuntime,
+    alloc: Global,
+    asked: &Result<Invocation<'_>, Error>,
+    texts: &Texts,
+    ended: &Result<End, Fault>,
+) {
+    match ended {
         Ok(End::Refused { line }) => tell(rt, refused_line(alloc, *line), b""),
         Ok(_) => {}
         Err(fault) => {
-            let lines = explanation_of(rt, alloc, &asked, &texts, fault);
+            let lines = explanation_of(rt, alloc, asked, texts, fault);
             tell(rt, line_of(alloc, fault), &lines);
         }
     }
-    status(&ended)
 }

@@ -6,13 +6,13 @@ use std::{env, io};
 use vpg_family::Fault;
 use vpg_report::End;
 use vpg_script::{Device, Sink};
-use vpg_terminal::{help_end, not_text};
+use vpg_terminal::{Invocation, help_end, not_text, read};
 
 /// The program's words, the first of which is its name, and the end of its help.
 #[derive(Drop)]
-pub(crate) struct Spoken {
-    pub(crate) words: Vec<String>,
-    pub(crate) help: String,
+pub struct Spoken {
+    words: Vec<String>,
+    help: String,
 }
 
 /// Returns the program's words.
@@ -27,7 +27,7 @@ fn words_of(rt: &HostRuntime, alloc: Global) -> Result<Vec<String>, io::ErrorKin
 }
 
 /// Returns the program's words, and the end of its help.
-pub(crate) fn read_words(rt: &HostRuntime, alloc: Global) -> Result<Spoken, io::ErrorKind> {
+pub fn read_words(rt: &HostRuntime, alloc: Global) -> Result<Spoken, io::ErrorKind> {
     let words = words_of(rt, alloc)?;
     match help_end(alloc) {
         Ok(help) => Ok(Spoken { words, help }),
@@ -35,8 +35,19 @@ pub(crate) fn read_words(rt: &HostRuntime, alloc: Global) -> Result<Spoken, io::
     }
 }
 
+/// Returns what the words ask for, or the message that is to be printed in its place.
+pub fn asked_by(
+    alloc: Global,
+    spoken: &Result<Spoken, io::ErrorKind>,
+) -> Result<Invocation<'_>, Error> {
+    match spoken {
+        Ok(spoken) => read(alloc, &spoken.words, &spoken.help),
+        Err(why) => Err(unread(alloc, *why)),
+    }
+}
+
 /// Returns the message that the words can't be read, for this reason.
-pub(crate) fn unread(alloc: Global, why: io::ErrorKind) -> Error {
+fn unread(alloc: Global, why: io::ErrorKind) -> Error {
     if why == io::ErrorKind::OutOfMemory {
         return Error::from(AllocError);
     }

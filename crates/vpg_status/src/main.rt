@@ -3,8 +3,8 @@
 //! Each line of the file `rows`, in the folder that the program runs in, has the words of a call. The program writes
 //! the line, and carries the words out as `vpgdesk` does. Then it writes `ends: ` and the end that its status tells:
 //! all is done, a fault, the line at which a strict script was refused, an assertion that failed, or wrong words. At
-//! last it is `vpgdesk` itself: its own words end its stored run with status 3, after the refusal of a strict script.
-//! It ends with status 1 if the rows can't be read or written.
+//! last it does what its own words ask for: they end its stored run with status 3, after the refusal of a strict
+//! script. It ends with status 1 if the rows can't be read or written.
 #![tactic(auto)]
 
 use anyhow::Result;
@@ -14,8 +14,8 @@ use std::process::ExitCode;
 use std::sync::Wait;
 use std::thread::Threads;
 use vpg_family::{Fault, Texts, line_of};
-use vpg_program::{carry_out, program};
-use vpg_report::{End, refused_line};
+use vpg_program::{asked_by, carry_out, read_words};
+use vpg_report::{End, refused_line, status};
 use vpg_terminal::{help_end, read};
 
 /// Returns the words of a line.
@@ -63,9 +63,18 @@ fn carry_out_all<T: Threads + Wait + Sync>(rt: &HostRuntime, threads: &T) -> Res
     Ok(())
 }
 
+/// Carries the program's own words out, and returns the status of their end.
+fn carry_out_own<T: Threads + Wait + Sync>(rt: &HostRuntime, threads: &T) -> ExitCode {
+    let alloc = rt.alloc();
+    let spoken = read_words(rt, alloc);
+    let asked = asked_by(alloc, &spoken);
+    let mut texts = Texts::none(alloc);
+    status(&carry_out(rt, threads, alloc, &asked, &mut texts))
+}
+
 fn main(rt: HostRuntime) -> ExitCode {
     match carry_out_all(&rt, &rt) {
-        Ok(()) => program(&rt, &rt),
+        Ok(()) => carry_out_own(&rt, &rt),
         Err(_) => ExitCode::FAILURE,
     }
 }
