@@ -116,7 +116,7 @@ QUOTED = rb' "[^"\x00-\x1f\x7f]*"'
 NAMING = {(first.encode(), len(places)) for lines in oracle.VERTICES.values() for first, places in lines.items() if first}
 ONE, TWO = (b"|".join(sorted(first for first, count in NAMING if count == number)) for number in (1, 2))
 NAMED = re.compile(
-    rb"^((?:" + TWO + rb") " + N + rb" " + N + rb")" + QUOTED + QUOTED
+    rb"^((?:" + TWO + rb") " + N + rb" " + N + rb'(?: [^"\n]*)?)' + QUOTED + QUOTED
     + rb"$|^((?:(?:" + ONE + rb") )?" + N + rb'(?: [^"\n]*)?)' + QUOTED + rb"$",
     re.M,
 )

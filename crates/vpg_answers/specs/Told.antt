@@ -23,11 +23,13 @@ use Rattle.vpg_why.specs.declared.question.Aim.TheVariants as aims
 use Rattle.vpg_why.specs.declared.question.Limits.{Limits}
 use Rattle.vpg_looks.specs.Answers.{TellsChoice, TellsDecided, TellsExample, TellsFeature, TellsForced, TellsLost, TellsMoves, TellsNumber, TellsOffers, TellsRepair, TellsTraced, TellsVertex, TellsWinners}
 use Rattle.vpg_looks.specs.Asserted.{TellsExact}
+use Rattle.vpg_looks.specs.Edges.{TellsEdges}
 use Rattle.vpg_looks.specs.Looked.{IsCountAnswer, TellsClaims}
 use Rattle.vpg_looks.specs.Meanings.{IsDoubtfulIf, Meaning, Seen, Sight, answered, equal, searched, shown}
 use Rattle.vpg_looks.specs.Parts.{TellsPart}
 use Rattle.vpg_looks.proofs.Asserted.{exact_one}
 use Rattle.vpg_looks.proofs.Looked.{claims_one, count_one}
+use Rattle.vpg_looks.proofs.OneEdges.{edges_one}
 use Rattle.vpg_looks.proofs.OneMoves.{tells_moves_one}
 use Rattle.vpg_looks.proofs.OneNumbers.{tells_number_one}
 use Rattle.vpg_looks.proofs.OneOffers.{offers_one}
@@ -126,6 +128,8 @@ vertex_meaning behaviour vertex_looks.Decide v =
 vertex_meaning behaviour (vertex_looks.Is verdict) v =
     answered (λ s limits. TellsExact s.scene limits verdict v s.page.decisions)
     (λ s limits others is. exact_one s.scene limits others verdict v s.page.decisions)
+vertex_meaning behaviour vertex_looks.Edges v =
+    shown (λ s. TellsEdges s.scene v s.page.decisions) (λ s. edges_one s.scene v s.page.decisions)
 
 -- the meaning of a look at a feature
 abbrev pub feature_meaning : (look : FeatureLook) → (feature : ℕ) → Meaning (feature_takes_order look)

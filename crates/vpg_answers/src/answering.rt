@@ -12,8 +12,8 @@ use std::alloc::{AllocError, Global};
 use vpg_checking::Behaviour;
 use vpg_game::VertexNames;
 use vpg_looks::{
-    asserting, deciding, drawing, examples, losses, needs, numbers, offers, reasons, repairs,
-    traces, winners, winning,
+    asserting, deciding, drawing, edges, examples, losses, needs, numbers, offers, reasons,
+    repairs, traces, winners, winning,
 };
 use vpg_measure::Order;
 use vpg_script::{FeatureLook, PageLook, Tone, VertexLook};
@@ -62,6 +62,7 @@ fn of_vertex(
         VertexLook::Winners => winners::partition(alloc, order, labels, vertex, limits, out),
         VertexLook::Decide => deciding::decided(alloc, order, labels, vertex, limits, out),
         VertexLook::Is(verdict) => asserting::exact(alloc, order, verdict, vertex, limits, out),
+        VertexLook::Edges => edges::put_edges(order, labels, vertex, out),
     }
 }
 

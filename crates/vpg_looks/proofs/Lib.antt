@@ -3,6 +3,7 @@ pub mod Looked
 pub mod Moving
 pub mod Naming
 pub mod Offering
+pub mod OneEdges
 pub mod OneMoves
 pub mod OneNumbers
 pub mod OneOffers

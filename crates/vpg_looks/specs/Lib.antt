@@ -1,5 +1,6 @@
 pub mod Answers
 pub mod Asserted
+pub mod Edges
 pub mod Looked
 pub mod Meanings
 pub mod Numbers

@@ -14,8 +14,8 @@
 //! `unsettled` a fact that was not shown.
 //!
 //! Texts are defined in `specs/Texts`, and their meaning for a page in `specs/Answers`, `specs/Offers`,
-//! `specs/Repairs`, `specs/Parts`, `specs/Numbers`, `specs/Winners`, `specs/Asserted` and `specs/Looked`, with the room
-//! of limits in `specs/Room`. All are this project's own.
+//! `specs/Repairs`, `specs/Parts`, `specs/Numbers`, `specs/Winners`, `specs/Edges`, `specs/Asserted` and
+//! `specs/Looked`, with the room of limits in `specs/Room`. All are this project's own.
 #![tactic(auto)]
 
 pub mod asserting;
@@ -23,6 +23,7 @@ pub mod claims;
 pub mod counting;
 pub mod deciding;
 pub mod drawing;
+pub mod edges;
 pub mod examples;
 mod left;
 mod lines;

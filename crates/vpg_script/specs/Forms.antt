@@ -117,6 +117,7 @@ forms =
     page_look (codes "forced") page_looks.Forced ∷
     page_look (codes "empty") page_looks.Empty ∷
     page_look (codes "number") page_looks.Number ∷
+    vertex_look (codes "edges") vertex_looks.Edges ∷
     []
 
 -- whether this word names the form

@@ -436,6 +436,17 @@ const FORMS: &[CommandForm] = &[
   number                 how many products are left",
         ..PLAIN
     },
+    CommandForm {
+        word: "edges",
+        written: "edges V",
+        parameters: &[Parameter::Vertex],
+        least: 1,
+        of_vertex: Some(VertexLook::Edges),
+        help: "
+  edges V                where V's edges lead, and which are known to be in
+                         every product left, or in none",
+        ..PLAIN
+    },
 ];
 
 /// Returns the forms of all commands, in the order of their help.

@@ -75,6 +75,8 @@ pub enum VertexLook {
     Decide,
     /// Whether it has this exact verdict.
     Is(ExactVerdict),
+    /// Where its edges lead, and which are known to be in every product left, or in none.
+    Edges,
 }
 
 /// A look at a feature.

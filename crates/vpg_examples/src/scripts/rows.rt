@@ -727,7 +727,7 @@ static EXAMPLES: [Row; 4] = [
     },
 ];
 
-static OFFERS: [Row; 2] = [
+static OFFERS: [Row; 3] = [
     Row {
         diagram: DIAGRAM,
         game: GAME,
@@ -749,6 +749,17 @@ static OFFERS: [Row; 2] = [
             lost / offer +b hopeless unsure lost / offer -b possible sure won / offers 6 / offer +c possible sure won \
             / offer -c conflict / offer +a possible sure won / offer -a possible sure won / offer +b possible sure won \
             / offer -b possible sure won / offers 6 / done 1 / settled 4 / offers 0",
+    },
+    // A successor that is named twice is one edge, and a vertex may have none.
+    Row {
+        diagram: "root r\noptional r a\noptional r b\nexcludes a b\n",
+        game: "5 1 0 3[a],5[!a],3[b],4[a & b]; 3 2 0; 4 0 1 5;",
+        script: "\
+            edges 5 / edges 3 / edges 4 / select a / 2: edges 5 / retract a / exclude a / edges 5 / edges 7",
+        answers: "\
+            edge 5 3 open / edge 5 5 open / edge 5 4 open / edges 3 / edges 0 / edge 4 5 in / edges 1 / done 1 / \
+            edge 5 3 in / edge 5 5 out / edge 5 4 out / edges 3 / done 2 / done 3 / edge 5 3 open / edge 5 5 in / \
+            edge 5 4 out / edges 3 / refused NoVertex",
     },
 ];
 

@@ -93,7 +93,7 @@ pub(super) fn answers_lines<T: Threads + Wait + Sync>(rt: &T, alloc: Global) -> 
 }
 
 /// Lines with words that their command doesn't take.
-static ARGS: [&str; 42] = [
+static ARGS: [&str; 44] = [
     "settle 1000000001",
     "lift hopeful 4294967296",
     "keep 18446744073709551616",
@@ -136,6 +136,8 @@ static ARGS: [&str; 42] = [
     "plan 0 1",
     "select",
     "select 9",
+    "edges",
+    "edges 0 1",
 ];
 
 /// Lines with a first word that is no command, or a label that is none.
