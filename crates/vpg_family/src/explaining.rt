@@ -9,16 +9,13 @@ use std::alloc::{AllocError, Global};
 use std::fs;
 use std::rt::Files;
 use vpg_diagram::{Diagram, DiagramFault};
-use vpg_formula::RequirementFault;
-use vpg_game::GameFault;
 use vpg_lint::{
-    explain_diagram, explain_game, explain_line, explain_parts, explain_requirements,
+    Message, explain_diagram, explain_game, explain_line, explain_parts, explain_requirements,
     explain_system, put_message, put_number, put_place, put_shown, put_text, put_unknown,
 };
 use vpg_model::ModelFault;
 use vpg_models::{Form, diagram_of, explain_model, features_in, form_of};
 use vpg_places::{Line, declared_of, line_at, lines_of, place_of};
-use vpg_system::SystemFault;
 
 /// Returns the text of a file within the limit, if it can be read once more. A pipe gives its bytes once.
 fn text_of<R: Files + AllocGlobal>(rt: &R, path: &str) -> Option<Vec<u8>> {
@@ -40,6 +37,16 @@ fn put_signs(path: &str, text: &[u8], at: usize, out: &mut Vec<u8>) -> Result<()
     out.extend_from_slice(
         b"a game has at most 8,388,608 signs `!`, `&` and `|`, and here is one more\n",
     )
+}
+
+/// Appends a message on the file of this name, if there was memory for it.
+fn put_told(
+    path: &str,
+    message: Result<Message, AllocError>,
+    out: &mut Vec<u8>,
+) -> Result<(), AllocError> {
+    let message = message?;
+    put_message(path, &message, out)
 }
 
 /// A diagram's file: its name, the text of the diagram, and that of the feature model that means it, which is empty if
@@ -80,62 +87,6 @@ fn put_diagram(
     out.extend_from_slice(&message.words)
 }
 
-/// Appends why the text of a game is refused, over the features of a diagram.
-fn put_game(
-    alloc: Global,
-    path: &str,
-    text: &[u8],
-    diagram: &[u8],
-    fault: GameFault,
-    out: &mut Vec<u8>,
-) -> Result<(), AllocError> {
-    let Ok(diagram) = read_diagram(alloc, diagram) else {
-        return Ok(());
-    };
-    let message = explain_game(alloc, text, diagram.names(), fault)?;
-    put_message(path, &message, out)
-}
-
-/// Appends why the text of a system is refused, over the features of a diagram.
-fn put_system(
-    alloc: Global,
-    path: &str,
-    text: &[u8],
-    diagram: &[u8],
-    fault: SystemFault,
-    out: &mut Vec<u8>,
-) -> Result<(), AllocError> {
-    let Ok(diagram) = read_diagram(alloc, diagram) else {
-        return Ok(());
-    };
-    let message = explain_system(alloc, text, diagram.names(), fault)?;
-    put_message(path, &message, out)
-}
-
-/// Appends why a text of requirements is refused.
-fn put_requirements(
-    alloc: Global,
-    path: &str,
-    text: &[u8],
-    fault: RequirementFault,
-    out: &mut Vec<u8>,
-) -> Result<(), AllocError> {
-    let message = explain_requirements(alloc, text, fault)?;
-    put_message(path, &message, out)
-}
-
-/// Appends that the requirement of a name is too long.
-fn put_long(
-    alloc: Global,
-    path: &str,
-    text: &[u8],
-    name: &[u8],
-    out: &mut Vec<u8>,
-) -> Result<(), AllocError> {
-    let message = explain_parts(alloc, text, name)?;
-    put_message(path, &message, out)
-}
-
 /// Returns the words for the limit that a made game exceeds.
 fn limit_of(fault: ModelFault) -> &'static [u8] {
     match fault {
@@ -154,18 +105,6 @@ fn put_limit(path: &str, fault: ModelFault, out: &mut Vec<u8>) -> Result<(), All
     out.extend_from_slice(
         b"\n  hint: a vertex is a state and a part of a requirement; ask fewer requirements at a time\n",
     )
-}
-
-/// Appends why a line of a script's text is no command.
-fn put_line(
-    alloc: Global,
-    path: &str,
-    text: &[u8],
-    number: usize,
-    out: &mut Vec<u8>,
-) -> Result<(), AllocError> {
-    let message = explain_line(alloc, number, line_at(text, number).bytes)?;
-    put_message(path, &message, out)
 }
 
 /// Returns the place of the root in the text of a feature model that means a diagram.
@@ -215,8 +154,7 @@ fn put_of_diagram(
 ) -> Result<(), AllocError> {
     match fault {
         Fault::FeatureModel { fault } => {
-            let message = explain_model(alloc, file.model, *fault)?;
-            put_message(file.path, &message, out)
+            put_told(file.path, explain_model(alloc, file.model, *fault), out)
         }
         Fault::Diagram { fault } => put_diagram(alloc, file, *fault, out),
         Fault::Conflict { .. } => put_conflict(alloc, file, out),
@@ -247,43 +185,6 @@ fn put_of_diagram_file<R: Files + AllocGlobal>(
     put_of_diagram(alloc, file, fault, out)
 }
 
-/// Appends the meaning of a fault of requirements that were read from this text.
-fn put_of_requirements(
-    alloc: Global,
-    path: &str,
-    text: &[u8],
-    fault: &Fault,
-    out: &mut Vec<u8>,
-) -> Result<(), AllocError> {
-    match fault {
-        Fault::Requirements { fault } => put_requirements(alloc, path, text, *fault, out),
-        Fault::TooManyParts { name } => put_long(alloc, path, text, name, out),
-        _ => Ok(()),
-    }
-}
-
-/// Appends the meaning of a fault of a system, of its requirements, or of their game, by the texts that were read.
-fn put_of_model(
-    alloc: Global,
-    files: ModelPaths<'_>,
-    texts: &Texts,
-    fault: &Fault,
-    out: &mut Vec<u8>,
-) -> Result<(), AllocError> {
-    match fault {
-        Fault::System { fault } => put_system(
-            alloc,
-            files.system,
-            &texts.system,
-            &texts.diagram,
-            *fault,
-            out,
-        ),
-        Fault::Model { fault } => put_limit(files.requirements, *fault, out),
-        _ => put_of_requirements(alloc, files.requirements, &texts.requirements, fault, out),
-    }
-}
-
 /// Appends the meaning of a fault of a game, or of the files in its place, by the texts that were read.
 fn put_of_game(
     alloc: Global,
@@ -292,9 +193,13 @@ fn put_of_game(
     fault: &Fault,
     out: &mut Vec<u8>,
 ) -> Result<(), AllocError> {
+    let Ok(diagram) = read_diagram(alloc, &texts.diagram) else {
+        return Ok(());
+    };
+    let names = diagram.names();
     match (paths, fault) {
         (GamePaths::Game(path), Fault::Game { fault }) => {
-            put_game(alloc, path, &texts.game, &texts.diagram, *fault, out)
+            put_told(path, explain_game(alloc, &texts.game, names, *fault), out)
         }
         (GamePaths::Game(path), Fault::TooManySigns { at }) => put_signs(
             path,
@@ -302,9 +207,24 @@ fn put_of_game(
             *at,
             out,
         ),
-        (GamePaths::Model(files), _) => put_of_model(alloc, files, texts, fault, out),
-        (GamePaths::System(path), Fault::System { fault }) => {
-            put_system(alloc, path, &texts.system, &texts.diagram, *fault, out)
+        (
+            GamePaths::Model(ModelPaths { system: path, .. }) | GamePaths::System(path),
+            Fault::System { fault },
+        ) => put_told(
+            path,
+            explain_system(alloc, &texts.system, names, *fault),
+            out,
+        ),
+        (GamePaths::Model(files), Fault::Requirements { fault }) => {
+            let message = explain_requirements(alloc, &texts.requirements, *fault);
+            put_told(files.requirements, message, out)
+        }
+        (GamePaths::Model(files), Fault::TooManyParts { name }) => {
+            let message = explain_parts(alloc, &texts.requirements, name);
+            put_told(files.requirements, message, out)
+        }
+        (GamePaths::Model(files), Fault::Model { fault }) => {
+            put_limit(files.requirements, *fault, out)
         }
         _ => Ok(()),
     }
@@ -349,7 +269,10 @@ fn put_of_script<R: Files + AllocGlobal>(
     out: &mut Vec<u8>,
 ) -> Result<(), AllocError> {
     match text_of(rt, path) {
-        Some(text) => put_line(alloc, path, &text, number, out),
+        Some(text) => {
+            let line = line_at(&text, number).bytes;
+            put_told(path, explain_line(alloc, number, line), out)
+        }
         None => Ok(()),
     }
 }
@@ -472,10 +395,8 @@ pub fn explained<R: Files + AllocGlobal>(
         }
         return Ok(lines);
     }
-    match put_explained(rt, alloc, paths, texts, script, fault, &mut lines) {
-        Ok(()) => Ok(lines),
-        Err(fault) => Err(fault),
-    }
+    put_explained(rt, alloc, paths, texts, script, fault, &mut lines)?;
+    Ok(lines)
 }
 
 /// Returns lines that say where and why the file of a diagram is refused, by the texts that were read of it.

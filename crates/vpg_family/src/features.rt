@@ -15,10 +15,7 @@ use vpg_system::System;
 
 /// Returns the place where a feature is named first.
 fn declared_at(declared: &[Declared<'_>], f: usize) -> usize {
-    match declared.get(f) {
-        Some(it) => it.at,
-        None => 0,
-    }
+    declared.get(f).map_or(0, |it| it.at)
 }
 
 /// Warns of features that are in no product, if the known values are these.
@@ -64,7 +61,7 @@ fn warn_of_products(
 
 /// Returns the parent that a line names, if it names one.
 fn parent_of<'t>(alloc: Global, line: &'t [u8]) -> Result<Option<&'t [u8]>, AllocError> {
-    let words = words_of(alloc, line, true)?;
+    let words = words_of(alloc, line, b":")?;
     let (Some(first), Some(parent)) = (words.first(), words.get(1)) else {
         return Ok(None);
     };
@@ -215,8 +212,6 @@ pub fn warnings_of_diagram(
     ensures { IfOk result (λ warnings. warnings.length ≡ length source.entry.file.text.now) }
 {
     let mut warnings = Warnings::new(alloc, source.file.text.len());
-    match warn_of_diagram(alloc, source, diagram, named, &mut warnings) {
-        Ok(()) => Ok(warnings),
-        Err(fault) => Err(fault),
-    }
+    warn_of_diagram(alloc, source, diagram, named, &mut warnings)?;
+    Ok(warnings)
 }

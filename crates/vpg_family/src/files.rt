@@ -1,17 +1,14 @@
 //! The files that the words name.
-ghost use Rattle.std.specs.Arc.{arc_value};
 ghost use Rattle.std.specs.IoError.{error_kind};
 ghost use Rattle.std.specs.Prelude.{◌≡◌, ◌⊎◌, [], None, Ok, Err, IfOk, IfErr, MatchResult};
 ghost use Rattle.vpg_diagram.specs.DiagramText.{IsTextOf};
-ghost use Rattle.vpg_diagram.specs.FeatureDiagram.{feature_count};
 ghost use Rattle.vpg_formula.specs.EntryCode.{earlier_of};
 ghost use Rattle.vpg_family.specs.Limits.{IsWithin, IsWithinBoth, IsGameWithin, AreWithin};
 ghost use Rattle.vpg_family.specs.Made.{AreTextsMadeOf, IsMadeBy};
-ghost use Rattle.vpg_family.specs.Families.{IsSpelled, IsUnread, IsOfGame, IsOfModel, IsOfSystem, IsOfPaths, IsSomeDiagram, IsModelledBy, AreTextsOf, IsFamilyOf};
-ghost use Rattle.vpg_family.specs.Sources.{AreOfFile, AreOfFileBy, IsLater, IsOfForm};
+ghost use Rattle.vpg_family.specs.Families.{IsUnread, IsOfGame, IsOfModel, IsOfSystem, IsOfPaths, IsSomeDiagram, IsModelledBy, AreTextsOf};
+ghost use Rattle.vpg_family.specs.Sources.{AreOfFile, AreOfFileBy, IsLater};
 ghost use Rattle.vpg_models.specs.Forms.{form_of};
 
-use crate::family::Family;
 use crate::fault::{Fault, Input};
 use crate::limits::{MOST_BYTES, is_within, over_limit};
 use crate::modelling::{Modelled, model_of};
@@ -415,40 +412,6 @@ pub fn read_texts<R: Files + AllocGlobal>(
         GamePaths::System(path) => system_texts(rt, alloc, text, path),
     };
     with_model(read, model)
-}
-
-/// Returns the family of some files. The diagram is read, and refused, before the game, or the files in its place. The
-/// fault is that of the texts that come back with it.
-pub fn read_family<R: Files + AllocGlobal>(
-    rt: &R,
-    alloc: Global,
-    paths: Paths<'_>,
-) -> Result<Family, Unread>
-    ensures spelled { IfOk result (λ family. IsSpelled (arc_value family.diagram) (arc_value family.game)) }
-    // The diagram is that of its file, or the one that the feature model in it means.
-    ensures meant { IfOk result (λ family.
-        IsOfForm (form_of paths.entry.diagram.now) (arc_value family.diagram)) }
-    // A game that is made is the model-checking game of some texts.
-    ensures model { IfOk result (λ family.
-        IsFamilyOf paths.entry.game (arc_value family.diagram) (arc_value family.game)) }
-    ensures features { IfOk result
-        (λ family. (arc_value family.game).features ≡ feature_count (arc_value family.diagram).lines) }
-    ensures refused { IfErr result (λ unread. IsUnread unread.texts.diagram.items unread.texts.game.items
-        unread.texts.system.items unread.texts.requirements.items unread.fault) }
-    // A fault of a model is that of its text.
-    ensures file { IfErr result (λ unread. AreOfFileBy unread.fault (form_of paths.entry.diagram.now)
-        unread.texts.model.items unread.texts.diagram.items) }
-    // It is one of a file that the paths name.
-    ensures of_paths { IfErr result (λ unread. IsOfPaths paths.entry.game unread.fault) }
-{
-    let texts = match read_texts(rt, alloc, paths) {
-        Ok(texts) => texts,
-        Err(unread) => return Err(unread),
-    };
-    match Family::read(alloc, &texts.diagram, &texts.game) {
-        Ok(family) => Ok(family),
-        Err(fault) => Err(Unread { fault, texts }),
-    }
 }
 
 /// Returns the fault of a script that cannot be opened, or read as a whole.

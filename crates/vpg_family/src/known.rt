@@ -8,7 +8,7 @@ ghost use Rattle.vpg_formula.specs.EntryCode.{earlier_of};
 ghost use Rattle.vpg_script.specs.Script.{is_nonempty};
 ghost use Rattle.vpg_family.specs.Called.{AreCallings, IsCalledFamily, IsNamedFamily, calling_of, callings_of, entry_calling, entry_callings, text_callings};
 ghost use Rattle.vpg_family.specs.Made.{IsFamilyMadeOf};
-ghost use Rattle.vpg_family.specs.Families.{IsFamilyFault, IsUnread, IsOfPaths, SpellsFamily};
+ghost use Rattle.vpg_family.specs.Families.{IsFamilyFault, IsFamilyOf, IsSpelled, IsUnread, IsOfPaths, SpellsFamily};
 ghost use Rattle.vpg_family.specs.Pictures.{TellsNames};
 ghost use Rattle.vpg_family.specs.Sources.{AreOfFileBy, IsOfForm};
 ghost use Rattle.vpg_models.specs.Forms.{form_of};
@@ -241,9 +241,14 @@ pub fn read_known<R: Files + AllocGlobal>(
     alloc: Global,
     paths: Paths<'_>,
 ) -> Result<Known, Unread>
+    ensures spelled { IfOk result (λ known.
+        IsSpelled (arc_value known.family.diagram) (arc_value known.family.game)) }
     // The diagram is that of its file, or the one that the feature model in it means.
     ensures meant { IfOk result (λ known.
         IsOfForm (form_of paths.entry.diagram.now) (arc_value known.family.diagram)) }
+    // A game that is made is the model-checking game of some texts.
+    ensures model { IfOk result (λ known.
+        IsFamilyOf paths.entry.game (arc_value known.family.diagram) (arc_value known.family.game)) }
     // Each requirement's name stands for its vertex, if a system and requirements stand in place of the game.
     ensures called { IfOk result (λ known. IsCalledFamily paths.entry.game (arc_value known.family.diagram)
         (arc_value known.family.game) known.context.callings) }

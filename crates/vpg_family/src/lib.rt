@@ -1,7 +1,8 @@
 //! A product family in files: read, counted, projected to one product and drawn; and the messages about its faults.
 //!
-//! `read_family` takes the files of a diagram and a game; or of a diagram, a system and its requirements, and makes
-//! their game. `read_diagram_file` takes that of a diagram, which may have a feature model that means one.
+//! `read_known` takes the files of a diagram and a game; or of a diagram, a system and its requirements, and makes
+//! their game. It returns a `Known`: the family, the names of its vertices, and the `Context` of a script's lines.
+//! `read_diagram_file` takes the file of a diagram, which may have a feature model that means one.
 //!
 //! A `Family` counts itself (`counted`) and returns the plain game of one product (`projected`). `checked` counts the
 //! family of texts, with its requirements, and `drawn` returns a picture of two texts. `linted` warns of a diagram
@@ -9,9 +10,8 @@
 //! or that the game never reaches, and of a start that is no vertex. `page_drawn` returns the picture of a page.
 //! `system_drawn` draws a system alone, and `system_on` on a page, with the marks of a trace if there is one. Each
 //! fault of the program is a `Fault`, `line_of` returns the line that reports it, and `explained` lines that say where
-//! and why; `explained_diagram` those on the file of a diagram alone. `Known` is a family with the names of its
-//! vertices and the `Context` of a script's lines, and `read_known` returns that of some files. The crate knows no
-//! desk: scripts are carried out above it.
+//! and why; `explained_diagram` those on the file of a diagram alone. The crate knows no desk: scripts are carried out
+//! above it.
 //!
 //! `specs/Families` defines the texts that spell a family, when its game is made, and the words that name a product;
 //! `specs/Sources` the diagram that a file means, and `specs/Called` the names of vertices. `specs/Counts`,
@@ -51,7 +51,7 @@ pub use explaining::{explained, explained_diagram, explained_set};
 pub use family::{Family, conflict};
 pub use fault::{Fault, Input};
 pub use files::{
-    GamePaths, ModelPaths, Paths, Texts, Unread, open_script, read_family, read_script, read_texts,
+    GamePaths, ModelPaths, Paths, Texts, Unread, open_script, read_script, read_texts,
 };
 pub use known::{Context, Known, read_known};
 pub use linting::linted;

@@ -4,9 +4,9 @@ ghost use Rattle.vpg_family.specs.Families.{IsFamilyFault};
 
 use crate::family::{read_diagram, read_game};
 use crate::fault::Fault;
-use crate::files::{GamePaths, ModelPaths, Paths, Texts};
+use crate::files::{GamePaths, Paths, Texts};
 use crate::systems::read_system;
-use crate::writing::{DiagramSource, File, put_warned, put_warned_of_system};
+use crate::writing::{DiagramSource, File, warned_of_game, warned_of_system};
 use std::alloc::{AllocError, Global};
 use vpg_diagram::Diagram;
 use vpg_game::GuardedGame;
@@ -26,29 +26,25 @@ fn source_of<'t>(name: &'t str, texts: &'t Texts) -> DiagramSource<'t> {
     }
 }
 
-/// Returns lines of warnings of a diagram and a game that were read from these texts.
-fn warned_of_game(
+/// Returns lines of warnings of a family that was read from these texts.
+fn warned(
     alloc: Global,
-    of_diagram: DiagramSource<'_>,
-    of_game: File<'_>,
+    paths: Paths<'_>,
+    texts: &Texts,
     diagram: &Diagram,
     game: &GuardedGame,
 ) -> Result<Vec<u8>, AllocError> {
-    let mut lines = Vec::new(alloc);
-    match put_warned(alloc, of_diagram, of_game, diagram, game, &mut lines) {
-        Ok(()) => Ok(lines),
-        Err(fault) => Err(fault),
-    }
-}
-
-/// Returns lines of warnings of a diagram, a system and its requirements that were read from these texts before.
-fn warned_of_system(
-    alloc: Global,
-    of_diagram: DiagramSource<'_>,
-    files: ModelPaths<'_>,
-    texts: &Texts,
-    diagram: &Diagram,
-) -> Result<Vec<u8>, AllocError> {
+    let of_diagram = source_of(paths.diagram, texts);
+    let files = match paths.game {
+        GamePaths::Model(files) => files,
+        GamePaths::Game(name) | GamePaths::System(name) => {
+            let of_game = File {
+                name,
+                text: &texts.game,
+            };
+            return warned_of_game(alloc, of_diagram, of_game, diagram, game);
+        }
+    };
     let Ok(system) = read_system(alloc, &texts.system, diagram) else {
         return Err(AllocError);
     };
@@ -60,47 +56,14 @@ fn warned_of_system(
         name: files.requirements,
         text: &texts.requirements,
     };
-    let mut lines = Vec::new(alloc);
-    match put_warned_of_system(
+    warned_of_system(
         alloc,
         of_diagram,
         of_system,
         of_requirements,
         diagram,
         &system,
-        &mut lines,
-    ) {
-        Ok(()) => Ok(lines),
-        Err(fault) => Err(fault),
-    }
-}
-
-/// Returns lines of warnings of a family that was read from these texts.
-fn warned(
-    alloc: Global,
-    paths: Paths<'_>,
-    texts: &Texts,
-    diagram: &Diagram,
-    game: &GuardedGame,
-) -> Result<Vec<u8>, AllocError> {
-    let of_diagram = source_of(paths.diagram, texts);
-    match paths.game {
-        GamePaths::Game(name) => {
-            let of_game = File {
-                name,
-                text: &texts.game,
-            };
-            warned_of_game(alloc, of_diagram, of_game, diagram, game)
-        }
-        GamePaths::Model(files) => warned_of_system(alloc, of_diagram, files, texts, diagram),
-        GamePaths::System(name) => {
-            let of_game = File {
-                name,
-                text: &texts.game,
-            };
-            warned_of_game(alloc, of_diagram, of_game, diagram, game)
-        }
-    }
+    )
 }
 
 /// Returns lines that warn of the family that the texts of these files spell, and a last one that counts the warnings.

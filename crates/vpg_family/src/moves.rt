@@ -8,10 +8,7 @@ use vpg_places::{Number, numbers_of, start_at};
 
 /// Returns the place where the entry of a vertex begins.
 fn entry_at(places: &[Number], v: usize) -> usize {
-    match places.get(v) {
-        Some(number) => number.at,
-        None => 0,
-    }
+    places.get(v).map_or(0, |number| number.at)
 }
 
 /// Warns of vertices without moves.
@@ -101,11 +98,7 @@ fn warn_of_unreached(
 
 /// Returns the vertex of an identifier, if there is one.
 fn vertex_of(game: &GuardedGame, id: u64) -> Option<u32> {
-    if id <= u32::MAX as u64 {
-        game.find(id as u32)
-    } else {
-        None
-    }
+    game.find(u32::try_from(id).ok()?)
 }
 
 /// Warns of the start of a game.
@@ -158,8 +151,6 @@ pub fn warnings_of_game(
     ensures { IfOk result (λ warnings. warnings.length ≡ length text.now) }
 {
     let mut warnings = Warnings::new(alloc, text.len());
-    match warn_of_game(alloc, text, game, start, &mut warnings) {
-        Ok(()) => Ok(warnings),
-        Err(fault) => Err(fault),
-    }
+    warn_of_game(alloc, text, game, start, &mut warnings)?;
+    Ok(warnings)
 }

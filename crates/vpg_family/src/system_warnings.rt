@@ -15,7 +15,7 @@ fn lines_in<'t>(alloc: Global, text: &'t [u8]) -> Result<Vec<Line<'t>>, AllocErr
     let lines = lines_of(alloc, text)?;
     let mut found = Vec::new(alloc);
     for line in &lines {
-        if !line.bytes.iter().all(|b| *b == b' ' || *b == b'\t') {
+        if !line.is_blank() {
             found.push(*line)?;
         }
     }
@@ -75,18 +75,12 @@ fn lines_of_actions(alloc: Global, system: &System) -> Result<Vec<usize>, AllocE
 
 /// Returns the number of the line of a state or an action.
 fn number_at(numbers: &[usize], index: usize) -> usize {
-    match numbers.get(index) {
-        Some(number) => *number,
-        None => 0,
-    }
+    numbers.get(index).copied().unwrap_or(0)
 }
 
 /// Returns the index of a warning.
 fn index_of(number: usize) -> u32 {
-    match u32::try_from(number) {
-        Ok(index) => index,
-        Err(_) => u32::MAX,
-    }
+    u32::try_from(number).unwrap_or(u32::MAX)
 }
 
 /// Warns of states that cannot be reached from the first one.
@@ -180,10 +174,8 @@ pub fn warnings_of_system(
     ensures { IfOk result (λ warnings. warnings.length ≡ length text.now) }
 {
     let mut warnings = Warnings::new(alloc, text.len());
-    match warn_of_system(alloc, text, diagram, system, requirements, &mut warnings) {
-        Ok(()) => Ok(warnings),
-        Err(fault) => Err(fault),
-    }
+    warn_of_system(alloc, text, diagram, system, requirements, &mut warnings)?;
+    Ok(warnings)
 }
 
 /// Warns of requirements.
@@ -211,8 +203,6 @@ pub fn warnings_of_requirements(
     ensures { IfOk result (λ warnings. warnings.length ≡ length text.now) }
 {
     let mut warnings = Warnings::new(alloc, text.len());
-    match warn_of_requirements(alloc, text, system, &mut warnings) {
-        Ok(()) => Ok(warnings),
-        Err(fault) => Err(fault),
-    }
+    warn_of_requirements(alloc, text, system, &mut warnings)?;
+    Ok(warnings)
 }

@@ -19,39 +19,27 @@ use vpg_system::System;
 /// The number of warnings of each sort that are written with their places.
 const MOST_TOLD: usize = 10;
 
-/// The sorts, in the order in which they are written.
-const SORTS: [Sort; 12] = [
-    Sort::NoProduct,
-    Sort::NoneFound,
-    Sort::Dead,
-    Sort::Unnamed,
-    Sort::Attributes,
-    Sort::Stuck,
-    Sort::NoStart,
-    Sort::Unreached,
-    Sort::NoPath,
-    Sort::Unmet,
-    Sort::Unasked,
-    Sort::NoAction,
+/// The sorts, in the order in which they are written, and the words for the warnings of each.
+const SORTS: [(Sort, &[u8]); 12] = [
+    (Sort::NoProduct, b"diagrams without a product"),
+    (Sort::NoneFound, b"diagrams that may have no product"),
+    (Sort::Dead, b"features that are in no product"),
+    (Sort::Unnamed, b"features that no guard names"),
+    (Sort::Attributes, b"attributes that are read over"),
+    (Sort::Stuck, b"vertices without moves"),
+    (Sort::NoStart, b"starts that are no vertices"),
+    (
+        Sort::Unreached,
+        b"vertices that cannot be reached from the start",
+    ),
+    (
+        Sort::NoPath,
+        b"states that cannot be reached from the first state",
+    ),
+    (Sort::Unmet, b"guards that are true in no product"),
+    (Sort::Unasked, b"actions that no requirement names"),
+    (Sort::NoAction, b"actions that no transition has"),
 ];
-
-/// Returns the words for the warnings of a sort.
-fn called(sort: Sort) -> &'static [u8] {
-    match sort {
-        Sort::NoProduct => b"diagrams without a product",
-        Sort::NoneFound => b"diagrams that may have no product",
-        Sort::Dead => b"features that are in no product",
-        Sort::Unnamed => b"features that no guard names",
-        Sort::Attributes => b"attributes that are read over",
-        Sort::Stuck => b"vertices without moves",
-        Sort::NoStart => b"starts that are no vertices",
-        Sort::Unreached => b"vertices that cannot be reached from the start",
-        Sort::NoPath => b"states that cannot be reached from the first state",
-        Sort::Unmet => b"guards that are true in no product",
-        Sort::Unasked => b"actions that no requirement names",
-        Sort::NoAction => b"actions that no transition has",
-    }
-}
 
 /// Appends what is wrong with a feature.
 fn put_feature(names: &Names, f: u32, what: &[u8], out: &mut Vec<u8>) -> Result<(), AllocError> {
@@ -161,10 +149,7 @@ fn put_unknown(
 
 /// Returns the word of this length at an offset of a text.
 fn word_at(text: &[u8], at: usize, len: u32) -> &[u8] {
-    match text.get(at..at.saturating_add(len as usize)) {
-        Some(word) => word,
-        None => &[],
-    }
+    text.get(at..at.saturating_add(len as usize)).unwrap_or(&[])
 }
 
 /// A text, and the name of its file.
@@ -286,22 +271,23 @@ fn put_warning(
     out.extend_from_slice(b"\n")
 }
 
-/// Appends how many more there are of a sort.
-fn put_more(name: &str, more: usize, sort: Sort, out: &mut Vec<u8>) -> Result<(), AllocError> {
+/// Appends how many more there are of a sort, which is called so.
+fn put_more(name: &str, more: usize, called: &[u8], out: &mut Vec<u8>) -> Result<(), AllocError> {
     put_text(name.as_bytes(), out)?;
     out.extend_from_slice(b": warning: ")?;
-    out.extend_from_slice(called(sort))?;
+    out.extend_from_slice(called)?;
     out.extend_from_slice(b": ")?;
     put_number(more, out)?;
     out.extend_from_slice(b" more\n")
 }
 
-/// Appends the warnings of a sort.
+/// Appends the warnings of a sort, which are called so.
 fn put_sort(
     file: File<'_>,
     about: &About<'_>,
     warnings: &Warnings,
     sort: Sort,
+    called: &[u8],
     out: &mut Vec<u8>,
 ) -> Result<(), AllocError>
     requires { warnings.now.length ≤ length file.text.now }
@@ -316,7 +302,7 @@ fn put_sort(
         }
     }
     if of_sort > MOST_TOLD {
-        put_more(file.name, of_sort - MOST_TOLD, sort, out)?;
+        put_more(file.name, of_sort - MOST_TOLD, called, out)?;
     }
     Ok(())
 }
@@ -330,8 +316,8 @@ fn put_warnings(
 ) -> Result<(), AllocError>
     requires { warnings.now.length ≤ length file.text.now }
 {
-    for sort in SORTS {
-        put_sort(file, about, warnings, sort, out)?;
+    for (sort, called) in SORTS {
+        put_sort(file, about, warnings, sort, called, out)?;
     }
     Ok(())
 }
@@ -343,41 +329,15 @@ fn put_count(count: usize, out: &mut Vec<u8>) -> Result<(), AllocError> {
     out.extend_from_slice(b"\n")
 }
 
-/// Appends the warnings of a diagram, in its file; guards name these features. Returns how many they are.
-fn put_of_diagram(
-    source: DiagramSource<'_>,
-    diagram: &Diagram,
-    named: &[bool],
-    about: &About<'_>,
-    out: &mut Vec<u8>,
-) -> Result<usize, AllocError> {
-    let warnings = warnings_of_diagram(about.alloc, source, diagram, named)?;
-    put_warnings(source.file, about, &warnings, out)?;
-    Ok(warnings.list.len())
-}
-
-/// Appends the warnings of a game, in a file of this name. Returns how many they are.
-fn put_of_game(
-    file: File<'_>,
-    named: Named<'_>,
-    about: &About<'_>,
-    out: &mut Vec<u8>,
-) -> Result<usize, AllocError> {
-    let warnings = warnings_of_game(about.alloc, file.text, named.game, named.names.start())?;
-    put_warnings(file, about, &warnings, out)?;
-    Ok(warnings.list.len())
-}
-
-/// Appends a line for each warning of a family that was read from these files, `FILE:LINE:COLUMN: warning: ..`, and a
+/// Returns a line for each warning of a family that was read from these files, `FILE:LINE:COLUMN: warning: ..`, and a
 /// last one that counts them. Of each sort at most ten are written with their places, and then how many more there are.
-pub fn put_warned<'x>(
+pub fn warned_of_game<'x>(
     alloc: Global,
     of_diagram: DiagramSource<'_>,
     of_game: File<'_>,
     diagram: &'x Diagram,
     game: &'x GuardedGame,
-    out: &mut Vec<u8>,
-) -> Result<(), AllocError> {
+) -> Result<Vec<u8>, AllocError> {
     let names = VertexNames::read(alloc, of_game.text)?;
     let named = Named {
         game,
@@ -389,52 +349,26 @@ pub fn put_warned<'x>(
         guarded: Guarded::Game(named),
     };
     let in_guards = named_in_game(alloc, game)?;
-    let in_diagram = put_of_diagram(of_diagram, diagram, &in_guards, &about, out)?;
-    let in_game = put_of_game(of_game, named, &about, out)?;
-    put_count(in_diagram.saturating_add(in_game), out)
+    let in_diagram = warnings_of_diagram(alloc, of_diagram, diagram, &in_guards)?;
+    let in_game = warnings_of_game(alloc, of_game.text, game, names.start())?;
+    let mut lines = Vec::new(alloc);
+    put_warnings(of_diagram.file, &about, &in_diagram, &mut lines)?;
+    put_warnings(of_game, &about, &in_game, &mut lines)?;
+    let count = in_diagram.list.len().saturating_add(in_game.list.len());
+    put_count(count, &mut lines)?;
+    Ok(lines)
 }
 
-/// Appends the warnings of a system and of its requirements, in files of these names. Returns how many they are.
-fn put_of_model(
-    of_system: File<'_>,
-    of_requirements: File<'_>,
-    diagram: &Diagram,
-    system: &System,
-    about: &About<'_>,
-    out: &mut Vec<u8>,
-) -> Result<usize, AllocError>
-    requires { system.now.features ≡ feature_count diagram.now.lines }
-{
-    let alloc = about.alloc;
-    let in_system = warnings_of_system(
-        alloc,
-        of_system.text,
-        diagram,
-        system,
-        of_requirements.text,
-    )?;
-    put_warnings(of_system, about, &in_system, out)?;
-    let in_requirements = warnings_of_requirements(alloc, of_requirements.text, system)?;
-    put_warnings(of_requirements, about, &in_requirements, out)?;
-    Ok(
-        in_system
-            .list
-            .len()
-            .saturating_add(in_requirements.list.len()),
-    )
-}
-
-/// Appends the warnings of a diagram, a system over its features, and the requirements that it has to meet. The game
-/// that is made from them gets no warnings.
-pub fn put_warned_of_system(
+/// Returns the warnings of a diagram, a system over its features, and the requirements that it has to meet, as
+/// `warned_of_game` does. The game that is made from them gets no warnings.
+pub fn warned_of_system(
     alloc: Global,
     of_diagram: DiagramSource<'_>,
     of_system: File<'_>,
     of_requirements: File<'_>,
     diagram: &Diagram,
     system: &System,
-    out: &mut Vec<u8>,
-) -> Result<(), AllocError>
+) -> Result<Vec<u8>, AllocError>
     requires { system.now.features ≡ feature_count diagram.now.lines }
 {
     let about = About {
@@ -443,7 +377,19 @@ pub fn put_warned_of_system(
         guarded: Guarded::System(system),
     };
     let in_guards = named_in_system(alloc, system)?;
-    let in_diagram = put_of_diagram(of_diagram, diagram, &in_guards, &about, out)?;
-    let in_model = put_of_model(of_system, of_requirements, diagram, system, &about, out)?;
-    put_count(in_diagram.saturating_add(in_model), out)
+    let in_diagram = warnings_of_diagram(alloc, of_diagram, diagram, &in_guards)?;
+    let asked = of_requirements.text;
+    let in_system = warnings_of_system(alloc, of_system.text, diagram, system, asked)?;
+    let in_requirements = warnings_of_requirements(alloc, asked, system)?;
+    let mut lines = Vec::new(alloc);
+    put_warnings(of_diagram.file, &about, &in_diagram, &mut lines)?;
+    put_warnings(of_system, &about, &in_system, &mut lines)?;
+    put_warnings(of_requirements, &about, &in_requirements, &mut lines)?;
+    let of_model = in_system
+        .list
+        .len()
+        .saturating_add(in_requirements.list.len());
+    let count = in_diagram.list.len().saturating_add(of_model);
+    put_count(count, &mut lines)?;
+    Ok(lines)
 }

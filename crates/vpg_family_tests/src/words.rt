@@ -5,7 +5,8 @@ use clap::error::ErrorKind;
 use std::alloc::Global;
 use std::test::*;
 use vpg_family::{GamePaths, Subject};
-use vpg_terminal::{Invocation, Picture, Task, help_end, not_text, read};
+use vpg_script::Form;
+use vpg_terminal::{Invocation, Picture, ScriptRun, Talk, Task, Work, help_end, not_text, read};
 
 /// Words after the program's name, with one blank between them, and after ` = ` the task that they ask for.
 ///
@@ -185,15 +186,17 @@ fn add_all(words: &str, line: &mut Vec<String>, said: &mut Said) {
 fn command_of(task: &Task<'_>) -> &'static str {
     match task {
         Task::BuiltIn => "built-in",
-        Task::Run { .. } => "run",
-        Task::Desk { .. } => "desk",
-        Task::Export { .. } => "export",
-        Task::Model { .. } => "model",
         Task::Diagram { .. } => "diagram",
-        Task::Project { .. } => "project",
-        Task::Check { .. } => "check",
-        Task::Lint { .. } => "lint",
-        Task::Draw { .. } => "draw",
+        Task::Family { work, .. } => match work {
+            Work::Run(_) => "run",
+            Work::Desk(_) => "desk",
+            Work::Export { .. } => "export",
+            Work::Model => "model",
+            Work::Project { .. } => "project",
+            Work::Check => "check",
+            Work::Lint => "lint",
+            Work::Draw { .. } => "draw",
+        },
     }
 }
 
@@ -222,15 +225,16 @@ fn put_game(paths: GamePaths<'_>, said: &mut Said) {
 
 /// Writes the paths of a task's files.
 fn put_paths(task: &Task<'_>, said: &mut Said) {
-    if let Some(paths) = task.paths() {
-        put_game(paths.game, said);
-        put_path(paths.diagram, said);
-    }
-    if let Some(diagram) = task.diagram() {
-        put_path(diagram, said);
-    }
-    if let Some(script) = task.script() {
-        put_path(script, said);
+    match task {
+        Task::BuiltIn => {}
+        Task::Diagram { path } => put_path(path, said),
+        Task::Family { paths, work } => {
+            put_game(paths.game, said);
+            put_path(paths.diagram, said);
+            if let Some(script) = work.script() {
+                put_path(script, said);
+            }
+        }
     }
 }
 
@@ -274,38 +278,31 @@ fn put_value(name: &str, value: Option<&str>, said: &mut Said) {
     }
 }
 
-/// Writes the words of a task beside its files.
-fn put_options(task: &Task<'_>, said: &mut Said) {
-    match task {
-        Task::Run {
-            config,
-            lifters,
-            strict,
-            keep_going,
-            names,
-            json,
-            ..
-        } => {
-            put_lifters(*lifters, said);
-            put_where(*strict, "strict", said);
-            put_where(*keep_going, "keep-going", said);
-            put_where(*names, "names", said);
-            put_where(*json, "json", said);
-            put_value("config", *config, said);
-        }
-        Task::Desk {
-            lifters,
-            names,
-            json,
-            ..
-        } => {
-            put_lifters(*lifters, said);
-            put_where(*names, "names", said);
-            put_where(*json, "json", said);
-        }
-        Task::Export { xml, .. } => put_where(*xml, "xml", said),
-        Task::Project { features, .. } => put_features(features, said),
-        Task::Draw { picture, trace, .. } => {
+/// Writes the words of a run beside its files.
+fn put_run(run: &ScriptRun<'_>, said: &mut Said) {
+    put_lifters(run.lifters, said);
+    put_where(run.manner.is_strict, "strict", said);
+    put_where(run.manner.goes_on, "keep-going", said);
+    put_where(run.is_named, "names", said);
+    put_where(run.manner.form == Form::Json, "json", said);
+    put_value("config", run.config, said);
+}
+
+/// Writes the words of a session beside its files.
+fn put_talk(talk: &Talk, said: &mut Said) {
+    put_lifters(talk.lifters, said);
+    put_where(talk.is_named, "names", said);
+    put_where(talk.form == Form::Json, "json", said);
+}
+
+/// Writes the words of work beside its files.
+fn put_options(work: &Work<'_>, said: &mut Said) {
+    match work {
+        Work::Run(run) => put_run(run, said),
+        Work::Desk(talk) => put_talk(talk, said),
+        Work::Export { xml, .. } => put_where(*xml, "xml", said),
+        Work::Project { features } => put_features(features, said),
+        Work::Draw { picture, trace, .. } => {
             put_picture(*picture, said);
             put_value("trace", *trace, said);
         }
@@ -317,7 +314,9 @@ fn put_options(task: &Task<'_>, said: &mut Said) {
 fn put_asked(asked: &Invocation<'_>, said: &mut Said) {
     said.put(command_of(&asked.task));
     put_paths(&asked.task, said);
-    put_options(&asked.task, said);
+    if let Task::Family { work, .. } = &asked.task {
+        put_options(work, said);
+    }
     put_where(asked.explains, "explained", said);
 }
 

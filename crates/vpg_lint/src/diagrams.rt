@@ -5,14 +5,14 @@ ghost use Rattle.vpg_lint.specs.Messages.{line_of_fault};
 
 use crate::faulty::Faulty;
 use crate::hints::{Kind, MARK, put_text_hint};
-use crate::message::{Message, put_found, put_hint, put_hint_line, put_hint_with};
-use crate::naming::{nearest_form, nearest_of};
+use crate::message::{Message, put_found, put_hint, put_hint_line, put_hint_with, put_meant};
+use crate::naming::{nearest_kind, nearest_of};
 use crate::said::Said;
 use std::alloc::{AllocError, Global};
 use vpg_diagram::DiagramFault;
 use vpg_places::{
-    Declared, Departure, Form, LINES, Line, Part, declared_of, find, form_of, line_at,
-    names_before, words_of,
+    Declared, Departure, Form, LINES, Part, declared_of, find, form_of, line_at, names_before,
+    words_of,
 };
 
 /// The rule for names.
@@ -28,24 +28,13 @@ fn is_remark(word: &[u8]) -> bool {
     word.starts_with(b"#") || word.starts_with(b"//") || word.starts_with(b"--")
 }
 
-/// Appends the word that was perhaps meant as the first of a line.
-fn put_meant(alloc: Global, word: &[u8], out: &mut Said) {
-    match nearest_form(alloc, &LINES, word) {
-        Ok(Some(kind)) if kind.as_bytes() != word => {
-            put_hint_with(b"is ", kind.as_bytes(), b" meant?", out)
-        }
-        Ok(_) => {}
-        Err(_) => out.refuse(),
-    }
-}
-
 /// Appends a hint about the first word of a line.
 fn put_kind_hint(alloc: Global, word: &[u8], out: &mut Said) {
     let word = word.strip_prefix(&MARK).unwrap_or(word);
     if is_remark(word) {
         put_hint(b"a diagram has no comments", out);
-    } else {
-        put_meant(alloc, word, out);
+    } else if form_of(&LINES, word).is_none() {
+        put_meant(nearest_kind(alloc, word), b"", out);
     }
 }
 
@@ -154,28 +143,8 @@ fn put_unknown_hint(
         put_hint_line(hint, it.line, out);
         return;
     }
-    match nearest_of(alloc, known, word) {
-        Ok(Some(other)) => put_hint_with(b"is ", other, b" meant?", out),
-        Ok(None) => put_hint(
-            b"each feature is first named as the root or as a child",
-            out,
-        ),
-        Err(_) => out.refuse(),
-    }
-}
-
-/// Appends what is wrong with the name at a place, which no earlier line has. Returns its place in the line.
-fn put_unnamed(
-    alloc: Global,
-    faulty: &Faulty<'_>,
-    place: usize,
-    declared: &[Declared<'_>],
-    known: &[&[u8]],
-    out: &mut Said,
-) -> usize {
-    let at = faulty.put_found(place, b"a feature that an earlier line names", out);
-    put_unknown_hint(alloc, declared, known, faulty.word(place).bytes, out);
-    at
+    let otherwise = b"each feature is first named as the root or as a child";
+    put_meant(nearest_of(alloc, known, word), otherwise, out)
 }
 
 /// Appends that no earlier line names anything. Returns the place in the line.
@@ -185,35 +154,24 @@ fn put_no_names(faulty: &Faulty<'_>, out: &mut Said) -> usize {
     at
 }
 
-/// Appends which name of a line is unknown, if earlier lines have these names. Returns its place in the line.
-fn put_unknown_of(
-    alloc: Global,
-    faulty: &Faulty<'_>,
-    declared: &[Declared<'_>],
-    known: &[&[u8]],
-    out: &mut Said,
-) -> usize {
-    if known.is_empty() {
-        return put_no_names(faulty, out);
-    }
-    let form = form_of(&LINES, faulty.word(0).bytes);
-    match form.and_then(|form| unknown_place(faulty, &form, known)) {
-        Some(place) => put_unnamed(alloc, faulty, place, declared, known, out),
-        None => faulty.put_found(0, b"features that earlier lines name", out),
-    }
-}
-
 /// Appends which name of a line no earlier line has. Returns its place in the line.
 fn put_unknown(
     alloc: Global,
     faulty: &Faulty<'_>,
     declared: &[Declared<'_>],
     out: &mut Said,
-) -> usize {
-    match names_before(alloc, declared, faulty.line.number) {
-        Ok(known) => put_unknown_of(alloc, faulty, declared, &known, out),
-        Err(_) => out.refused(),
+) -> Result<usize, AllocError> {
+    let known = names_before(alloc, declared, faulty.line.number)?;
+    if known.is_empty() {
+        return Ok(put_no_names(faulty, out));
     }
+    let form = form_of(&LINES, faulty.word(0).bytes);
+    let Some(place) = form.and_then(|form| unknown_place(faulty, &form, &known)) else {
+        return Ok(faulty.put_found(0, b"features that earlier lines name", out));
+    };
+    let at = faulty.put_found(place, b"a feature that an earlier line names", out);
+    put_unknown_hint(alloc, declared, &known, faulty.word(place).bytes, out);
+    Ok(at)
 }
 
 /// Returns the first child of a line that has been a child before, and that earlier line.
@@ -253,26 +211,18 @@ fn put_two_roots(faulty: &Faulty<'_>, declared: &[Declared<'_>], out: &mut Said)
     at
 }
 
-/// Appends what is wrong with a line of a text that names these features. Returns its place in the line.
-fn put_of_names(
+/// Appends what is wrong with the names of a line. Returns its place in the line.
+fn put_names(
     alloc: Global,
     faulty: &Faulty<'_>,
-    declared: &[Declared<'_>],
     fault: DiagramFault,
     out: &mut Said,
-) -> usize {
+) -> Result<usize, AllocError> {
+    let declared = declared_of(alloc, faulty.text)?;
     match fault {
-        DiagramFault::TwoRoots { .. } => put_two_roots(faulty, declared, out),
-        DiagramFault::TwoParents { .. } => put_two_parents(faulty, declared, out),
-        _ => put_unknown(alloc, faulty, declared, out),
-    }
-}
-
-/// Appends what is wrong with a line, if memory for the features is not refused. Returns its place in the line.
-fn put_named(alloc: Global, faulty: &Faulty<'_>, fault: DiagramFault, out: &mut Said) -> usize {
-    match declared_of(alloc, faulty.text) {
-        Ok(declared) => put_of_names(alloc, faulty, &declared, fault, out),
-        Err(_) => out.refused(),
+        DiagramFault::TwoRoots { .. } => Ok(put_two_roots(faulty, &declared, out)),
+        DiagramFault::TwoParents { .. } => Ok(put_two_parents(faulty, &declared, out)),
+        _ => put_unknown(alloc, faulty, &declared, out),
     }
 }
 
@@ -328,32 +278,26 @@ fn put_no_root(faulty: &Faulty<'_>, out: &mut Said) -> usize {
     at
 }
 
-/// Appends that memory ran out. Returns the place in the line.
-fn put_memory(out: &mut Said) -> usize {
-    out.put(b"memory ran out\n");
-    0
-}
-
 /// Appends what is wrong with a line. Returns its place in the line.
-fn put_line_fault(
+fn put_fault(
     alloc: Global,
     faulty: &Faulty<'_>,
     fault: DiagramFault,
     out: &mut Said,
-) -> usize {
-    match fault {
+) -> Result<usize, AllocError> {
+    Ok(match fault {
         DiagramFault::Syntax { .. } => put_syntax(alloc, faulty, out),
         DiagramFault::TwoRoots { .. }
         | DiagramFault::UnknownFeature { .. }
-        | DiagramFault::TwoParents { .. } => put_named(alloc, faulty, fault, out),
+        | DiagramFault::TwoParents { .. } => put_names(alloc, faulty, fault, out)?,
         DiagramFault::TooManyClauses { .. } => {
             faulty.put_found(0, b"a formula of at most 64 clauses", out)
         }
         DiagramFault::TooMany { .. } => put_too_many(faulty, out),
         DiagramFault::BadRange { .. } => put_bad_range(faulty, out),
         DiagramFault::NoRoot => put_no_root(faulty, out),
-        DiagramFault::Memory => put_memory(out),
-    }
+        DiagramFault::Memory => out.put_memory(),
+    })
 }
 
 /// Returns the number of the line that has a fault.
@@ -372,20 +316,6 @@ fn line_of_fault(fault: DiagramFault) -> usize
     }
 }
 
-/// Appends what is wrong with a line of a text. Returns its place in the line.
-fn put_fault(
-    alloc: Global,
-    text: &[u8],
-    line: Line<'_>,
-    fault: DiagramFault,
-    out: &mut Said,
-) -> usize {
-    match words_of(alloc, line.bytes, true) {
-        Ok(words) => put_line_fault(alloc, &Faulty { text, line, words }, fault, out),
-        Err(_) => out.refused(),
-    }
-}
-
 /// Returns the message on the fault with which `Diagram::read` refused a text. Its place is the line that the reader
 /// names, at the word that is wrong.
 pub fn explain_diagram(
@@ -398,7 +328,9 @@ pub fn explain_diagram(
         IsColumnOf (line_text text.now (line_of_fault fault)) message.place.column) }
 {
     let line = line_at(text, line_of_fault(fault));
+    let words = words_of(alloc, line.bytes, b":")?;
     let mut said = Said::new(alloc);
-    let at = put_fault(alloc, text, line, fault, &mut said);
+    let faulty = Faulty { text, line, words };
+    let at = put_fault(alloc, &faulty, fault, &mut said)?;
     said.into_message(line.place(at))
 }

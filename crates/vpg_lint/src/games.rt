@@ -236,37 +236,27 @@ fn entry_at(numbers: &[Number], id: u32, from: usize) -> usize {
     find(numbers, id, false, from).map_or(0, |number| number.at)
 }
 
-/// Says that two entries have one identifier, given the identifiers that begin entries. Returns where the second
-/// begins.
-fn put_second(text: &[u8], id: u32, numbers: &[Number], out: &mut Said) -> usize {
-    let first = entry_at(numbers, id, 0);
-    let second = entry_at(numbers, id, first.saturating_add(1));
+/// Appends that two entries have one identifier. Returns where the second begins.
+fn put_double(alloc: Global, text: &[u8], id: u32, out: &mut Said) -> Result<usize, AllocError> {
+    let numbers = numbers_of(alloc, text, true)?;
+    let first = entry_at(&numbers, id, 0);
+    let second = entry_at(&numbers, id, first.saturating_add(1));
     put_found_at(text, second, b"an identifier that no entry before has", out);
     put_hint_line(
         b"the other entry stands on line ",
         line_of(text, first),
         out,
     );
-    second
-}
-
-/// Appends that two entries have one identifier. Returns where the second begins.
-fn put_double(alloc: Global, text: &[u8], id: u32, out: &mut Said) -> usize {
-    match numbers_of(alloc, text, true) {
-        Ok(numbers) => put_second(text, id, &numbers, out),
-        Err(_) => out.refused(),
-    }
+    Ok(second)
 }
 
 /// Appends that a successor has no entry. Returns where the successor is.
-fn put_missing(alloc: Global, text: &[u8], id: u32, out: &mut Said) -> usize {
-    let at = match numbers_of(alloc, text, false) {
-        Ok(numbers) => find(&numbers, id, true, 0).map_or(0, |number| number.at),
-        Err(_) => out.refused(),
-    };
+fn put_missing(alloc: Global, text: &[u8], id: u32, out: &mut Said) -> Result<usize, AllocError> {
+    let numbers = numbers_of(alloc, text, false)?;
+    let at = find(&numbers, id, true, 0).map_or(0, |number| number.at);
     put_found_at(text, at, b"a successor that has an entry", out);
     put_hint(b"no entry begins with this identifier", out);
-    at
+    Ok(at)
 }
 
 /// Appends that the measures of a game are too many.
@@ -334,16 +324,22 @@ fn put_placed(
 }
 
 /// Appends the meaning of a fault. Returns where it is.
-fn put_fault(alloc: Global, text: &[u8], names: &Names, fault: GameFault, out: &mut Said) -> usize
-    ensures { IfSome (offset_of fault) (λ offset. result ≡ min offset usize.MAX) }
+fn put_fault(
+    alloc: Global,
+    text: &[u8],
+    names: &Names,
+    fault: GameFault,
+    out: &mut Said,
+) -> Result<usize, AllocError>
+    ensures { IfOk result (λ at. IfSome (offset_of fault) (λ offset. at ≡ min offset usize.MAX)) }
 {
     match fault {
-        GameFault::DoubleVertex { id } => put_double(alloc, text, id, out),
-        GameFault::MissingVertex { id } => put_missing(alloc, text, id, out),
+        GameFault::DoubleVertex { id } => Ok(put_double(alloc, text, id, out)?),
+        GameFault::MissingVertex { id } => Ok(put_missing(alloc, text, id, out)?),
         _ => {
             let at = offset_of(fault);
             put_placed(alloc, text, at, names, fault, out);
-            at
+            Ok(at)
         }
     }
 }
@@ -361,7 +357,7 @@ pub fn explain_game(
     ensures within { IfOk result (λ message. IsWithin text.now message.place.line message.place.column) }
 {
     let mut said = Said::new(alloc);
-    let at = put_fault(alloc, text, names, fault, &mut said);
+    let at = put_fault(alloc, text, names, fault, &mut said)?;
     let place = place_of(text, at.min(text.len()));
     said.into_message(place)
 }

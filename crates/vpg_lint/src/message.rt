@@ -111,6 +111,20 @@ pub(crate) fn put_hint_with(before: &[u8], word: &[u8], behind: &[u8], out: &mut
     out.put(b"\n");
 }
 
+/// Appends the text that was perhaps meant; if there is none, another hint, unless it is empty.
+pub(crate) fn put_meant(
+    meant: Result<Option<&[u8]>, AllocError>,
+    otherwise: &[u8],
+    out: &mut Said,
+) {
+    match meant {
+        Ok(Some(text)) => put_hint_with(b"is ", text, b" meant?", out),
+        Ok(None) if otherwise.is_empty() => {}
+        Ok(None) => put_hint(otherwise, out),
+        Err(_) => out.refuse(),
+    }
+}
+
 /// Appends a hint that ends in a line's number.
 pub(crate) fn put_hint_line(before: &[u8], line: usize, out: &mut Said) {
     out.put(b"  hint: ");

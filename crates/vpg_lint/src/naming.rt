@@ -4,7 +4,7 @@ ghost use Rattle.std.specs.Prelude.{◌<◌, IfOk, IfSome, length};
 use std::alloc::{AllocError, Global};
 use strsim::levenshtein;
 use vpg_features::{LONGEST_NAME, Names};
-use vpg_places::{Form, begins_character};
+use vpg_places::{LINES, begins_character};
 use vpg_script::all_forms;
 
 /// The greatest number of edits from a word to a name that is proposed.
@@ -67,12 +67,28 @@ pub fn nearest(alloc: Global, names: &Names, word: &str) -> Result<Option<u16>, 
     Ok(found)
 }
 
+/// Returns the number of edits as `edits_below` does. If `alike` is set, large and small letters count alike if nothing
+/// else differs.
+fn edits_to(
+    alloc: Global,
+    limit: usize,
+    word: &str,
+    text: &str,
+    alike: bool,
+) -> Result<usize, AllocError> {
+    if alike && text.as_bytes().eq_ignore_ascii_case(word.as_bytes()) {
+        return Ok(0);
+    }
+    edits_below(alloc, limit, word, text)
+}
+
 /// Returns the first of some words that the fewest edits lead to, fewer than half of the bytes of the word that was
-/// perhaps meant to be one of them.
-pub fn nearest_of<'t>(
+/// perhaps meant to be one of them. `alike` is as for `edits_to`.
+fn nearest_in<'t>(
     alloc: Global,
     words: &[&'t [u8]],
     word: &[u8],
+    alike: bool,
 ) -> Result<Option<&'t [u8]>, AllocError> {
     let mut found = None;
     let Some(word) = text_of(word) else {
@@ -81,7 +97,7 @@ pub fn nearest_of<'t>(
     let mut fewest = too_many_edits(word);
     for other in words {
         if let Some(name) = text_of(other) {
-            let edits = edits_below(alloc, fewest, word, name)?;
+            let edits = edits_to(alloc, fewest, word, name, alike)?;
             if edits < fewest {
                 fewest = edits;
                 found = Some(*other);
@@ -91,51 +107,36 @@ pub fn nearest_of<'t>(
     Ok(found)
 }
 
-/// Returns the number of edits from a word to a text. Large and small letters count alike if nothing else differs.
-fn edits_to(alloc: Global, limit: usize, word: &str, text: &str) -> Result<usize, AllocError> {
-    if text.as_bytes().eq_ignore_ascii_case(word.as_bytes()) {
-        return Ok(0);
-    }
-    edits_below(alloc, limit, word, text)
+/// Returns the first of some words that the fewest edits lead to, fewer than half of the bytes of the word that was
+/// perhaps meant to be one of them.
+pub fn nearest_of<'t>(
+    alloc: Global,
+    words: &[&'t [u8]],
+    word: &[u8],
+) -> Result<Option<&'t [u8]>, AllocError> {
+    nearest_in(alloc, words, word, false)
 }
 
-/// Returns the nearest of the words that begin these forms.
-pub(crate) fn nearest_form(
+/// Returns the nearest of the words that begin a diagram's lines.
+pub(crate) fn nearest_kind(
     alloc: Global,
-    forms: &[Form],
     word: &[u8],
-) -> Result<Option<&'static str>, AllocError> {
-    let mut found = None;
-    let Some(word) = text_of(word) else {
-        return Ok(found);
-    };
-    let mut fewest = too_many_edits(word);
-    for form in forms {
-        let edits = edits_to(alloc, fewest, word, form.word)?;
-        if edits < fewest {
-            fewest = edits;
-            found = Some(form.word);
-        }
-    }
-    Ok(found)
+) -> Result<Option<&'static [u8]>, AllocError> {
+    let kinds: Vec<&'static [u8]> = LINES
+        .iter()
+        .map(|form| form.word.as_bytes())
+        .collect(alloc)?;
+    nearest_in(alloc, &kinds, word, true)
 }
 
 /// Returns the nearest of the words that name commands.
 pub(crate) fn nearest_command(
     alloc: Global,
     word: &[u8],
-) -> Result<Option<&'static str>, AllocError> {
-    let mut found = None;
-    let Some(word) = text_of(word) else {
-        return Ok(found);
-    };
-    let mut fewest = too_many_edits(word);
-    for form in all_forms() {
-        let edits = edits_to(alloc, fewest, word, form.word)?;
-        if edits < fewest {
-            fewest = edits;
-            found = Some(form.word);
-        }
-    }
-    Ok(found)
+) -> Result<Option<&'static [u8]>, AllocError> {
+    let commands: Vec<&'static [u8]> = all_forms()
+        .iter()
+        .map(|form| form.word.as_bytes())
+        .collect(alloc)?;
+    nearest_in(alloc, &commands, word, true)
 }

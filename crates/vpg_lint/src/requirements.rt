@@ -6,7 +6,7 @@ ghost use Rattle.vpg_lint.specs.Messages.{offset_in_requirements, IsPlaceOf};
 use crate::diagrams::NAME_RULE;
 use crate::games::{behind, line_of, put_found_at, word_at};
 use crate::hints::{Kind, put_text_hint};
-use crate::message::{Message, put_found, put_hint, put_hint_line, put_hint_with};
+use crate::message::{Message, put_found, put_hint, put_hint_line, put_meant};
 use crate::naming::nearest_of;
 use crate::said::Said;
 use crate::spots::{Spot, spot_of};
@@ -269,25 +269,6 @@ fn nearest_before<'t>(
     nearest_of(alloc, &known, name)
 }
 
-/// Appends the name, or the word, that was perhaps meant.
-fn put_nearest(
-    alloc: Global,
-    text: &[u8],
-    words: &[Word<'_>],
-    at: usize,
-    name: &[u8],
-    out: &mut Said,
-) {
-    match nearest_before(alloc, text, words, at, name) {
-        Ok(Some(other)) => put_hint_with(b"is ", other, b" meant?", out),
-        Ok(None) => put_hint(
-            b"an action stands behind `can`, `will` or `after`, or between `<` and `>` or `[` and `]`",
-            out,
-        ),
-        Err(_) => out.refuse(),
-    }
-}
-
 /// Appends that a name names nothing.
 fn put_unknown(alloc: Global, text: &[u8], at: usize, words: &[Word<'_>], out: &mut Said) {
     let name = word_at(text, at);
@@ -307,7 +288,10 @@ fn put_unknown(alloc: Global, text: &[u8], at: usize, words: &[Word<'_>], out: &
     if let Some(at) = declared(text, words, name, false) {
         return put_hint_line(b"it is bound elsewhere, on line ", line_of(text, at), out);
     }
-    put_nearest(alloc, text, words, at, name, out)
+    let otherwise =
+        b"an action stands behind `can`, `will` or `after`, or between `<` and `>` or `[` and `]`";
+    let nearest = nearest_before(alloc, text, words, at, name);
+    put_meant(nearest, otherwise, out)
 }
 
 /// Appends that two entries have one name.
@@ -386,29 +370,20 @@ pub fn explain_requirements(
         IfSome (offset_in_requirements fault) (λ at. IsPlaceOf text.now at message.place)) }
     ensures within { IfOk result (λ message. IsWithin text.now message.place.line message.place.column) }
 {
+    let words = tokens_of(alloc, text)?;
     let mut said = Said::new(alloc);
     let at = offset_of(fault);
-    match tokens_of(alloc, text) {
-        Ok(words) => put_placed(alloc, text, at, &words, fault, &mut said),
-        Err(_) => said.refuse(),
-    }
+    put_placed(alloc, text, at, &words, fault, &mut said);
     said.into_message(place_of(text, at.min(text.len())))
-}
-
-/// Returns where the entry of a name is, or the front if there is none.
-fn entry_at(alloc: Global, text: &[u8], name: &[u8], out: &mut Said) -> usize {
-    match tokens_of(alloc, text) {
-        Ok(words) => declared(text, &words, name, true).unwrap_or(0),
-        Err(_) => out.refused(),
-    }
 }
 
 /// Returns the message that the entry of a name has too many parts. Its place is the entry's name.
 pub fn explain_parts(alloc: Global, text: &[u8], name: &[u8]) -> Result<Message, AllocError>
     ensures { IfOk result (λ message. IsWithin text.now message.place.line message.place.column) }
 {
+    let words = tokens_of(alloc, text)?;
+    let at = declared(text, &words, name, true).unwrap_or(0);
     let mut said = Said::new(alloc);
-    let at = entry_at(alloc, text, name, &mut said);
     said.put(b"`");
     said.put_shown(name);
     said.put(b"` has more than 65,536 parts\n");

@@ -34,9 +34,9 @@ impl Said {
         self.is_refused = true;
     }
 
-    /// Notes that memory was refused, and returns 0 as the place.
-    pub(crate) fn refused(&mut self) -> usize {
-        self.is_refused = true;
+    /// Appends that a reader had no memory. Returns 0 as the place.
+    pub(crate) fn put_memory(&mut self) -> usize {
+        self.put(b"memory ran out\n");
         0
     }
 

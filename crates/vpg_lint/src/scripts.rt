@@ -6,7 +6,7 @@ use crate::arguments::{Departure, departure_of, too_great};
 use crate::diagrams::NAME_RULE;
 use crate::faulty::Faulty;
 use crate::hints::{Kind, MARK, put_text_hint};
-use crate::message::{Message, put_hint, put_hint_with};
+use crate::message::{Message, put_hint, put_hint_with, put_meant};
 use crate::naming::nearest_command;
 use crate::said::Said;
 use std::alloc::{AllocError, Global};
@@ -34,25 +34,17 @@ fn is_label(word: &[u8]) -> bool {
     1 <= value && value <= 64
 }
 
-/// Appends the command that was perhaps meant by a word.
-fn put_meant(alloc: Global, word: &[u8], out: &mut Said) {
-    match nearest_command(alloc, word) {
-        Ok(Some(command)) if command.as_bytes() == word => {}
-        Ok(Some(command)) => put_hint_with(b"is ", command.as_bytes(), b" meant?", out),
-        Ok(None) => put_hint(b"`vpgdesk --help` lists the commands", out),
-        Err(_) => out.refuse(),
-    }
-}
-
 /// Appends a hint about a word that should be a command.
 fn put_command_hint(alloc: Global, word: &[u8], out: &mut Said) {
+    let command = word.strip_prefix(&MARK).unwrap_or(word);
     if word.contains(&b':') {
         put_hint(
             b"a label is a number from 1 to 64 and `:`, with a blank behind it",
             out,
         );
-    } else {
-        put_meant(alloc, word.strip_prefix(&MARK).unwrap_or(word), out);
+    } else if form_named(command).is_none() {
+        let otherwise = b"`vpgdesk --help` lists the commands";
+        put_meant(nearest_command(alloc, command), otherwise, out);
     }
 }
 
@@ -153,15 +145,13 @@ fn put_long(out: &mut Said) -> usize {
 }
 
 /// Appends what is wrong with any line, also with one that is too long. Returns its place in the line.
-fn put_line(alloc: Global, line: Line<'_>, out: &mut Said) -> usize {
+fn put_line(alloc: Global, line: Line<'_>, out: &mut Said) -> Result<usize, AllocError> {
     let text = line.bytes;
     if text.len() > LONGEST_LINE {
-        return put_long(out);
+        return Ok(put_long(out));
     }
-    match words_of(alloc, text, false) {
-        Ok(words) => put_refused(alloc, &Faulty { text, line, words }, out),
-        Err(_) => out.refused(),
-    }
+    let words = words_of(alloc, text, b"")?;
+    Ok(put_refused(alloc, &Faulty { text, line, words }, out))
 }
 
 /// Returns the message why a line of a script, of this number, is no command.
@@ -175,6 +165,6 @@ pub fn explain_line(alloc: Global, number: usize, line: &[u8]) -> Result<Message
         bytes: line,
     };
     let mut said = Said::new(alloc);
-    let at = put_line(alloc, line, &mut said);
+    let at = put_line(alloc, line, &mut said)?;
     said.into_message(line.place(at))
 }

@@ -9,99 +9,53 @@ use crate::games::{offset_in_guard, put_guard_fault};
 use crate::hints::{Kind, put_text_hint};
 use crate::message::{Message, put_found, put_hint, put_hint_line, put_hint_with};
 use crate::said::Said;
+use crate::tokens::word;
 use std::alloc::{AllocError, Global};
 use vpg_features::Names;
 use vpg_guards::GuardFault;
-use vpg_places::{Line, Word, line_at, lines_of};
+use vpg_places::{Line, Word, line_at, lines_of, words_of};
 use vpg_system::SystemFault;
 
-fn is_blank(b: u8) -> bool {
-    b == b' ' || b == b'\t'
-}
-
-/// Whether a byte is a word of its own.
-fn is_sign(b: u8) -> bool {
-    b == b'(' || b == b')' || b == b','
-}
+/// The bytes of a line that are words of their own.
+const SIGNS: &[u8] = b"(),";
 
 /// Whether a word is a number.
 fn is_number(word: &[u8]) -> bool {
     !word.is_empty() && word.iter().all(|b| b.is_ascii_digit())
 }
 
-/// Adds the bytes of a line from one offset to another, if there are any.
-fn push_word<'t>(
-    line: &'t [u8],
-    begin: usize,
-    end: usize,
-    words: &mut Vec<Word<'t>>,
-) -> Result<(), AllocError> {
-    match line.get(begin..end) {
-        None | Some([]) => Ok(()),
-        Some(bytes) => {
-            words.push(Word { at: begin, bytes })?;
-            Ok(())
+/// The words of a header, none where a number stands, and what is expected there.
+static HEADER: [(&[u8], &[u8]); 8] = [
+    (b"des", b"`des`"),
+    (b"(", b"`(`"),
+    (b"", b"the number of the first state"),
+    (b",", b"`,`"),
+    (b"", b"the number of transitions"),
+    (b",", b"`,`"),
+    (b"", b"the number of states"),
+    (b")", b"`)`"),
+];
+
+/// Returns the place where a line departs from the form of a header, and what is expected there.
+fn header_departure(faulty: &Faulty<'_>) -> (usize, &'static [u8]) {
+    for (place, (word, expected)) in HEADER.iter().enumerate() {
+        let found = faulty.word(place).bytes;
+        let is_fit = if word.is_empty() {
+            is_number(found)
+        } else {
+            found == *word
+        };
+        if !is_fit {
+            return (place, *expected);
         }
     }
-}
-
-/// Returns the words of a line: each sign is one, and so is the text between signs and blanks.
-fn words_of<'t>(alloc: Global, line: &'t [u8]) -> Result<Vec<Word<'t>>, AllocError> {
-    let mut words = Vec::new(alloc);
-    let mut begin = 0usize;
-    for (i, b) in line.iter().enumerate() {
-        if is_sign(*b) || is_blank(*b) {
-            push_word(line, begin, i, &mut words)?;
-            begin = i.saturating_add(1);
-        }
-        if is_sign(*b) {
-            push_word(line, i, begin, &mut words)?;
-        }
-    }
-    push_word(line, begin, line.len(), &mut words)?;
-    Ok(words)
-}
-
-/// Whether a word of a header may stand at a place.
-fn fits_header(place: usize, word: &[u8]) -> bool {
-    match place {
-        0 => word == b"des".as_slice(),
-        1 => word == b"(".as_slice(),
-        2 | 4 | 6 => is_number(word),
-        3 | 5 => word == b",".as_slice(),
-        7 => word == b")".as_slice(),
-        _ => word.is_empty(),
-    }
-}
-
-/// Returns what a header has at a place.
-fn expected_in_header(place: usize) -> &'static [u8] {
-    match place {
-        0 => b"`des`",
-        1 => b"`(`",
-        2 => b"the number of the first state",
-        4 => b"the number of transitions",
-        6 => b"the number of states",
-        3 | 5 => b"`,`",
-        7 => b"`)`",
-        _ => b"the end of the line",
-    }
-}
-
-/// Returns the place where a line departs from the form of a header.
-fn header_departure(faulty: &Faulty<'_>) -> usize {
-    for place in 0..8 {
-        if !fits_header(place, faulty.word(place).bytes) {
-            return place;
-        }
-    }
-    8
+    (8, b"the end of the line")
 }
 
 /// Appends why a line is no header. Returns the place in the line.
 fn put_no_header(faulty: &Faulty<'_>, out: &mut Said) -> usize {
-    let place = header_departure(faulty);
-    let at = faulty.put_found(place, expected_in_header(place), out);
+    let (place, expected) = header_departure(faulty);
+    let at = faulty.put_found(place, expected, out);
     put_hint(
         b"the first line is written `des (FIRST, TRANSITIONS, STATES)`",
         out,
@@ -191,17 +145,12 @@ fn put_syntax(faulty: &Faulty<'_>, out: &mut Said) -> usize {
     at
 }
 
-/// Whether a line has a byte that is no blank.
-fn is_written(line: &Line<'_>) -> bool {
-    line.bytes.iter().any(|b| !is_blank(*b))
-}
-
 /// Returns the header, and how many lines that are not blank stand after it.
 fn header_in<'t>(lines: &[Line<'t>]) -> Option<(Line<'t>, usize)> {
     let mut header = None;
     let mut behind = 0usize;
     for line in lines {
-        if is_written(line) {
+        if !line.is_blank() {
             match header {
                 Some(_) => behind = behind.saturating_add(1),
                 None => header = Some(*line),
@@ -230,11 +179,14 @@ fn put_count_of(faulty: &Faulty<'_>, header: Line<'_>, behind: usize, out: &mut 
 }
 
 /// Appends that a header counts a different number of transitions. Returns the place in the line.
-fn put_wrong_count(alloc: Global, faulty: &Faulty<'_>, out: &mut Said) -> usize {
-    match header_of(alloc, faulty.text) {
-        Ok(Some((header, behind))) => put_count_of(faulty, header, behind, out),
-        Ok(None) => 0,
-        Err(_) => out.refused(),
+fn put_wrong_count(
+    alloc: Global,
+    faulty: &Faulty<'_>,
+    out: &mut Said,
+) -> Result<usize, AllocError> {
+    match header_of(alloc, faulty.text)? {
+        Some((header, behind)) => Ok(put_count_of(faulty, header, behind, out)),
+        None => Ok(0),
     }
 }
 
@@ -257,27 +209,14 @@ fn put_state_of(faulty: &Faulty<'_>, is_header: bool, states: &[u8], out: &mut S
     at
 }
 
-/// Appends which state a header does not count. Returns its place in the line.
-fn put_state_in(alloc: Global, faulty: &Faulty<'_>, header: Line<'_>, out: &mut Said) -> usize {
-    match words_of(alloc, header.bytes) {
-        Ok(words) => {
-            let states: &[u8] = match words.get(6) {
-                Some(word) => word.bytes,
-                None => b"",
-            };
-            put_state_of(faulty, header.number == faulty.line.number, states, out)
-        }
-        Err(_) => out.refused(),
-    }
-}
-
 /// Appends which state the header does not count. Returns its place in the line.
-fn put_no_state(alloc: Global, faulty: &Faulty<'_>, out: &mut Said) -> usize {
-    match header_of(alloc, faulty.text) {
-        Ok(Some((header, _))) => put_state_in(alloc, faulty, header, out),
-        Ok(None) => 0,
-        Err(_) => out.refused(),
-    }
+fn put_no_state(alloc: Global, faulty: &Faulty<'_>, out: &mut Said) -> Result<usize, AllocError> {
+    let Some((header, _)) = header_of(alloc, faulty.text)? else {
+        return Ok(0);
+    };
+    let words = words_of(alloc, header.bytes, SIGNS)?;
+    let states = word(&words, 6);
+    Ok(put_state_of(faulty, header.number == faulty.line.number, states, out))
 }
 
 /// Returns the text between the first `,` of a line and the last, without the blanks round it, and where it begins.
@@ -336,30 +275,24 @@ fn put_guard(
     at
 }
 
-/// Appends that memory ran out. Returns the place in the line.
-fn put_memory(out: &mut Said) -> usize {
-    out.put(b"memory ran out\n");
-    0
-}
-
 /// Appends what is wrong with a line. Returns its place in the line.
-fn put_line_fault(
+fn put_fault(
     alloc: Global,
     faulty: &Faulty<'_>,
     names: &Names,
     fault: SystemFault,
     out: &mut Said,
-) -> usize {
-    match fault {
+) -> Result<usize, AllocError> {
+    Ok(match fault {
         SystemFault::NoHeader { .. } => put_no_header(faulty, out),
         SystemFault::TooMany { .. } => put_too_many(faulty, out),
         SystemFault::Syntax { .. } => put_syntax(faulty, out),
-        SystemFault::WrongCount { .. } => put_wrong_count(alloc, faulty, out),
+        SystemFault::WrongCount { .. } => put_wrong_count(alloc, faulty, out)?,
         SystemFault::Label { .. } => put_label(faulty, out),
-        SystemFault::NoState { .. } => put_no_state(alloc, faulty, out),
+        SystemFault::NoState { .. } => put_no_state(alloc, faulty, out)?,
         SystemFault::Guard { at, fault, .. } => put_guard(alloc, faulty, names, at, fault, out),
-        SystemFault::Memory => put_memory(out),
-    }
+        SystemFault::Memory => out.put_memory(),
+    })
 }
 
 /// Returns the number of the line that has a fault.
@@ -378,21 +311,6 @@ fn line_of_fault(fault: SystemFault) -> usize
     }
 }
 
-/// Appends what is wrong with a line of a text. Returns its place in the line.
-fn put_fault(
-    alloc: Global,
-    text: &[u8],
-    line: Line<'_>,
-    names: &Names,
-    fault: SystemFault,
-    out: &mut Said,
-) -> usize {
-    match words_of(alloc, line.bytes) {
-        Ok(words) => put_line_fault(alloc, &Faulty { text, line, words }, names, fault, out),
-        Err(_) => out.refused(),
-    }
-}
-
 /// Returns the message on the fault with which `System::read` refused a text, over features of these names. Its place
 /// is the line that the reader names, at the word that is wrong, in the middle of a guard too.
 pub fn explain_system(
@@ -406,7 +324,9 @@ pub fn explain_system(
         IsColumnOf (line_text text.now (line_in_system fault)) message.place.column) }
 {
     let line = line_at(text, line_of_fault(fault));
+    let words = words_of(alloc, line.bytes, SIGNS)?;
     let mut said = Said::new(alloc);
-    let at = put_fault(alloc, text, line, names, fault, &mut said);
+    let faulty = Faulty { text, line, words };
+    let at = put_fault(alloc, &faulty, names, fault, &mut said)?;
     said.into_message(line.place(at))
 }

@@ -56,7 +56,7 @@ pub fn declared_of<'t>(alloc: Global, text: &'t [u8]) -> Result<Vec<Declared<'t>
     let lines = lines_of(alloc, text)?;
     let mut declared = Vec::new(alloc);
     for line in &lines {
-        let words = words_of(alloc, line.bytes, true)?;
+        let words = words_of(alloc, line.bytes, b":")?;
         declare(*line, &words, &mut declared)?;
     }
     Ok(declared)

@@ -36,6 +36,11 @@ impl<'t> Line<'t> {
             column: place_of(self.bytes, at).column,
         }
     }
+
+    /// Whether it has no byte but blanks.
+    pub fn is_blank(&self) -> bool {
+        self.bytes.iter().all(|b| is_blank(*b))
+    }
 }
 
 /// Returns the offset of the first line feed, or the length if there is none.
@@ -168,26 +173,26 @@ fn behind_quotes(line: &[u8], at: usize) -> usize {
     }
 }
 
-/// Returns the words of a line. If `marks` is set, a `:` is a word of its own; otherwise a word that begins with a
+/// Returns the words of a line. Each of these signs is a word of its own; if there are none, a word that begins with a
 /// quote goes on after the next quote.
 pub fn words_of<'t>(
     alloc: Global,
     line: &'t [u8],
-    marks: bool,
+    signs: &[u8],
 ) -> Result<Vec<Word<'t>>, AllocError> {
     let mut words = Vec::new(alloc);
     let mut begin = 0usize;
     let mut behind = 0usize;
     for (i, b) in line.iter().enumerate() {
-        let is_mark = marks && *b == b':';
-        if !marks && *b == b'"' && i == begin {
+        let is_sign = signs.contains(b);
+        if signs.is_empty() && *b == b'"' && i == begin {
             behind = behind_quotes(line, i);
         }
-        if i >= behind && (is_mark || is_blank(*b)) {
+        if i >= behind && (is_sign || is_blank(*b)) {
             push_word(line, begin, i, &mut words)?;
             begin = i.saturating_add(1);
         }
-        if is_mark {
+        if is_sign {
             push_word(line, i, begin, &mut words)?;
         }
     }

@@ -1,6 +1,4 @@
 //! Scripts in files, and from standard input.
-ghost use Rattle.std.specs.Prelude.{◌≤◌};
-
 use crate::configuring::decisions_of;
 use crate::family::known_of;
 use std::alloc::Global;
@@ -10,24 +8,7 @@ use std::thread::Threads;
 use vpg_family::{Context, Family, Fault, Paths, Texts, open_script, read_script};
 use vpg_report::{DIAGRAM, End, GAME, end_of, run_script};
 use vpg_script::{Device, Form, Manner, Sink};
-
-/// A run of a script's file.
-#[derive(Clone, Copy)]
-pub(crate) struct ScriptRun<'a> {
-    pub(crate) paths: Paths<'a>,
-    pub(crate) script: &'a str,
-    /// The file of a configuration that is decided before the script.
-    pub(crate) config: Option<&'a str>,
-    pub(crate) lifters: u32,
-    pub(crate) manner: Manner,
-    /// Whether lines about vertices end with the names of these.
-    pub(crate) is_named: bool,
-}
-
-/// Returns the form that answers are asked for in.
-pub(crate) fn answers_in(json: bool) -> Form {
-    if json { Form::Json } else { Form::Plain }
-}
+use vpg_terminal::ScriptRun;
 
 /// The message while the program waits for a script from a terminal.
 const WAITS: &[u8] =
@@ -86,18 +67,17 @@ pub(crate) fn run_files<T: Threads + Wait + Sync>(
     rt: &HostRuntime,
     threads: &T,
     alloc: Global,
-    asked: ScriptRun<'_>,
+    paths: Paths<'_>,
+    run: ScriptRun<'_>,
     texts: &mut Texts,
-) -> Result<End, Fault>
-    requires { (1 ≤ asked.lifters) × (asked.lifters ≤ 64) }
-{
-    let mut known = known_of(rt, alloc, asked.paths, texts)?;
-    if asked.is_named {
+) -> Result<End, Fault> {
+    let mut known = known_of(rt, alloc, paths, texts)?;
+    if run.is_named {
         known.label();
     }
     let family = known.family.again()?;
-    let decisions = decisions_of(rt, alloc, asked.config)?;
-    let file = open_script(rt, asked.script)?;
+    let decisions = decisions_of(rt, alloc, run.config)?;
+    let file = open_script(rt, run.script)?;
     let mut reader = Device::reader(decisions.as_slice().chain(file));
     let mut writer = Device::writer(rt.stdout().lock());
     end_of(run_script(
@@ -107,7 +87,7 @@ pub(crate) fn run_files<T: Threads + Wait + Sync>(
         &known.context,
         &mut reader,
         &mut writer,
-        asked.lifters,
-        asked.manner,
+        run.lifters.clamp(1, 64),
+        run.manner,
     ))
 }

@@ -1,22 +1,77 @@
 //! The tasks of the program's words.
 use crate::configuring::configuration_form;
+use crate::family::read_into;
 use crate::leaving::{drawn_after_files, exported, put_left, traced_files};
-use crate::output::put_made;
-use crate::running::{ScriptRun, answers_in, run_built_in, run_files};
-use crate::texts::{counted, diagram_text, game_text, pictured, projected, warned};
-use crate::typed::{Talk, sit};
+use crate::output::{put_made, put_out};
+use crate::running::{run_built_in, run_files};
+use crate::texts::{diagram_text, pictured, projected};
+use crate::typed::sit;
 use crate::words::print;
 use clap::Error;
 use std::alloc::Global;
 use std::sync::Wait;
 use std::thread::Threads;
-use vpg_family::{Fault, Texts, explained, explained_diagram, explained_set};
+use vpg_family::{
+    Fault, Paths, Texts, checked, explained, explained_diagram, explained_set, linted,
+};
 use vpg_report::End;
-use vpg_script::Manner;
-use vpg_terminal::{Invocation, Task};
+use vpg_terminal::{Invocation, ScriptRun, Task, Work};
+
+/// Carries work on the family of some files out, whose texts are kept to explain a fault.
+fn work_out<T: Threads + Wait + Sync>(
+    rt: &HostRuntime,
+    threads: &T,
+    alloc: Global,
+    paths: Paths<'_>,
+    work: &Work<'_>,
+    texts: &mut Texts,
+) -> Result<End, Fault> {
+    match work {
+        Work::Run(run) => run_files(rt, threads, alloc, paths, *run, texts),
+        Work::Desk(talk) => sit(rt, threads, alloc, paths, *talk, texts),
+        Work::Export { script, xml } => {
+            let form = configuration_form(*xml);
+            put_left(rt, exported(rt, threads, alloc, paths, form, script, texts))
+        }
+        Work::Model => {
+            read_into(rt, alloc, paths, texts)?;
+            put_out(rt, &texts.game)
+        }
+        Work::Project { features } => put_made(rt, projected(rt, alloc, paths, features, texts)),
+        Work::Check => {
+            read_into(rt, alloc, paths, texts)?;
+            put_made(rt, checked(alloc, texts))
+        }
+        Work::Lint => {
+            read_into(rt, alloc, paths, texts)?;
+            put_made(rt, linted(alloc, paths, texts))
+        }
+        Work::Draw {
+            picture: _,
+            script,
+            trace: Some(vertex),
+        } => put_left(
+            rt,
+            traced_files(rt, threads, alloc, paths, vertex, *script, texts),
+        ),
+        Work::Draw {
+            picture,
+            script: Some(script),
+            trace: None,
+        } => put_left(
+            rt,
+            drawn_after_files(rt, threads, alloc, paths, *picture, script, texts),
+        ),
+        Work::Draw {
+            picture,
+            script: None,
+            trace: None,
+        } => put_made(rt, pictured(rt, alloc, paths, *picture, texts)),
+    }
+}
 
 /// Carries out the task that was asked for, or prints the message in its place. The texts of its files are kept in
-/// `texts`, to explain a fault. The parser takes no number of lifters but 1 to 64.
+/// `texts`, to explain a fault.
 pub fn carry_out<T: Threads + Wait + Sync>(
     rt: &HostRuntime,
     threads: &T,
@@ -30,94 +85,22 @@ pub fn carry_out<T: Threads + Wait + Sync>(
     };
     match task {
         Task::BuiltIn => run_built_in(rt, threads, alloc),
-        Task::Run {
-            paths,
-            script,
-            config,
-            lifters,
-            strict,
-            keep_going,
-            names,
-            json,
-        } => {
-            let asked = ScriptRun {
-                paths: *paths,
-                script,
-                config: *config,
-                lifters: (*lifters).clamp(1, 64),
-                manner: Manner {
-                    is_strict: *strict,
-                    goes_on: *keep_going,
-                    form: answers_in(*json),
-                },
-                is_named: *names,
-            };
-            run_files(rt, threads, alloc, asked, texts)
-        }
-        Task::Desk {
-            paths,
-            lifters,
-            names,
-            json,
-        } => {
-            let talk = Talk {
-                paths: *paths,
-                lifters: (*lifters).clamp(1, 64),
-                form: answers_in(*json),
-                is_named: *names,
-            };
-            sit(rt, threads, alloc, talk, texts)
-        }
-        Task::Export { paths, script, xml } => {
-            let form = configuration_form(*xml);
-            put_left(
-                rt,
-                exported(rt, threads, alloc, *paths, form, script, texts),
-            )
-        }
-        Task::Model { paths } => put_made(rt, game_text(rt, alloc, *paths, texts)),
         Task::Diagram { path } => put_made(rt, diagram_text(rt, alloc, path, texts)),
-        Task::Project { paths, features } => {
-            put_made(rt, projected(rt, alloc, *paths, features, texts))
-        }
-        Task::Check { paths } => put_made(rt, counted(rt, alloc, *paths, texts)),
-        Task::Lint { paths } => put_made(rt, warned(rt, alloc, *paths, texts)),
-        Task::Draw {
-            paths,
-            picture: _,
-            script,
-            trace: Some(vertex),
-        } => put_left(
-            rt,
-            traced_files(rt, threads, alloc, *paths, vertex, *script, texts),
-        ),
-        Task::Draw {
-            paths,
-            picture,
-            script: Some(script),
-            trace: None,
-        } => put_left(
-            rt,
-            drawn_after_files(rt, threads, alloc, *paths, *picture, script, texts),
-        ),
-        Task::Draw {
-            paths,
-            picture,
-            script: None,
-            trace: None,
-        } => put_made(rt, pictured(rt, alloc, *paths, *picture, texts)),
+        Task::Family { paths, work } => work_out(rt, threads, alloc, *paths, work, texts),
     }
 }
 
-/// Returns the script of a task whose lines count from its first. Lines of a configuration count before those of its
+/// Returns the script of work whose lines count from its first. Lines of a configuration count before those of its
 /// script.
-fn explained_script<'a>(task: &Task<'a>) -> Option<&'a str> {
-    match task {
-        Task::Run {
-            config: Some(_),
-            ..
-        } => None,
-        _ => task.script(),
+fn explained_script<'a>(work: &Work<'a>) -> Option<&'a str> {
+    match work {
+        Work::Run(
+            ScriptRun {
+                config: Some(_),
+                ..
+            },
+        ) => None,
+        _ => work.script(),
     }
 }
 
@@ -134,16 +117,19 @@ pub(crate) fn explanation_of(
         Ok(asked) if asked.explains => &asked.task,
         _ => return Vec::new(alloc),
     };
-    let script = explained_script(task);
     let lines = match (task, fault) {
-        (Task::Project { paths, features }, Fault::NotAProduct) => {
-            explained_set(alloc, paths.diagram, &texts.diagram, features)
+        (
+            Task::Family {
+                paths,
+                work: Work::Project { features },
+            },
+            Fault::NotAProduct,
+        ) => explained_set(alloc, paths.diagram, &texts.diagram, features),
+        (Task::Family { paths, work }, _) => {
+            explained(rt, alloc, *paths, texts, explained_script(work), fault)
         }
-        _ => match (task.paths(), task.diagram()) {
-            (Some(paths), _) => explained(rt, alloc, paths, texts, script, fault),
-            (None, Some(path)) => explained_diagram(alloc, path, texts, fault),
-            (None, None) => return Vec::new(alloc),
-        },
+        (Task::Diagram { path }, _) => explained_diagram(alloc, path, texts, fault),
+        (Task::BuiltIn, _) => return Vec::new(alloc),
     };
     match lines {
         Ok(lines) => lines,

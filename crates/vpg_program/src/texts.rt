@@ -2,8 +2,7 @@
 use crate::family::{kept, read_into};
 use std::alloc::Global;
 use vpg_family::{
-    DiagramFile, Family, Fault, Paths, Texts, checked, drawn, linted, read_diagram_file,
-    read_texts, system_drawn,
+    DiagramFile, Family, Fault, Paths, Texts, drawn, read_diagram_file, system_drawn,
 };
 use vpg_terminal::Picture;
 
@@ -20,30 +19,6 @@ pub(crate) fn projected(
     family.projected(alloc, features)
 }
 
-/// Returns the line that counts a family, and a line for each requirement if its game is made for some.
-pub(crate) fn counted(
-    rt: &HostRuntime,
-    alloc: Global,
-    paths: Paths<'_>,
-    texts: &mut Texts,
-) -> Result<Vec<u8>, Fault> {
-    read_into(rt, alloc, paths, texts)?;
-    checked(alloc, texts)
-}
-
-/// Returns the text of a family's game.
-pub(crate) fn game_text(
-    rt: &HostRuntime,
-    alloc: Global,
-    paths: Paths<'_>,
-    texts: &mut Texts,
-) -> Result<Vec<u8>, Fault> {
-    match read_texts(rt, alloc, paths) {
-        Ok(Texts { game, .. }) => Ok(game),
-        Err(unread) => Err(kept(unread, texts)),
-    }
-}
-
 /// Returns the text of the diagram that a file means.
 pub(crate) fn diagram_text(
     rt: &HostRuntime,
@@ -55,17 +30,6 @@ pub(crate) fn diagram_text(
         Ok(DiagramFile { text, .. }) => Ok(text),
         Err(unread) => Err(kept(unread, texts)),
     }
-}
-
-/// Returns the warnings of a family.
-pub(crate) fn warned(
-    rt: &HostRuntime,
-    alloc: Global,
-    paths: Paths<'_>,
-    texts: &mut Texts,
-) -> Result<Vec<u8>, Fault> {
-    read_into(rt, alloc, paths, texts)?;
-    linted(alloc, paths, texts)
 }
 
 /// Returns a picture of a family of some files.

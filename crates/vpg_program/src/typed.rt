@@ -1,6 +1,6 @@
 //! Commands as a person types them.
 ghost use Rattle.std.specs.Arc.{arc_value};
-ghost use Rattle.std.specs.Prelude.{◌≡◌, ◌≤◌, IfOk};
+ghost use Rattle.std.specs.Prelude.{◌≡◌, IfOk};
 ghost use Rattle.vpg_diagram.specs.FeatureDiagram.{feature_count};
 
 use crate::family::known_of;
@@ -11,18 +11,8 @@ use std::sync::Wait;
 use std::thread::Threads;
 use vpg_family::{Family, Fault, Known, Paths, Texts};
 use vpg_report::{End, end_of, run_script};
-use vpg_script::{Device, Form, Manner, Sink, Source};
-use vpg_terminal::{Ear, Heard, Setting, Typed, command_list};
-
-/// A session at a terminal.
-#[derive(Clone, Copy)]
-pub(crate) struct Talk<'a> {
-    pub(crate) paths: Paths<'a>,
-    pub(crate) lifters: u32,
-    pub(crate) form: Form,
-    /// Whether lines about vertices end with the names of these.
-    pub(crate) is_named: bool,
-}
+use vpg_script::{Device, Manner, Sink, Source};
+use vpg_terminal::{Ear, Heard, Setting, Talk, Typed, command_list};
 
 /// Returns the identifier where a game starts, if it is that of a vertex.
 fn start_of(known: &Known) -> Option<u32> {
@@ -52,14 +42,13 @@ fn converse<T: Threads + Wait + Sync, R: Source + Drop, S: Sink + Drop, W: Sink 
     alloc: Global,
     known: &Known,
     start: Option<u32>,
-    talk: Talk<'_>,
+    talk: Talk,
     is_prompted: bool,
     reader: R,
     mut beside: S,
     writer: W,
 ) -> Result<End, Fault>
     requires unread { R.calls reader ≡ 0 }
-    requires lifters { (1 ≤ talk.lifters) × (talk.lifters ≤ 64) }
     requires features { (arc_value known.now.family.game).features
         ≡ feature_count (arc_value known.now.family.diagram).lines }
 {
@@ -88,7 +77,7 @@ fn converse<T: Threads + Wait + Sync, R: Source + Drop, S: Sink + Drop, W: Sink 
         &known.context,
         &mut typed,
         &mut ear,
-        talk.lifters,
+        talk.lifters.clamp(1, 64),
         manner,
     ))
 }
@@ -100,11 +89,10 @@ fn converse_here<T: Threads + Wait + Sync, W: Sink + Drop>(
     alloc: Global,
     known: &Known,
     start: Option<u32>,
-    talk: Talk<'_>,
+    talk: Talk,
     writer: W,
 ) -> Result<End, Fault>
-    requires lifters { (1 ≤ talk.lifters) × (talk.lifters ≤ 64) }
-    requires features { (arc_value known.now.family.game).features
+    requires { (arc_value known.now.family.game).features
         ≡ feature_count (arc_value known.now.family.diagram).lines }
 {
     let is_prompted = rt.stdin().is_terminal();
@@ -128,12 +116,11 @@ pub(crate) fn sit<T: Threads + Wait + Sync>(
     rt: &HostRuntime,
     threads: &T,
     alloc: Global,
-    talk: Talk<'_>,
+    paths: Paths<'_>,
+    talk: Talk,
     texts: &mut Texts,
-) -> Result<End, Fault>
-    requires { (1 ≤ talk.lifters) × (talk.lifters ≤ 64) }
-{
-    let mut known = known_of(rt, alloc, talk.paths, texts)?;
+) -> Result<End, Fault> {
+    let mut known = known_of(rt, alloc, paths, texts)?;
     let start = start_of(&known);
     if talk.is_named {
         known.label();

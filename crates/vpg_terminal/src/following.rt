@@ -141,7 +141,7 @@ fn line_about_named(
     goals: &[u8],
     goal: usize,
 ) -> Result<Option<Vec<u8>>, AllocError> {
-    let words = words_of(alloc, goals, false)?;
+    let words = words_of(alloc, goals, b"")?;
     match words.get(goal.saturating_add(1)) {
         Some(word) => Ok(Some(goal_line(alloc, command, word.bytes)?)),
         None => Ok(None),

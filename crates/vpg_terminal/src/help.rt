@@ -13,7 +13,7 @@ fn begins(line: &[u8]) -> bool {
 /// Returns whether a line that begins the help on commands names this word.
 fn names(alloc: Global, line: &[u8], command: &[u8]) -> Result<bool, AllocError> {
     let written = line.get(..WRITTEN).unwrap_or(line);
-    let words = words_of(alloc, written, false)?;
+    let words = words_of(alloc, written, b"")?;
     for word in &words {
         if word.bytes == command {
             return Ok(true);

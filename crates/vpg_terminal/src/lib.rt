@@ -29,6 +29,6 @@ mod verbs;
 
 pub use hearing::{Ear, Heard};
 pub use reading::{not_text, read};
-pub use task::{Invocation, Picture, Task};
+pub use task::{Invocation, Picture, ScriptRun, Talk, Task, Work};
 pub use typing::{Setting, Typed};
 pub use usage::{command_list, help_end};

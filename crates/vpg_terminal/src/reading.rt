@@ -1,5 +1,5 @@
 //! The parser of the program's words.
-use crate::task::{Invocation, Picture, Task};
+use crate::task::{Invocation, Picture, ScriptRun, Talk, Task, Work};
 use crate::usage::{ABOUT, SHORT_AFTER};
 use crate::verbs::{Argument, Kind, VERBS, Verb, verb_of};
 use clap::builder::ValueParser;
@@ -7,6 +7,7 @@ use clap::error::ErrorKind;
 use clap::{Arg, ArgAction, ArgMatches, Command, Error};
 use std::alloc::{AllocError, Global};
 use vpg_family::{GamePaths, ModelPaths, Paths, Subject};
+use vpg_script::{Form, Manner};
 
 /// Returns an option with a number of lifters as its value.
 fn lifters<'a>(arg: Arg<'a>) -> Arg<'a> {
@@ -79,22 +80,12 @@ fn command_of<'a>(alloc: Global, verb: &Verb) -> Result<Command<'a>, AllocError>
     with_arguments(alloc, command, verb.arguments)
 }
 
-/// Returns a command, with one more within it.
-fn with_inner<'a>(
-    command: Command<'a>,
-    inner: Result<Command<'a>, AllocError>,
-) -> Result<Command<'a>, AllocError> {
-    match inner {
-        Ok(inner) => command.subcommand(inner),
-        Err(fault) => Err(fault),
-    }
-}
-
 /// Returns a command, with all commands of the program within it.
 fn with_verbs<'a>(alloc: Global, command: Command<'a>) -> Result<Command<'a>, AllocError> {
     let mut command = command;
     for verb in &VERBS {
-        command = with_inner(command, command_of(alloc, verb))?;
+        let inner = command_of(alloc, verb)?;
+        command = command.subcommand(inner)?;
     }
     Ok(command)
 }
@@ -112,10 +103,8 @@ fn command<'a>(alloc: Global, help_end: &'a str) -> Result<Command<'a>, AllocErr
 
 /// Returns the message about words that are wrong.
 fn wrong(alloc: Global, kind: ErrorKind, why: &str) -> Result<Error, AllocError> {
-    match command(alloc, "") {
-        Ok(mut command) => command.error(kind, why),
-        Err(fault) => Err(fault),
-    }
+    let mut command = command(alloc, "")?;
+    command.error(kind, why)
 }
 
 /// Returns the message about words that no text in UTF-8 spells.
@@ -127,60 +116,14 @@ pub fn not_text(alloc: Global) -> Result<Error, AllocError> {
     )
 }
 
-/// Returns the message about a command that lacks a word. The parser refuses such words before.
-fn lacking(alloc: Global) -> Result<Error, AllocError> {
-    wrong(
-        alloc,
-        ErrorKind::MissingRequiredArgument,
-        "a word is missing",
-    )
-}
-
 /// Returns the message about a word too many.
 fn unexpected(alloc: Global, name: &str, word: &str) -> Result<Error, AllocError> {
     let told = format!(in alloc; "unexpected argument '{word}' found")?;
-    let command = match verb_of(name) {
-        Some(verb) => command_of(alloc, &verb),
-        None => command(alloc, ""),
+    let mut command = match verb_of(name) {
+        Some(verb) => command_of(alloc, &verb)?,
+        None => command(alloc, "")?,
     };
-    match command {
-        Ok(mut command) => command.error(ErrorKind::UnknownArgument, told.as_str()),
-        Err(fault) => Err(fault),
-    }
-}
-
-/// Returns the message about a number with a sign.
-fn signed(alloc: Global) -> Result<Error, AllocError> {
-    wrong(
-        alloc,
-        ErrorKind::ValueValidation,
-        "the number of lifters is digits alone",
-    )
-}
-
-/// Returns the message about a vertex that would be more than one line.
-fn broken(alloc: Global) -> Result<Error, AllocError> {
-    wrong(
-        alloc,
-        ErrorKind::ValueValidation,
-        "the vertex of a trace is in one line",
-    )
-}
-
-/// Whether the vertex of a trace has a line feed.
-fn has_break(matches: &ArgMatches<'_>) -> bool {
-    match matches.get_str("trace") {
-        Some(word) => word.contains('\n'),
-        None => false,
-    }
-}
-
-/// Whether the number of lifters has a sign before its digits. The parser accepts it.
-fn has_sign(matches: &ArgMatches<'_>) -> bool {
-    match matches.get_str("lifters") {
-        Some(word) => word.starts_with('+'),
-        None => false,
-    }
+    command.error(ErrorKind::UnknownArgument, told.as_str())
 }
 
 /// The words of a command that name files.
@@ -213,18 +156,15 @@ fn shifted<'a>(
 ) -> Option<Files<'a>> {
     let paths = model_of(system, requirements, matches.get_str("GAME")?);
     let behind = matches.get_str("DIAGRAM");
-    Some(if takes_script {
-        Files {
-            paths,
-            script: behind,
-            unexpected: matches.get_str("SCRIPT"),
-        }
+    let (script, unexpected) = if takes_script {
+        (behind, matches.get_str("SCRIPT"))
     } else {
-        Files {
-            paths,
-            script: None,
-            unexpected: behind,
-        }
+        (None, behind)
+    };
+    Some(Files {
+        paths,
+        script,
+        unexpected,
     })
 }
 
@@ -309,45 +249,56 @@ fn picture_of(paths: Paths<'_>, matches: &ArgMatches<'_>) -> Picture {
     }
 }
 
-/// Returns the task of a command over a family of these files, `None` if it lacks a word.
-fn task_of<'a>(
+/// Returns the form that answers are asked for in.
+fn form_of(matches: &ArgMatches<'_>) -> Form {
+    if matches.get_flag("json") {
+        Form::Json
+    } else {
+        Form::Plain
+    }
+}
+
+/// Returns the run of a script that a command asks for.
+fn run_of<'a>(script: &'a str, matches: &ArgMatches<'a>) -> ScriptRun<'a> {
+    ScriptRun {
+        script,
+        config: matches.get_str("config"),
+        lifters: matches.get_one("lifters").unwrap_or(1),
+        manner: Manner {
+            is_strict: matches.get_flag("strict"),
+            goes_on: matches.get_flag("keep-going"),
+            form: form_of(matches),
+        },
+        is_named: matches.get_flag("names"),
+    }
+}
+
+/// Returns the work of a command on a family of these files, `None` if it lacks a word.
+fn work_of<'a>(
     alloc: Global,
     name: &str,
     files: Files<'a>,
     matches: &ArgMatches<'a>,
-) -> Result<Option<Task<'a>>, AllocError> {
+) -> Result<Option<Work<'a>>, AllocError> {
     let Files { paths, script, .. } = files;
     match name {
-        "run" => Ok(script.map(|script| Task::Run {
-            paths,
-            script,
-            config: matches.get_str("config"),
+        "run" => Ok(script.map(|script| Work::Run(run_of(script, matches)))),
+        "desk" => Ok(Some(Work::Desk(Talk {
             lifters: matches.get_one("lifters").unwrap_or(1),
-            strict: matches.get_flag("strict"),
-            keep_going: matches.get_flag("keep-going"),
-            names: matches.get_flag("names"),
-            json: matches.get_flag("json"),
-        })),
-        "desk" => Ok(Some(Task::Desk {
-            paths,
-            lifters: matches.get_one("lifters").unwrap_or(1),
-            names: matches.get_flag("names"),
-            json: matches.get_flag("json"),
-        })),
-        "export" => Ok(script.map(|script| Task::Export {
-            paths,
+            form: form_of(matches),
+            is_named: matches.get_flag("names"),
+        }))),
+        "export" => Ok(script.map(|script| Work::Export {
             script,
             xml: matches.get_flag("xml"),
         })),
-        "model" => Ok(Some(Task::Model { paths })),
-        "project" => Ok(Some(Task::Project {
-            paths,
+        "model" => Ok(Some(Work::Model)),
+        "project" => Ok(Some(Work::Project {
             features: features(alloc, matches)?,
         })),
-        "check" => Ok(Some(Task::Check { paths })),
-        "lint" => Ok(Some(Task::Lint { paths })),
-        "draw" => Ok(Some(Task::Draw {
-            paths,
+        "check" => Ok(Some(Work::Check)),
+        "lint" => Ok(Some(Work::Lint)),
+        "draw" => Ok(Some(Work::Draw {
             picture: picture_of(paths, matches),
             script,
             trace: matches.get_str("trace"),
@@ -362,57 +313,56 @@ fn explains(name: &str, matches: &ArgMatches<'_>) -> bool {
 }
 
 /// Returns a message in place of a task.
-fn refused<'a>(told: Result<Error, AllocError>) -> Result<Invocation<'a>, Error> {
+fn refused<T>(told: Result<Error, AllocError>) -> Result<T, Error> {
     Err(told?)
 }
 
-/// Returns the request of a command over a family of these files.
-fn asked_of<'a>(
+/// Returns the task of a command, `None` if it lacks a word. The parser refuses such words before.
+fn task_of<'a>(
     alloc: Global,
     name: &str,
-    files: Files<'a>,
     matches: &ArgMatches<'a>,
-) -> Result<Invocation<'a>, Error> {
-    match task_of(alloc, name, files, matches)? {
+) -> Result<Option<Task<'a>>, Error> {
+    if name == "diagram" {
+        return Ok(matches.get_str("MODEL").map(|path| Task::Diagram { path }));
+    }
+    let Some(files) = files_of(name, matches) else {
+        return Ok(None);
+    };
+    if let Some(word) = files.unexpected {
+        return refused(unexpected(alloc, name, word));
+    }
+    let paths = files.paths;
+    let work = work_of(alloc, name, files, matches)?;
+    Ok(work.map(|work| Task::Family { paths, work }))
+}
+
+/// Returns the request of a command. The parser accepts a sign before the number of lifters, and a line feed in the
+/// vertex of a trace.
+fn asked<'a>(alloc: Global, name: &str, matches: &ArgMatches<'a>) -> Result<Invocation<'a>, Error> {
+    if matches
+        .get_str("lifters")
+        .is_some_and(|word| word.starts_with('+'))
+    {
+        let why = "the number of lifters is digits alone";
+        return refused(wrong(alloc, ErrorKind::ValueValidation, why));
+    }
+    if matches
+        .get_str("trace")
+        .is_some_and(|word| word.contains('\n'))
+    {
+        let why = "the vertex of a trace is in one line";
+        return refused(wrong(alloc, ErrorKind::ValueValidation, why));
+    }
+    match task_of(alloc, name, matches)? {
         Some(task) => Ok(Invocation {
             task,
             explains: explains(name, matches),
         }),
-        None => refused(lacking(alloc)),
-    }
-}
-
-/// Returns the request of the command over the file of a diagram.
-fn asked_of_diagram<'a>(alloc: Global, matches: &ArgMatches<'a>) -> Result<Invocation<'a>, Error> {
-    match matches.get_str("MODEL") {
-        Some(path) => Ok(Invocation {
-            task: Task::Diagram { path },
-            explains: matches.get_flag("explain"),
-        }),
-        None => refused(lacking(alloc)),
-    }
-}
-
-/// Returns the request of a command over a family.
-fn asked<'a>(alloc: Global, name: &str, matches: &ArgMatches<'a>) -> Result<Invocation<'a>, Error> {
-    if has_sign(matches) {
-        return refused(signed(alloc));
-    }
-    if has_break(matches) {
-        return refused(broken(alloc));
-    }
-    if name == "diagram" {
-        return asked_of_diagram(alloc, matches);
-    }
-    match files_of(name, matches) {
-        Some(
-            Files {
-                unexpected: Some(word),
-                ..
-            },
-        ) => refused(unexpected(alloc, name, word)),
-        Some(files) => asked_of(alloc, name, files, matches),
-        None => refused(lacking(alloc)),
+        None => {
+            let why = "a word is missing";
+            refused(wrong(alloc, ErrorKind::MissingRequiredArgument, why))
+        }
     }
 }
 

@@ -1,5 +1,6 @@
 //! The tasks that the words ask for.
 use vpg_family::{Paths, Subject};
+use vpg_script::{Form, Manner};
 
 /// The task of a command line, and whether its faults are explained.
 #[derive(Drop)]
@@ -18,68 +19,50 @@ pub enum Picture {
     System,
 }
 
-/// The task to be done.
-pub enum Task<'a> {
-    /// A script from standard input, on the built-in family.
-    BuiltIn,
-    /// A script on a family.
-    Run {
-        paths: Paths<'a>,
-        script: &'a str,
-        /// A configuration whose features are selected before the script.
-        config: Option<&'a str>,
-        /// From 1 to 64.
-        lifters: u32,
-        /// The first refusal ends the script.
-        strict: bool,
-        /// A line with a fault is answered, and the script goes on.
-        keep_going: bool,
-        /// The names of vertices stand beside answers.
-        names: bool,
-        /// Answers are written in JSON.
-        json: bool,
-    },
-    /// A script that is typed in, on a family.
-    Desk {
-        paths: Paths<'a>,
-        /// From 1 to 64.
-        lifters: u32,
-        /// The names of vertices stand beside answers.
-        names: bool,
-        /// Answers are written in JSON.
-        json: bool,
-    },
+/// A run of a script's file.
+#[derive(Clone, Copy)]
+pub struct ScriptRun<'a> {
+    pub script: &'a str,
+    /// A configuration whose features are selected before the script.
+    pub config: Option<&'a str>,
+    /// From 1 to 64.
+    pub lifters: u32,
+    pub manner: Manner,
+    /// Whether lines about vertices end with the names of these.
+    pub is_named: bool,
+}
+
+/// A script that is typed in.
+#[derive(Clone, Copy)]
+pub struct Talk {
+    /// From 1 to 64.
+    pub lifters: u32,
+    pub form: Form,
+    /// Whether lines about vertices end with the names of these.
+    pub is_named: bool,
+}
+
+/// The work on a family.
+pub enum Work<'a> {
+    Run(ScriptRun<'a>),
+    Desk(Talk),
     /// The game of a system and its requirements.
-    Model {
-        paths: Paths<'a>,
-    },
-    /// The configuration of a family on the page that a script leaves.
+    Model,
+    /// The configuration on the page that a script leaves.
     Export {
-        paths: Paths<'a>,
         script: &'a str,
         /// It is written in FeatureIDE's XML.
         xml: bool,
     },
-    /// The diagram of a file, which may have a feature model that means it.
-    Diagram {
-        path: &'a str,
-    },
     /// The plain game of the product that has just these features.
     Project {
-        paths: Paths<'a>,
         features: Vec<&'a str>,
     },
-    /// The counts of a family.
-    Check {
-        paths: Paths<'a>,
-    },
-    /// The lint of a family.
-    Lint {
-        paths: Paths<'a>,
-    },
-    /// A picture of a family, on the page that a script leaves if there is one.
+    /// The counts.
+    Check,
+    Lint,
+    /// A picture, on the page that a script leaves if there is one.
     Draw {
-        paths: Paths<'a>,
         picture: Picture,
         script: Option<&'a str>,
         /// The vertex whose trace is marked on the picture of the system, as a line of a script names it.
@@ -88,41 +71,17 @@ pub enum Task<'a> {
 }
 
 // Not derived: a derived `drop` would be proved again at each exit that owns such a value.
-impl Drop for Task<'_> {
+impl Drop for Work<'_> {
     fn drop(self) {
         match self {
-            Task::BuiltIn => {}
-            Task::Run {
-                paths: _,
-                script: _,
-                config: _,
-                lifters: _,
-                strict: _,
-                keep_going: _,
-                names: _,
-                json: _,
-            } => {}
-            Task::Desk {
-                paths: _,
-                lifters: _,
-                names: _,
-                json: _,
-            } => {}
-            Task::Export {
-                paths: _,
-                script: _,
-                xml: _,
-            } => {}
-            Task::Model { paths: _ } => {}
-            Task::Diagram { path: _ } => {}
-            Task::Project {
-                paths: _,
-                features: _,
-            } => {}
-            Task::Check { paths: _ } => {}
-            Task::Lint { paths: _ } => {}
-            Task::Draw {
-                paths: _,
+            Work::Run(_) => {}
+            Work::Desk(_) => {}
+            Work::Model => {}
+            Work::Export { script: _, xml: _ } => {}
+            Work::Project { features: _ } => {}
+            Work::Check => {}
+            Work::Lint => {}
+            Work::Draw {
                 picture: _,
                 script: _,
                 trace: _,
@@ -131,37 +90,25 @@ impl Drop for Task<'_> {
     }
 }
 
-impl<'a> Task<'a> {
-    /// Returns the files of the family that it is about, if they are named.
-    pub fn paths(&self) -> Option<Paths<'a>> {
-        match self {
-            Task::BuiltIn | Task::Diagram { .. } => None,
-            Task::Run { paths, .. } => Some(*paths),
-            Task::Desk { paths, .. } => Some(*paths),
-            Task::Export { paths, .. } => Some(*paths),
-            Task::Model { paths } => Some(*paths),
-            Task::Project { paths, .. } => Some(*paths),
-            Task::Check { paths } => Some(*paths),
-            Task::Lint { paths } => Some(*paths),
-            Task::Draw { paths, .. } => Some(*paths),
-        }
-    }
-
-    /// Returns the file of the diagram that it is about alone, if it is about one.
-    pub fn diagram(&self) -> Option<&'a str> {
-        match self {
-            Task::Diagram { path } => Some(*path),
-            _ => None,
-        }
-    }
-
+impl<'a> Work<'a> {
     /// Returns the file of its script, if it has one.
     pub fn script(&self) -> Option<&'a str> {
         match self {
-            Task::Run { script, .. } => Some(*script),
-            Task::Export { script, .. } => Some(*script),
-            Task::Draw { script, .. } => *script,
+            Work::Run(run) => Some(run.script),
+            Work::Export { script, .. } => Some(*script),
+            Work::Draw { script, .. } => *script,
             _ => None,
         }
     }
+}
+
+/// The task to be done.
+#[derive(Drop)]
+pub enum Task<'a> {
+    /// A script from standard input, on the built-in family.
+    BuiltIn,
+    /// The diagram of a file, which may have a feature model that means it.
+    Diagram { path: &'a str },
+    /// Work on the family of some files.
+    Family { paths: Paths<'a>, work: Work<'a> },
 }

@@ -75,13 +75,11 @@ fn as_typed(alloc: Global, line: &[u8], words: &[Word<'_>]) -> Result<Handed, Al
 {
     let mut copy = Vec::from_slice(alloc, line)?;
     copy.push(b'\n')?;
-    match behind_words(alloc, words) {
-        Ok(following) => Ok(Handed {
-            line: copy,
-            following,
-        }),
-        Err(fault) => Err(fault),
-    }
+    let following = behind_words(alloc, words)?;
+    Ok(Handed {
+        line: copy,
+        following,
+    })
 }
 
 /// Appends how commands are written.
@@ -108,59 +106,10 @@ fn tell_help<W: Sink>(
     talk: &mut W,
 ) -> Result<(), AllocError> {
     let mut text = Vec::new(alloc);
-    let put = put_help(alloc, commands, command, &mut text);
-    if put.is_ok() {
-        // If this fails the answers are still to come.
-        let _ = talk.put(&text);
-    }
-    put
-}
-
-/// Carries out a line's word to the session, and returns the line that is handed on for it.
-fn met<W: Sink>(
-    alloc: Global,
-    setting: Setting<'_>,
-    line: &[u8],
-    words: &[Word<'_>],
-    goals: &mut Option<Vec<u8>>,
-    talk: &mut W,
-) -> Result<Handed, AllocError> {
-    match asked_of(words) {
-        SessionWord::Help => {
-            let _ = talk.put(setting.commands.as_bytes());
-            let _ = talk.put(b"\n");
-            let _ = talk.put(OWN.as_bytes());
-            let _ = talk.put(b"\n");
-            nothing(alloc)
-        }
-        SessionWord::Goals => {
-            *goals = Some(Vec::from_slice(alloc, line)?);
-            nothing(alloc)
-        }
-        SessionWord::HelpOf(command) => match tell_help(alloc, setting.commands, command, talk) {
-            Ok(()) => nothing(alloc),
-            Err(fault) => Err(fault),
-        },
-        _ => as_typed(alloc, line, words),
-    }
-}
-
-/// Carries out words that were typed. Returns the line that is handed on for theirs, or `None` if the session ends.
-fn meet_words<W: Sink>(
-    alloc: Global,
-    setting: Setting<'_>,
-    line: &[u8],
-    words: &[Word<'_>],
-    goals: &mut Option<Vec<u8>>,
-    talk: &mut W,
-) -> Result<Option<Handed>, AllocError> {
-    if let SessionWord::Quit = asked_of(words) {
-        return Ok(None);
-    }
-    match met(alloc, setting, line, words, goals, talk) {
-        Ok(handed) => Ok(Some(handed)),
-        Err(fault) => Err(fault),
-    }
+    put_help(alloc, commands, command, &mut text)?;
+    // If this fails the answers are still to come.
+    let _ = talk.put(&text);
+    Ok(())
 }
 
 /// Carries out a line that was typed. Returns the line that is handed on for it, or `None` if the session ends.
@@ -171,21 +120,27 @@ fn meet<W: Sink>(
     goals: &mut Option<Vec<u8>>,
     talk: &mut W,
 ) -> Result<Option<Handed>, AllocError> {
-    match words_of(alloc, line, false) {
-        Ok(words) => meet_words(alloc, setting, line, &words, goals, talk),
-        Err(fault) => Err(fault),
-    }
-}
-
-/// Says why a line is no command. If this fails the answers are still to come.
-fn tell_fault<W: Sink>(alloc: Global, number: usize, line: &[u8], talk: &mut W) {
-    let line = line.strip_suffix(b"\n").unwrap_or(line);
-    if let Ok(message) = explain_line(alloc, number, line) {
-        let mut text = Vec::new(alloc);
-        if put_message("line", &message, &mut text).is_ok() {
-            let _ = talk.put(&text);
+    let words = words_of(alloc, line, b"")?;
+    let handed = match asked_of(&words) {
+        SessionWord::Quit => return Ok(None),
+        SessionWord::Help => {
+            let _ = talk.put(setting.commands.as_bytes());
+            let _ = talk.put(b"\n");
+            let _ = talk.put(OWN.as_bytes());
+            let _ = talk.put(b"\n");
+            nothing(alloc)?
         }
-    }
+        SessionWord::Goals => {
+            *goals = Some(Vec::from_slice(alloc, line)?);
+            nothing(alloc)?
+        }
+        SessionWord::HelpOf(command) => {
+            tell_help(alloc, setting.commands, command, talk)?;
+            nothing(alloc)?
+        }
+        SessionWord::Nothing => as_typed(alloc, line, &words)?,
+    };
+    Ok(Some(handed))
 }
 
 /// Returns the name in a word, which may have the sign of a decision before it, and its place.
@@ -199,42 +154,24 @@ fn name_in<'l>(word: Word<'l>) -> Word<'l> {
     }
 }
 
-/// Says which feature was perhaps meant by the last word of a line.
-fn tell_last<W: Sink>(
-    alloc: Global,
-    line: Line<'_>,
-    words: &[Word<'_>],
-    features: &Names,
-    talk: &mut W,
-) {
+/// Returns the message on which feature was perhaps meant by the last word of a line.
+fn unknown(alloc: Global, line: Line<'_>, features: &Names) -> Result<Vec<u8>, AllocError> {
+    let words = words_of(alloc, line.bytes, b"")?;
+    let mut text = Vec::new(alloc);
     if let Some(last) = words.last() {
         let name = name_in(*last);
-        let mut text = Vec::new(alloc);
-        if put_place("line", line.place(name.at), &mut text).is_ok()
-            && put_unknown(alloc, features, name.bytes, &mut text).is_ok()
-        {
-            let _ = talk.put(&text);
-        }
+        put_place("line", line.place(name.at), &mut text)?;
+        put_unknown(alloc, features, name.bytes, &mut text)?;
     }
+    Ok(text)
 }
 
-/// Says which feature was perhaps meant by the last word of a line. If this fails the answers are still to come.
-fn tell_unknown<W: Sink>(
-    alloc: Global,
-    number: usize,
-    line: &[u8],
-    features: &Names,
-    talk: &mut W,
-) {
-    let bytes = line.strip_suffix(b"\n").unwrap_or(line);
-    if let Ok(words) = words_of(alloc, bytes, false) {
-        let line = Line {
-            number,
-            from: 0,
-            bytes,
-        };
-        tell_last(alloc, line, &words, features, talk);
-    }
+/// Returns the message why a line is no command.
+fn fault_text(alloc: Global, line: Line<'_>) -> Result<Vec<u8>, AllocError> {
+    let message = explain_line(alloc, line.number, line.bytes)?;
+    let mut text = Vec::new(alloc);
+    put_message("line", &message, &mut text)?;
+    Ok(text)
 }
 
 /// The text that was typed so far, and the line that is handed on.
@@ -378,16 +315,20 @@ impl<'c, R: Source, W: Sink> Session<'c, R, W> {
 
     /// Says what is wrong with the line that was answered, if it is wrong.
     fn explain(&mut self, heard: Heard) {
-        match heard {
-            Heard::Fault => tell_fault(self.alloc, self.typed, &self.line, &mut self.talk),
-            Heard::Unknown => tell_unknown(
-                self.alloc,
-                self.typed,
-                &self.line,
-                self.setting.features,
-                &mut self.talk,
-            ),
-            _ => {}
+        let text = self.line.as_slice();
+        let line = Line {
+            number: self.typed,
+            from: 0,
+            bytes: text.strip_suffix(b"\n").unwrap_or(text),
+        };
+        let told = match heard {
+            Heard::Fault => fault_text(self.alloc, line),
+            Heard::Unknown => unknown(self.alloc, line, self.setting.features),
+            _ => return,
+        };
+        if let Ok(text) = told {
+            // If this fails the answers are still to come.
+            let _ = self.talk.put(&text);
         }
     }
 

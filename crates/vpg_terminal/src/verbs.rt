@@ -1,11 +1,4 @@
 //! The commands of the program, and their arguments.
-use crate::usage::{
-    CHECK_USAGE, CONFIG_HELP, DESK_USAGE, DIAGRAM_HELP, DRAW_USAGE, DRAWN_SCRIPT_HELP,
-    DRAWN_SYSTEM_HELP, EXPLAIN_HELP, EXPORT_USAGE, FEATURE_HELP, FEATURES_HELP, GAME_HELP,
-    JSON_HELP, KEEP_GOING_HELP, LIFTERS_HELP, LINT_USAGE, MODEL_HELP, NAMES_HELP,
-    REQUIREMENTS_HELP, RUN_USAGE, SCRIPT_HELP, STATES_HELP, STRICT_HELP, SYSTEM_HELP,
-    TAKEN_REQUIREMENTS_HELP, TAKEN_SYSTEM_HELP, TRACE_HELP, XML_HELP,
-};
 
 /// The kind of a command's argument.
 #[derive(Clone, Copy)]
@@ -59,8 +52,10 @@ pub(crate) struct Verb {
 const GAME: Argument = Argument {
     kind: Kind::Word,
     name: "GAME",
-    help: GAME_HELP,
+    help: "A parity game in PGSolver's format with guards, `0 2 1 1[f];`",
 };
+
+const DIAGRAM_HELP: &str = "A feature diagram, or a feature model, as MODEL of `diagram`";
 
 const DIAGRAM: Argument = Argument {
     kind: Kind::Word,
@@ -77,19 +72,19 @@ const LAST_DIAGRAM: Argument = Argument {
 const MODEL: Argument = Argument {
     kind: Kind::Word,
     name: "MODEL",
-    help: MODEL_HELP,
+    help: "NAME.uvl in UVL, NAME.xml of FeatureIDE, else a diagram",
 };
 
 const SYSTEM: Argument = Argument {
     kind: Kind::Word,
     name: "SYSTEM",
-    help: SYSTEM_HELP,
+    help: "A system in Aldebaran format with guards, `(0, \"a [f]\", 1)`",
 };
 
 const REQUIREMENTS: Argument = Argument {
     kind: Kind::Word,
     name: "REQUIREMENTS",
-    help: REQUIREMENTS_HELP,
+    help: "A formula as in mCRL2, or entries `live = always can a;`",
 };
 
 const TAKEN_SYSTEM: Argument = Argument {
@@ -98,13 +93,13 @@ const TAKEN_SYSTEM: Argument = Argument {
         with: "requirements",
     },
     name: "system",
-    help: TAKEN_SYSTEM_HELP,
+    help: "In place of GAME: the behaviour of the family",
 };
 
 const DRAWN_SYSTEM: Argument = Argument {
     kind: Kind::Lone { value: "SYSTEM" },
     name: "system",
-    help: DRAWN_SYSTEM_HELP,
+    help: "In place of GAME: a system, drawn itself if alone",
 };
 
 const TAKEN_REQUIREMENTS: Argument = Argument {
@@ -113,79 +108,79 @@ const TAKEN_REQUIREMENTS: Argument = Argument {
         with: "system",
     },
     name: "requirements",
-    help: TAKEN_REQUIREMENTS_HELP,
+    help: "The formulas that the system is to meet",
 };
 
 const EXPLAIN: Argument = Argument {
     kind: Kind::Flag,
     name: "explain",
-    help: EXPLAIN_HELP,
+    help: "Say where and why an input is refused",
 };
 
 const LIFTERS: Argument = Argument {
     kind: Kind::Lifters,
     name: "lifters",
-    help: LIFTERS_HELP,
+    help: "Threads that raise the tables, 1 to 64",
 };
 
 const NAMES: Argument = Argument {
     kind: Kind::Flag,
     name: "names",
-    help: NAMES_HELP,
+    help: "Show the names of vertices beside answers",
 };
 
 const CONFIG: Argument = Argument {
     kind: Kind::Lone { value: "FILE" },
     name: "config",
-    help: CONFIG_HELP,
+    help: "Decide first as this file does: names, or NAME.xml",
 };
 
 const JSON: Argument = Argument {
     kind: Kind::Flag,
     name: "json",
-    help: JSON_HELP,
+    help: "Write each answer as an object of JSON in one line",
 };
 
 const XML: Argument = Argument {
     kind: Kind::Flag,
     name: "xml",
-    help: XML_HELP,
+    help: "Write FeatureIDE's XML, with decisions, not names",
 };
 
 const SCRIPT: Argument = Argument {
     kind: Kind::Last,
     name: "SCRIPT",
-    help: SCRIPT_HELP,
+    help: "One command a line, as `select f`, `settle` or `show`",
 };
 
 const STRICT: Argument = Argument {
     kind: Kind::Flag,
     name: "strict",
-    help: STRICT_HELP,
+    help: "End at the first refused line, with status 3",
 };
 
 const KEEP_GOING: Argument = Argument {
     kind: Kind::Flag,
     name: "keep-going",
-    help: KEEP_GOING_HELP,
+    help: "Answer a line with a fault `refused ..`, and go on",
 };
 
 const FEATURE: Argument = Argument {
     kind: Kind::Words,
     name: "FEATURE",
-    help: FEATURE_HELP,
+    help: "The features of the product, all of them, the root among them",
 };
 
 const DRAWN_SCRIPT: Argument = Argument {
     kind: Kind::Optional,
     name: "SCRIPT",
-    help: DRAWN_SCRIPT_HELP,
+    help: "Draw the page that the lines of this file leave",
 };
 
 const FEATURES: Argument = Argument {
     kind: Kind::Flag,
     name: "features",
-    help: FEATURES_HELP,
+    help: "Draw the feature diagram in place of the game",
 };
 
 const STATES: Argument = Argument {
@@ -194,7 +189,7 @@ const STATES: Argument = Argument {
         without: "features",
     },
     name: "states",
-    help: STATES_HELP,
+    help: "Draw the system in place of its game",
 };
 
 const TRACE: Argument = Argument {
@@ -203,7 +198,7 @@ const TRACE: Argument = Argument {
         with: "states",
     },
     name: "trace",
-    help: TRACE_HELP,
+    help: "Mark the trace that `trace V` writes on the page",
 };
 
 /// The commands in the order of the help. All but one are over the files of a family.
@@ -211,7 +206,12 @@ pub(crate) static VERBS: [Verb; 9] = [
     Verb {
         name: "run",
         about: "Carries a script out on a family",
-        usage: Some(RUN_USAGE),
+        usage: Some(
+            "\
+vpgdesk run [OPTIONS] <GAME> <DIAGRAM> <SCRIPT>
+       vpgdesk run [OPTIONS] --system <SYSTEM> --requirements <FILE>
+                   <DIAGRAM> <SCRIPT>",
+        ),
         arguments: &[
             GAME,
             DIAGRAM,
@@ -230,7 +230,11 @@ pub(crate) static VERBS: [Verb; 9] = [
     Verb {
         name: "desk",
         about: "Answers commands as they are typed, on a family",
-        usage: Some(DESK_USAGE),
+        usage: Some(
+            "\
+vpgdesk desk [OPTIONS] <GAME> <DIAGRAM>
+       vpgdesk desk [OPTIONS] --system <SYSTEM> --requirements <FILE> <DIAGRAM>",
+        ),
         arguments: &[
             GAME,
             LAST_DIAGRAM,
@@ -244,7 +248,12 @@ pub(crate) static VERBS: [Verb; 9] = [
     Verb {
         name: "export",
         about: "Writes the configuration that a script leaves",
-        usage: Some(EXPORT_USAGE),
+        usage: Some(
+            "\
+vpgdesk export [OPTIONS] <GAME> <DIAGRAM> <SCRIPT>
+       vpgdesk export [OPTIONS] --system <SYSTEM> --requirements <FILE>
+                      <DIAGRAM> <SCRIPT>",
+        ),
         arguments: &[
             GAME,
             DIAGRAM,
@@ -276,7 +285,11 @@ pub(crate) static VERBS: [Verb; 9] = [
     Verb {
         name: "check",
         about: "Counts vertices, edges, features and measures",
-        usage: Some(CHECK_USAGE),
+        usage: Some(
+            "\
+vpgdesk check [OPTIONS] <GAME> <DIAGRAM>
+       vpgdesk check [OPTIONS] --system <SYSTEM> --requirements <FILE> <DIAGRAM>",
+        ),
         arguments: &[
             GAME,
             LAST_DIAGRAM,
@@ -288,13 +301,23 @@ pub(crate) static VERBS: [Verb; 9] = [
     Verb {
         name: "lint",
         about: "Says where a family is, or looks, wrong",
-        usage: Some(LINT_USAGE),
+        usage: Some(
+            "\
+vpgdesk lint <GAME> <DIAGRAM>
+       vpgdesk lint --system <SYSTEM> --requirements <FILE> <DIAGRAM>",
+        ),
         arguments: &[GAME, LAST_DIAGRAM, TAKEN_SYSTEM, TAKEN_REQUIREMENTS],
     },
     Verb {
         name: "draw",
         about: "Draws a game, or a system, as a Graphviz text",
-        usage: Some(DRAW_USAGE),
+        usage: Some(
+            "\
+vpgdesk draw [OPTIONS] <GAME> <DIAGRAM> [SCRIPT]
+       vpgdesk draw [OPTIONS] --system <SYSTEM> --requirements <FILE>
+                    <DIAGRAM> [SCRIPT]
+       vpgdesk draw [OPTIONS] --system <SYSTEM> <DIAGRAM>",
+        ),
         arguments: &[
             GAME,
             LAST_DIAGRAM,

@@ -4,7 +4,7 @@ use crate::said::Said;
 use std::alloc::Global;
 use std::fs;
 use std::test::*;
-use vpg_family::{Fault, Input, Texts, Unread, explained, explained_set, read_family};
+use vpg_family::{Fault, Input, Texts, Unread, explained, explained_set, read_known};
 use vpg_script::LineFault;
 
 const GAME_FILE: &str = "explained_game";
@@ -71,7 +71,7 @@ fn put_explained(rt: &HostRuntime, texts: &Texts, fault: &Fault, said: &mut Said
 
 /// Writes the message about the fault of a family's files, and else about the second line of a script.
 fn put_files(rt: &HostRuntime, said: &mut Said) {
-    let unread = match read_family(rt, said.alloc, PATHS) {
+    let unread = match read_known(rt, said.alloc, PATHS) {
         Ok(_) => Unread {
             fault: Fault::Line {
                 line: 2,

@@ -4,7 +4,7 @@ use crate::said::Said;
 use std::alloc::Global;
 use std::fs;
 use std::test::*;
-use vpg_family::{Family, Fault, GamePaths, Paths, Unread, open_script, read_family};
+use vpg_family::{Fault, GamePaths, Known, Paths, Unread, open_script, read_known};
 
 /// The files of a game and a diagram, and the message about them. `none` is missing, `.` is a folder, `empty` has no
 /// bytes, and `/dev/zero` no end. `model.uvl` is a feature model that means the diagram; `empty.uvl` has no bytes.
@@ -32,9 +32,9 @@ const ROWS: [[&str; 3]; 15] = [
 ];
 
 /// Writes the counts of a family, or the line that reports its fault.
-fn put_counts(family: Result<Family, Unread>, said: &mut Said) {
-    match family {
-        Ok(family) => said.put_made(family.counted(said.alloc)),
+fn put_counts(known: Result<Known, Unread>, said: &mut Said) {
+    match known {
+        Ok(known) => said.put_made(known.family.counted(said.alloc)),
         Err(unread) => {
             let Unread { fault, texts: _ } = unread;
             said.put_answer(Err(fault));
@@ -49,7 +49,7 @@ fn holds(rt: &HostRuntime, alloc: Global, row: [&str; 3]) -> bool {
         game: GamePaths::Game(game),
         diagram,
     };
-    put_counts(read_family(rt, alloc, paths), &mut said);
+    put_counts(read_known(rt, alloc, paths), &mut said);
     said.text() == told
 }
 
