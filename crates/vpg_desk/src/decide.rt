@@ -15,7 +15,7 @@ ghost use Rattle.vpg_desk.specs.Faults.{ClosesWith};
 
 use crate::cuts::Cut;
 use crate::desk::{Desk, MOST_CHANGES};
-use crate::undo_token::Undo;
+use crate::token::Undo;
 use std::alloc::{AllocError, Global};
 use std::sync::Arc;
 use vpg_diagram::Diagram;

@@ -1,8 +1,7 @@
 //! The values that come back if calls of a desk are refused.
 
 use crate::desk::Desk;
-use crate::redo_token::Redo;
-use crate::undo_token::Undo;
+use crate::token::{Redo, Undo};
 use std::fmt;
 use std::sync::Arc;
 use thiserror::Error;

@@ -4,7 +4,7 @@ ghost use Rattle.std.specs.Prelude.{◌≡◌, ◌+◌, IfOk, IfErr, OnErr, IfSo
 use crate::desk::{Desk, MOST_CHANGES};
 use crate::games::games_of_page;
 use crate::retract::{cut_out, gives_back};
-use crate::undo_token::Undo;
+use crate::token::Undo;
 use std::alloc::Global;
 use vpg_faults::ResetFault;
 use vpg_trail::{first_decision, free_lifts_after};

@@ -8,7 +8,7 @@ ghost use Rattle.vpg_desk.specs.Notes.{GivesBack};
 use crate::cuts::Cut;
 use crate::desk::{Desk, MOST_CHANGES};
 use crate::games::games_of_page;
-use crate::undo_token::Undo;
+use crate::token::Undo;
 use std::alloc::{AllocError, Global};
 use vpg_faults::RetractFault;
 use vpg_trail::{Entry, Trail, kept_after, place_of};

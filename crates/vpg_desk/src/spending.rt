@@ -5,8 +5,7 @@ ghost use Rattle.vpg_desk.specs.Trail.{cuts_in_front_of};
 
 use crate::cuts::Cut;
 use crate::desk::Desk;
-use crate::redo_token::Redo;
-use crate::undo_token::Undo;
+use crate::token::{Redo, Undo};
 
 /// Returns the number of cuts at the one of this serial and beyond it; 0 if none has it.
 fn up_to(cuts: &[Cut], serial: u64) -> usize

@@ -3,9 +3,8 @@ ghost use Rattle.std.specs.Prelude.{◌≡◌, ◌<◌, ℕ, IfOk, IfErr, OnOk, 
 
 use crate::desk::Desk;
 use crate::fault::{RedoRefused, UndoRefused};
-use crate::redo_token::Redo;
 use crate::swing::{games_over, redo_fault, swing, undo_fault};
-use crate::undo_token::Undo;
+use crate::token::{Redo, Undo};
 use std::alloc::Global;
 use vpg_faults::{RedoFault, UndoFault};
 

@@ -24,8 +24,8 @@ ghost use Rattle.vpg_script.specs.View.{look_shown, vertex_shown};
 use crate::client::{Client, NotEnded};
 use crate::fault::ClientFault;
 use crate::held::{
-    hold_redo, hold_strayed, hold_undo, put_back_unspent, put_back_unswung, redo_place,
-    return_harvest, take_harvest, undo_place,
+    hold, hold_strayed, put_back_unspent, put_back_unswung, redo_place, return_harvest,
+    take_harvest, undo_place,
 };
 use crate::lines;
 use std::alloc::{AllocError, Global};
@@ -175,7 +175,7 @@ impl<L: Terms> Engine<L> {
         };
         self.undos.reserve(1)?;
         match self.client.call(rt, session, call) {
-            Ok(undo) => hold_undo(&mut self.undos, undo, b"done", out),
+            Ok(undo) => hold(&mut self.undos, undo, b"done", out),
             Err(Returned { fault, value }) => {
                 hold_strayed(&mut self.undos, value);
                 lines::put_fault(self.names(), fault, out)
@@ -254,7 +254,7 @@ impl<L: Terms> Engine<L> {
         self.redos.reserve(1)?;
         let token = self.undos.remove(place);
         match self.client.call(rt, session, UndoCall { alloc, token }) {
-            Ok(redo) => hold_redo(&mut self.redos, redo, b"undone", out),
+            Ok(redo) => hold(&mut self.redos, redo, b"undone", out),
             Err(Returned { fault, value }) => {
                 put_back_unswung(&mut self.undos, &mut self.redos, place, value);
                 lines::put_fault(self.names(), fault, out)
@@ -282,7 +282,7 @@ impl<L: Terms> Engine<L> {
         self.undos.reserve(1)?;
         let token = self.redos.remove(place);
         match self.client.call(rt, session, RedoCall { alloc, token }) {
-            Ok(undo) => hold_undo(&mut self.undos, undo, b"redone", out),
+            Ok(undo) => hold(&mut self.undos, undo, b"redone", out),
             Err(Returned { fault, value }) => {
                 put_back_unswung(&mut self.redos, &mut self.undos, place, value);
                 lines::put_fault(self.names(), fault, out)

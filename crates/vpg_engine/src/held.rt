@@ -13,7 +13,7 @@ use crate::lines;
 use std::alloc::AllocError;
 use vpg_desk::CommitFault;
 use vpg_measure::Harvest;
-use vpg_office::{Redo, Terms, Undo};
+use vpg_office::{Kind, Redo, Terms, Token, Undo};
 use vpg_script::{ServeFault, Tone};
 
 /// Returns the place of the undo that a command means: that of the serial, or without one that of the greatest.
@@ -21,15 +21,15 @@ pub(crate) fn undo_place<L: Terms>(undos: &[Undo<L>], serial: Option<u64>) -> Op
     ensures { IsPlaceOf (undo_meant (serials undos.now) serial) (serials undos.now) result }
 {
     match serial {
-        Some(serial) => place_of_undo(undos, serial),
-        None => place_of_undo(undos, greatest(undos)?),
+        Some(serial) => place_of_serial(undos, serial),
+        None => place_of_serial(undos, greatest(undos)?),
     }
 }
 
-fn place_of_undo<L: Terms>(undos: &[Undo<L>], serial: u64) -> Option<usize>
-    ensures { result ≡ position (λ t. t.serial == serial) undos.now }
+fn place_of_serial<L: Terms, T: Kind>(tokens: &[Token<L, T>], serial: u64) -> Option<usize>
+    ensures { result ≡ position (λ t. t.serial == serial) tokens.now }
 {
-    undos.iter().position(|undo| undo.serial() == serial)
+    tokens.iter().position(|token| token.serial() == serial)
 }
 
 fn greatest<L: Terms>(undos: &[Undo<L>]) -> Option<u64>
@@ -43,50 +43,26 @@ pub(crate) fn redo_place<L: Terms>(redos: &[Redo<L>], serial: Option<u64>) -> Op
     ensures { IsPlaceOf (redo_meant (serials redos.now) serial) (serials redos.now) result }
 {
     match serial {
-        Some(serial) => place_of_redo(redos, serial),
-        None => place_of_redo(redos, redos.last()?.serial()),
+        Some(serial) => place_of_serial(redos, serial),
+        None => place_of_serial(redos, redos.last()?.serial()),
     }
 }
 
-fn place_of_redo<L: Terms>(redos: &[Redo<L>], serial: u64) -> Option<usize>
-    ensures { result ≡ position (λ t. t.serial == serial) redos.now }
-{
-    redos.iter().position(|redo| redo.serial() == serial)
-}
-
-/// Holds an undo, and writes its serial.
-pub(crate) fn hold_undo<L: Terms>(
-    undos: &mut Vec<Undo<L>>,
-    undo: Undo<L>,
+/// Holds a token, and writes its serial.
+pub(crate) fn hold<L: Terms, T: Kind>(
+    tokens: &mut Vec<Token<L, T>>,
+    token: Token<L, T>,
     word: &[u8],
     out: &mut Vec<u8>,
 ) -> Result<Tone, ServeFault>
-    requires { vec_len undos.old < vec_capacity undos.old }
-    ensures held { serials undos.new.items ≡ serials undos.old.items ++ undo.serial ∷ [] }
+    requires { vec_len tokens.old < vec_capacity tokens.old }
+    ensures held { serials tokens.new.items ≡ serials tokens.old.items ++ token.serial ∷ [] }
     ensures told { IfOk result
-        (λ tone. IsGiven (done (numbered word.now undo.serial)) tone out.old.items out.new.items) }
+        (λ tone. IsGiven (done (numbered word.now token.serial)) tone out.old.items out.new.items) }
     ensures memory { IsOkUnless result ServeFault.Memory }
 {
-    let serial = undo.serial();
-    undos.push_reserved(undo);
-    lines::numbered(word, serial, out)
-}
-
-/// Holds a redo, and writes its serial.
-pub(crate) fn hold_redo<L: Terms>(
-    redos: &mut Vec<Redo<L>>,
-    redo: Redo<L>,
-    word: &[u8],
-    out: &mut Vec<u8>,
-) -> Result<Tone, ServeFault>
-    requires { vec_len redos.old < vec_capacity redos.old }
-    ensures held { serials redos.new.items ≡ serials redos.old.items ++ redo.serial ∷ [] }
-    ensures told { IfOk result
-        (λ tone. IsGiven (done (numbered word.now redo.serial)) tone out.old.items out.new.items) }
-    ensures memory { IsOkUnless result ServeFault.Memory }
-{
-    let serial = redo.serial();
-    redos.push_reserved(redo);
+    let serial = token.serial();
+    tokens.push_reserved(token);
     lines::numbered(word, serial, out)
 }
 

@@ -17,7 +17,7 @@ use Rattle.vpg_office.specs.Fronts.{IsHistory, calls_by, event, family_between}
 use Rattle.vpg_office.specs.Kept.{HasOwn}
 use Rattle.vpg_office.specs.Story.{IsNamed, call_of, reply_of}
 use Rattle.vpg_office.specs.declared.asked.Answer.{Answer}
-use Rattle.vpg_office.specs.declared.asked.Answer.TheVariants.{Refused as Answered}
+use Rattle.vpg_office.specs.declared.asked.Answer.TheVariants.{Spent, Refused as Answered}
 use Rattle.vpg_office.specs.declared.asked.SessionCall.{SessionCall}
 use Rattle.vpg_office.specs.declared.front.Own.{Own}
 use Rattle.vpg_office.specs.declared.fault.Fault.{Fault}
@@ -30,6 +30,11 @@ pub record IsMade (game : NamedGame) (diagram : NamedDiagram) (desk : DeskState)
       (reply_of (family_of (setting_of desk)) desk.book.present answer) new
   pub hands : HandsIn (IsLawful (family_between game diagram)) (call_of asked answer)
   pub named : IsNamed game diagram asked answer
+
+-- the desk spends a token by this call
+abbrev pub SpendsToken : DeskState → SessionCall → DeskState → Type 0
+SpendsToken old asked new = (game : NamedGame) (diagram : NamedDiagram) (session : ℕ) →
+    IsMade game diagram old session asked Spent new
 
 -- the desk refused the call for this reason
 pub record IsRefused (game : NamedGame) (diagram : NamedDiagram) (desk : DeskState) (asked : SessionCall)

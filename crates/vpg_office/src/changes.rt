@@ -4,7 +4,7 @@ use crate::asked::SessionCall;
 use crate::calls::{Asked, Call, Issued, Made, issue_token};
 use crate::purse::Purse;
 use crate::terms::Terms;
-use crate::undo_token::Undo;
+use crate::token::Undo;
 use std::alloc::Global;
 use vpg_desk::{DecideFault, Desk, ResetFault, RetractFault};
 use vpg_faults::Returned;

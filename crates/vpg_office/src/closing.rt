@@ -1,54 +1,36 @@
 //! The end of an office's log.
-ghost use Rattle.std.specs.Prelude.{◌≡◌, ◌+◌, ℕ};
-ghost use Rattle.vpg_desk.specs.Book as book;
+ghost use Rattle.std.specs.Prelude.{◌≡◌, ◌+◌};
 ghost use Rattle.vpg_desk.specs.Book.{opened};
 ghost use Rattle.vpg_desk.specs.History.{book_after};
-ghost use Rattle.vpg_desk.specs.State.{IsStep};
 ghost use Rattle.vpg_office.specs.Fronts.{family_between};
+ghost use Rattle.vpg_office.specs.Made.{SpendsToken};
 
 use crate::chronicle::Row;
 use crate::ended::Ended;
 use crate::front::Front;
+use crate::kind::Kind;
 use crate::log::{Calls, Log};
 use crate::purse::Purse;
-use crate::redo_token::Redo;
 use crate::terms::Terms;
-use crate::undo_token::Undo;
+use crate::token::Token;
 use std::sync::Wait;
 use vpg_desk::Desk;
 use vpg_watch::Press;
 
-/// Spends an undo.
-pub(crate) fn keep_one<L: Terms>(desk: &mut Desk, purse: &mut Purse<L>, undo: Undo<L>)
+/// Spends a token.
+pub(crate) fn spend_one<L: Terms, T: Kind>(desk: &mut Desk, purse: &mut Purse<L>, held: Token<L, T>)
     requires { purse.old ≡ desk.old.book.tokens }
-    ensures step { (session : ℕ) → IsStep desk.old session (book.Keep undo.serial) book.Spent desk.new }
+    ensures step { SpendsToken desk.old (T.asks held.serial) desk.new }
     ensures counted { purse.new ≡ desk.new.book.tokens }
     ensures spent { desk.new.book.tokens + 1 ≡ desk.old.book.tokens }
 {
-    let Undo {
+    let Token {
         token,
         place: _,
         mut share,
-    } = undo;
+    } = held;
     purse.audit(&mut share);
-    desk.keep(token);
-    purse.take_back(share);
-}
-
-/// Spends a redo.
-pub(crate) fn forget_one<L: Terms>(desk: &mut Desk, purse: &mut Purse<L>, redo: Redo<L>)
-    requires { purse.old ≡ desk.old.book.tokens }
-    ensures step { (session : ℕ) → IsStep desk.old session (book.Forget redo.serial) book.Spent desk.new }
-    ensures counted { purse.new ≡ desk.new.book.tokens }
-    ensures spent { desk.new.book.tokens + 1 ≡ desk.old.book.tokens }
-{
-    let Redo {
-        token,
-        place: _,
-        mut share,
-    } = redo;
-    purse.audit(&mut share);
-    desk.forget(token);
+    token.spend(desk);
     purse.take_back(share);
 }
 

@@ -1,11 +1,11 @@
 //! The rest of an office that has ended: its ledger, which takes tokens that come late.
 ghost use Rattle.std.specs.Prelude.{◌≡◌, ◌+◌, length};
 
-use crate::closing::{forget_one, keep_one};
+use crate::closing::spend_one;
+use crate::kind::Kind;
 use crate::purse::Purse;
-use crate::redo_token::Redo;
 use crate::terms::Terms;
-use crate::undo_token::Undo;
+use crate::token::{Redo, Token, Undo};
 use std::marker::Model;
 use vpg_desk::Desk;
 
@@ -47,36 +47,31 @@ impl<L: Terms> Ended<L> {
     pub fn keep(&mut self, token: Undo<L>)
         ensures { self.new + 1 ≡ self.old }
     {
-        keep_one(&mut self.desk, &mut self.purse, token);
+        self.spend(token);
     }
 
     /// Spends the token of a change that was undone. It is one of those that are out.
     pub fn forget(&mut self, token: Redo<L>)
         ensures { self.new + 1 ≡ self.old }
     {
-        forget_one(&mut self.desk, &mut self.purse, token);
+        self.spend(token);
     }
 
-    /// Spends undos, until none is left.
-    pub(crate) fn keep_all(&mut self, undos: Vec<Undo<L>>)
-        ensures { self.new + length undos.items ≡ self.old }
+    fn spend<T: Kind>(&mut self, token: Token<L, T>)
+        ensures { self.new + 1 ≡ self.old }
     {
-        let mut undos = undos;
-        while let Some(undo) = undos.pop() {
-            self.keep(undo);
-        }
-        undos.destroy_empty();
+        spend_one(&mut self.desk, &mut self.purse, token);
     }
 
-    /// Spends redos, until none is left.
-    pub(crate) fn forget_all(&mut self, redos: Vec<Redo<L>>)
-        ensures { self.new + length redos.items ≡ self.old }
+    /// Spends tokens, until none is left.
+    pub(crate) fn spend_all<T: Kind>(&mut self, tokens: Vec<Token<L, T>>)
+        ensures { self.new + length tokens.items ≡ self.old }
     {
-        let mut redos = redos;
-        while let Some(redo) = redos.pop() {
-            self.forget(redo);
+        let mut tokens = tokens;
+        while let Some(token) = tokens.pop() {
+            self.spend(token);
         }
-        redos.destroy_empty();
+        tokens.destroy_empty();
     }
 }
 

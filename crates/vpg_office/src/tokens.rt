@@ -7,13 +7,13 @@ ghost use Rattle.vpg_office.specs.Kept.{HasOwn, IsChronicle, IsLastGiven, Lackin
 use crate::asked::{Answer, SessionCall};
 use crate::calls::{Asked, Call, Issued, Made};
 use crate::chronicle::Row;
-use crate::closing::{forget_one, keep_one};
+use crate::closing::spend_one;
 use crate::front::{Front, Own, Place};
+use crate::kind::Kind;
 use crate::log::Calls;
 use crate::purse::Purse;
-use crate::redo_token::Redo;
 use crate::terms::Terms;
-use crate::undo_token::Undo;
+use crate::token::{Redo, Token, Undo};
 use std::alloc::Global;
 use vpg_desk::{Desk, RedoFault, RedoRefused, UndoFault, UndoRefused};
 use vpg_faults::{Never, Returned};
@@ -265,75 +265,22 @@ impl<L: Terms> From<RedoCall<L>> for Redo<L> {
     }
 }
 
+/// Spends a token.
+pub struct SpendCall<L: Terms, T: Kind> {
+    pub token: Token<L, T>,
+}
+
 /// Spends the token of a change.
-pub struct KeepCall<L: Terms> {
-    pub token: Undo<L>,
-}
-
-impl<L: Terms> Call<L> for KeepCall<L> {
-    ghost use Rattle.std.specs.Prelude.{Some, None};
-    ghost use Rattle.vpg_desk.specs.Book as book;
-    ghost use Rattle.vpg_office.specs.declared.asked.SessionCall.TheVariants as ask;
-
-    type Given = ();
-
-    type Made = ();
-
-    type Refused = Never;
-
-    ghost asks = { λ c. ask.Keep c.token.serial };
-
-    ghost means = { λ c. book.Keep c.token.serial };
-
-    ghost replies = { λ nothing. book.Spent };
-
-    ghost owns = { λ c. Some (record { front = c.token.history; serial = None }) };
-
-    fn asked(&self) -> Asked<L> {
-        Asked {
-            call: SessionCall::Keep {
-                serial: self.token.serial(),
-            },
-            own: own_of(&self.token.place, None),
-            sheet: None,
-        }
-    }
-
-    fn carry_out(
-        self,
-        desk: &mut Desk,
-        purse: &mut Purse<L>,
-        _session: u32,
-    ) -> Result<Made<()>, Returned<Option<Never>, KeepCall<L>>> {
-        let KeepCall { token } = self;
-        keep_one(desk, purse, token);
-        Ok(Made {
-            given: (),
-            answer: Answer::Spent,
-        })
-    }
-}
-
-impl<L: Terms> From<KeepCall<L>> for Undo<L> {
-    ghost use Rattle.std.specs.Prelude.{◌≡◌};
-
-    ghost from_gives = { λ call token. token ≡ call.token };
-
-    fn from(call: KeepCall<L>) -> Undo<L> {
-        let KeepCall { token } = call;
-        token
-    }
-}
+pub type KeepCall<L> = SpendCall<L, vpg_desk::Undo>;
 
 /// Spends the token of a change that was undone.
-pub struct ForgetCall<L: Terms> {
-    pub token: Redo<L>,
-}
+pub type ForgetCall<L> = SpendCall<L, vpg_desk::Redo>;
 
-impl<L: Terms> Call<L> for ForgetCall<L> {
+impl<L: Terms, T: Kind> Call<L> for SpendCall<L, T> {
     ghost use Rattle.std.specs.Prelude.{Some, None};
     ghost use Rattle.vpg_desk.specs.Book as book;
-    ghost use Rattle.vpg_office.specs.declared.asked.SessionCall.TheVariants as ask;
+    ghost use Rattle.vpg_office.specs.Story.{call_of};
+    ghost use Rattle.vpg_office.specs.declared.asked.Answer.TheVariants as answer;
 
     type Given = ();
 
@@ -341,9 +288,9 @@ impl<L: Terms> Call<L> for ForgetCall<L> {
 
     type Refused = Never;
 
-    ghost asks = { λ c. ask.Forget c.token.serial };
+    ghost asks = { λ c. T.asks c.token.serial };
 
-    ghost means = { λ c. book.Forget c.token.serial };
+    ghost means = { λ c. call_of (T.asks c.token.serial) answer.Spent };
 
     ghost replies = { λ nothing. book.Spent };
 
@@ -351,9 +298,7 @@ impl<L: Terms> Call<L> for ForgetCall<L> {
 
     fn asked(&self) -> Asked<L> {
         Asked {
-            call: SessionCall::Forget {
-                serial: self.token.serial(),
-            },
+            call: self.token.spending(),
             own: own_of(&self.token.place, None),
             sheet: None,
         }
@@ -364,9 +309,9 @@ impl<L: Terms> Call<L> for ForgetCall<L> {
         desk: &mut Desk,
         purse: &mut Purse<L>,
         _session: u32,
-    ) -> Result<Made<()>, Returned<Option<Never>, ForgetCall<L>>> {
-        let ForgetCall { token } = self;
-        forget_one(desk, purse, token);
+    ) -> Result<Made<()>, Returned<Option<Never>, SpendCall<L, T>>> {
+        let SpendCall { token } = self;
+        spend_one(desk, purse, token);
         Ok(Made {
             given: (),
             answer: Answer::Spent,
@@ -374,13 +319,13 @@ impl<L: Terms> Call<L> for ForgetCall<L> {
     }
 }
 
-impl<L: Terms> From<ForgetCall<L>> for Redo<L> {
+impl<L: Terms, T: Kind> From<SpendCall<L, T>> for Token<L, T> {
     ghost use Rattle.std.specs.Prelude.{◌≡◌};
 
     ghost from_gives = { λ call token. token ≡ call.token };
 
-    fn from(call: ForgetCall<L>) -> Redo<L> {
-        let ForgetCall { token } = call;
+    fn from(call: SpendCall<L, T>) -> Token<L, T> {
+        let SpendCall { token } = call;
         token
     }
 }

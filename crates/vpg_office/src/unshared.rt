@@ -11,9 +11,8 @@ use crate::ended::Ended;
 use crate::front::Front;
 use crate::log::Log;
 use crate::office::{Office, Shared};
-use crate::redo_token::Redo;
 use crate::terms::Terms;
-use crate::undo_token::Undo;
+use crate::token::{Redo, Undo};
 use std::marker::{Model, PhantomData};
 use std::sync::{Mutex, Wait};
 
@@ -86,8 +85,8 @@ impl<L: Terms> Unshared<L> {
     {
         let Unshared { row, log } = self;
         let mut ended = log.dissolve(rt, row);
-        ended.keep_all(undos);
-        ended.forget_all(redos);
+        ended.spend_all(undos);
+        ended.spend_all(redos);
         ended
     }
 }

@@ -6,13 +6,17 @@ use Rattle.std.proofs.Crossing.{crosses}
 use Rattle.std.proofs.sync.ledger.Share.TheSendSync.{the_send as share_send}
 use Rattle.std.specs.declared.sync.ledger.Ledger as ledger
 use Rattle.vpg_desk.proofs.Crossing.{game_send, game_sync}
+use Rattle.vpg_desk.specs.contracts.token.Redoing as Redoing
+use Rattle.vpg_desk.specs.contracts.token.Token as Given
+use Rattle.vpg_desk.specs.contracts.token.Undoing as Undoing
 use Rattle.vpg_diagram.proofs.Crossing.{diagram_send, diagram_sync}
 use Rattle.vpg_measure.proofs.games.PageGames.TheSendSync.{the_send as games_send, the_sync as games_sync}
 use Rattle.vpg_measure.specs.contracts.harvest.Harvest as Harvest
 use Rattle.vpg_measure.specs.contracts.order.Order as Order
 use Rattle.vpg_office.proofs.front.Front.TheSendSync.{the_send as front_send}
-use Rattle.vpg_office.specs.contracts.redo_token.Redo as Redo
-use Rattle.vpg_office.specs.contracts.undo_token.Undo as Undo
+use Rattle.vpg_office.specs.contracts.kind.RedoKind.TheImpl as redo_kind
+use Rattle.vpg_office.specs.contracts.kind.UndoKind.TheImpl as undo_kind
+use Rattle.vpg_office.specs.contracts.token.Token as Held
 use Rattle.vpg_office.specs.declared.terms.Terms as terms
 use Rattle.vpg_play.specs.contracts.counter.Counter as Counter
 use Rattle.vpg_play.specs.contracts.tokens.Token as Token
@@ -24,10 +28,10 @@ harvest_send : IsSend Harvest.the_row
 harvest_send = search (order_send, sendable, crosses) depth 20
 
 module _ (L : RattleType) (t : terms.Ghosts L.Denot) (l : ledger.Ghosts L.Denot) where
-  undo_send : IsSend (Undo.the_row L t l)
+  undo_send : IsSend (Held.the_row L (Given.the_row Undoing.the_row) t l undo_kind.ghosts)
   undo_send = search (front_send, share_send, sendable, crosses) depth 40
 
-  redo_send : IsSend (Redo.the_row L t l)
+  redo_send : IsSend (Held.the_row L (Given.the_row Redoing.the_row) t l redo_kind.ghosts)
   redo_send = search (front_send, share_send, sendable, crosses) depth 40
 
   token_send : IsSend (Token.the_row L t l)

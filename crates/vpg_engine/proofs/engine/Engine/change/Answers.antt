@@ -28,12 +28,12 @@ returns-in-Ok-clause-answer g c =
     let e = c.self.inside in
     let old = engine_in e.client e.undos.items e.redos.items e.harvests.items e.seen.items in
     let holds : List ℕ → Held = λ undos. record { undos = undos; redos = old.held.redos; harvests = old.held.harvests; seen = old.held.seen } in
-    on_changed_view c.hold_undo.result _ old _ _ _ _ _ _ _ c.self.view_is (called_some g.C.Call.means c.args.call c.in-Some.call c.in-Some.is)
+    on_changed_view c.hold.result _ old _ _ _ _ _ _ _ c.self.view_is (called_some g.C.Call.means c.args.call c.in-Some.call c.in-Some.is)
     (λ tone told. changes g.L.Terms.limit g.C.Refused.Refuses.refusal_of (g.C.Call.means c.in-Some.call) c.args.session c.self.invariant.room_is old _ c.args.out.now.items _ (g.C.Call.replies c.in-Ok.undo) c.in-Ok.undo.serial (c.requires.changes c.in-Ok.undo) c.in-Ok.ensures.accepted
-    (ap holds (c.hold_undo.ensures.held ∙ ap (λ (tokens : List Token). serials tokens ++ c.in-Ok.undo.serial ∷ []) c.reserve.ensures.items)) told) c.hold_undo.ensures.told
+    (ap holds (c.hold.ensures.held ∙ ap (λ (tokens : List Token). serials tokens ++ c.in-Ok.undo.serial ∷ []) c.reserve.ensures.items)) told) c.hold.ensures.told
 
 pub returns-in-Ok-clause-strayed : goal.returns-in-Ok-clause-strayed
-returns-in-Ok-clause-strayed g c = λ is. unstrayed c.hold_undo.result _ c.hold_undo.ensures.memory is
+returns-in-Ok-clause-strayed g c = λ is. unstrayed c.hold.result _ c.hold.ensures.memory is
 
 pub invariant_of-self-in-Err : goal.invariant_of-self-in-Err
 invariant_of-self-in-Err g c =

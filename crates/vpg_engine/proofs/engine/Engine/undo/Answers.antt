@@ -47,10 +47,10 @@ returns-in-Ok-clause-answer g c =
     let here : Stands at.0 c.in-Some.place (serials tokens) = stands at.0 c.in-Some.place (serials tokens) at.1.1 in
     let token = c.remove-token.result in
     let holds : List ℕ → List ℕ → Held = λ ns rs. record { undos = ns; redos = rs; harvests = old.held.harvests; seen = old.held.seen } in
-    on_view c.hold_redo.result _ old _ _ _ _ _ c.self.view_is
+    on_view c.hold.result _ old _ _ _ _ _ c.self.view_is
     (λ tone told. undone g.L.Terms.limit c.self.invariant.room_is old _ c.args.session at.0 c.in-Some.place token.serial c.args.out.now.items _ c.args.serial c.in-Ok.redo.serial at.1.0 here
     (serial_at tokens c.in-Some.place token token c.remove-token.ensures.value token.serial refl) c.in-Ok.ensures.accepted
-    (ap₂ holds (ap serials c.remove-token.ensures.items ∙ serials_removed tokens c.in-Some.place) (c.hold_redo.ensures.held ∙ ap (λ (ts : List Token). serials ts ++ c.in-Ok.redo.serial ∷ []) c.reserve.ensures.items)) told) c.hold_redo.ensures.told
+    (ap₂ holds (ap serials c.remove-token.ensures.items ∙ serials_removed tokens c.in-Some.place) (c.hold.ensures.held ∙ ap (λ (ts : List Token). serials ts ++ c.in-Ok.redo.serial ∷ []) c.reserve.ensures.items)) told) c.hold.ensures.told
 
 pub returns-in-Err-clause-answer : goal.returns-in-Err-clause-answer
 returns-in-Err-clause-answer g c =
@@ -91,7 +91,7 @@ pub put_back_unswung-requires-clause-room : goal.put_back_unswung-requires-claus
 put_back_unswung-requires-clause-room g c = grind (arith, common_steps)
 
 pub returns-in-Ok-clause-strayed : goal.returns-in-Ok-clause-strayed
-returns-in-Ok-clause-strayed g c = λ is. unstrayed c.hold_redo.result _ c.hold_redo.ensures.memory is
+returns-in-Ok-clause-strayed g c = λ is. unstrayed c.hold.result _ c.hold.ensures.memory is
 
 pub returns-in_default-clause-strayed : goal.returns-in_default-clause-strayed
 returns-in_default-clause-strayed g c = λ is. unstrayed c.refused.result _ c.refused.ensures.memory is

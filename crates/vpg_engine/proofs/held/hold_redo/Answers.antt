@@ -1,6 +1,0 @@
-use Rattle.std.proofs.Common.{arith}
-use Rattle.std.proofs.lemmas.Grind.{common_steps}
-use Rattle.vpg_engine.proofs.held.hold_redo.Goals as goal
-
-pub returns-clause-held : goal.returns-clause-held
-returns-clause-held g c = grind (arith, common_steps)

@@ -1,7 +1,0 @@
-use Rattle.std.specs.Prelude.{IsTrue}
-use Rattle.vpg_desk.specs.History.{gives_undo}
-use Rattle.vpg_office.specs.Token.{EndsWith}
-use Rattle.vpg_office.proofs.undo_token.Undo.serial.Goals as goal
-
-pub returns-clause-own : goal.returns-clause-own
-returns-clause-own g c = coe 0 1 (k. EndsWith (λ reply. IsTrue (gives_undo (c.self.view_is k).serial reply)) (c.self.view_is k).history) c.self.invariant.2
