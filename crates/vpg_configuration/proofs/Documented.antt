@@ -1,41 +1,65 @@
--- Decisions among words, and the lines of a document in its parts.
-use Rattle.std.proofs.Common.{◌≡◌, ℕ, Bool, true, false, cond, ◌||◌, List, [], ◌∷◌, ◌++◌, map, flat_map, refl, sym, ap, ◌∙◌}
-use Rattle.std.specs.Borrow.{Bor}
+-- Decisions on features, and the lines of the features of which something is known.
+use Rattle.std.proofs.Common.{◌≡◌, ℕ, ◌+◌, Bool, true, false, cond, ◌||◌, List, [], ◌∷◌, ◌++◌, map, flat_map, refl, sym, ap, ◌∙◌, add-one, append-nil}
+use Rattle.std.specs.Prelude.{slice_index_or}
 use Rattle.std.specs.List.{list_any}
 use Rattle.std.proofs.lemmas.Grind.{flat_map-append}
+use Rattle.std.proofs.lemmas.List.{flat_map_more}
+use Rattle.std.proofs.lemmas.List.Folds.{flat_map-map}
+use Rattle.vpg_guards.specs.declared.tri.Tri.{Tri}
+use Rattle.vpg_guards.specs.declared.tri.Tri.TheVariants.{Unknown}
+use Rattle.vpg_diagram.specs.declared.clause.Literal.{Literal}
+use Rattle.vpg_partial.specs.Known.{literal_of}
+use Rattle.vpg_partial.specs.declared.decision.Decision.{Decision}
 use Rattle.vpg_configuration.specs.Deciding.{Selection, Selected, Unselected, Undefined}
-use Rattle.vpg_configuration.specs.Documents.{Setting, setting_line, is_decision, decided_by}
+use Rattle.vpg_configuration.specs.Documents.{Setting, setting_line}
+use Rattle.vpg_configuration.specs.Exports.{is_value, features_known, is_decision, decided_by}
 
-any_of : (test : List ℕ → Bool) (ws : List (Bor (List ℕ))) → list_any (λ w. test w.now) ws ≡ list_any test (map (λ w. w.now) ws)
+any_of : (test : Literal → Bool) (ds : List Decision) → list_any (λ d. test (literal_of d)) ds ≡ list_any test (map literal_of ds)
 any_of test [] = refl
-any_of test (w ∷ ws) = ap (λ (t : Bool). test w.now || t) (any_of test ws)
+any_of test (d ∷ ds) = ap (λ (t : Bool). test (literal_of d) || t) (any_of test ds)
 
-abbrev Words : Type 0
-Words = List (Bor (List ℕ))
+-- ---- decisions on a feature
 
--- whether one of these words is the decision with this sign of a feature
-abbrev has : ℕ → List ℕ → Words → Bool
-has sign name ws = list_any (λ w. is_decision sign name w.now) ws
+module _ (ds : List Decision) (f : ℕ) where
+  -- whether one of these is on the feature and has this value
+  abbrev has : Bool → Bool
+  has value = list_any (λ d. is_decision f value (literal_of d)) ds
 
-abbrev by_words : (name : List ℕ) → Words → Selection
-by_words name ws = decided_by (map (λ w. w.now) ws) name
+  abbrev by_decisions : Selection
+  by_decisions = decided_by (map literal_of ds) f
 
-pub decided_in : (ws : Words) (name : List ℕ) → has 43 name ws ≡ true → Selected ≡ by_words name ws
-decided_in ws name e =
-    let rest : Selection = cond (list_any (is_decision 45 name) (map (λ w. w.now) ws)) Unselected Undefined in
-    sym (ap (λ (t : Bool). cond t Selected rest) (sym (any_of (is_decision 43 name) ws) ∙ e))
+  abbrev if_not_in : Selection
+  if_not_in = cond (list_any (is_decision f false) (map literal_of ds)) Unselected Undefined
 
-not_in : (ws : Words) (name : List ℕ) → has 43 name ws ≡ false → by_words name ws ≡ cond (list_any (is_decision 45 name) (map (λ w. w.now) ws)) Unselected Undefined
-not_in ws name e =
-    let rest : Selection = cond (list_any (is_decision 45 name) (map (λ w. w.now) ws)) Unselected Undefined in
-    ap (λ (t : Bool). cond t Selected rest) (sym (any_of (is_decision 43 name) ws) ∙ e)
+  pub decided_in : has true ≡ true → Selected ≡ by_decisions
+  decided_in e = sym (ap (λ (t : Bool). cond t Selected if_not_in) (sym (any_of (is_decision f true) ds) ∙ e))
 
-pub decided_out : (ws : Words) (name : List ℕ) → has 43 name ws ≡ false → has 45 name ws ≡ true → Unselected ≡ by_words name ws
-decided_out ws name e f = sym (not_in ws name e ∙ ap (λ (t : Bool). cond t Unselected Undefined) (sym (any_of (is_decision 45 name) ws) ∙ f))
+  not_in : has true ≡ false → by_decisions ≡ if_not_in
+  not_in e = ap (λ (t : Bool). cond t Selected if_not_in) (sym (any_of (is_decision f true) ds) ∙ e)
 
-pub undecided : (ws : Words) (name : List ℕ) → has 43 name ws ≡ false → has 45 name ws ≡ false → Undefined ≡ by_words name ws
-undecided ws name e f = sym (not_in ws name e ∙ ap (λ (t : Bool). cond t Unselected Undefined) (sym (any_of (is_decision 45 name) ws) ∙ f))
+  pub decided_out : has true ≡ false → has false ≡ true → Unselected ≡ by_decisions
+  decided_out e g = sym (not_in e ∙ ap (λ (t : Bool). cond t Unselected Undefined) (sym (any_of (is_decision f false) ds) ∙ g))
 
--- the lines of features in three parts
-pub three_parts : (a b c : List Setting) → flat_map setting_line (a ++ b ++ c) ≡ flat_map setting_line a ++ flat_map setting_line b ++ flat_map setting_line c
-three_parts a b c = flat_map-append setting_line (a ++ b) c ∙ ap (λ (t : List ℕ). t ++ flat_map setting_line c) (flat_map-append setting_line a b)
+  pub undecided : has true ≡ false → has false ≡ false → Undefined ≡ by_decisions
+  undecided e g = sym (not_in e ∙ ap (λ (t : Bool). cond t Unselected Undefined) (sym (any_of (is_decision f false) ds) ∙ g))
+
+-- ---- lines of features
+
+module _ (line : ℕ → List ℕ) (known : List Tri) (value : Tri) (f : ℕ) (before old new : List ℕ) (was : old ≡ before ++ flat_map line (features_known known value f)) where
+  -- with the feature, if this is known of it
+  next : (b : Bool) → is_value (slice_index_or known f Unknown) value ≡ b → features_known known value (f + 1) ≡ features_known known value f ++ cond b (f ∷ []) []
+  next b e = ap (features_known known value) (add-one f) ∙ ap (λ (t : Bool). features_known known value f ++ cond t (f ∷ []) []) e
+
+  pub one_line : is_value (slice_index_or known f Unknown) value ≡ true → new ≡ old ++ line f → new ≡ before ++ flat_map line (features_known known value (f + 1))
+  one_line e is =
+      is ∙ ap (λ (t : List ℕ). t ++ line f) was ∙ flat_map_more line before (features_known known value f) f ∙ ap (λ (fs : List ℕ). before ++ flat_map line fs) (sym (next true e))
+
+  pub no_line : is_value (slice_index_or known f Unknown) value ≡ false → new ≡ old → new ≡ before ++ flat_map line (features_known known value (f + 1))
+  no_line e is = is ∙ was ∙ ap (λ (fs : List ℕ). before ++ flat_map line fs) (sym (next false e ∙ append-nil (features_known known value f)))
+
+-- the lines of a document in its parts
+pub three_parts : (setting : ℕ → Setting) (a b c : List ℕ) → flat_map setting_line (map setting (a ++ b ++ c)) ≡
+    flat_map (λ f. setting_line (setting f)) a ++ flat_map (λ f. setting_line (setting f)) b ++ flat_map (λ f. setting_line (setting f)) c
+three_parts setting a b c =
+    let line : ℕ → List ℕ = λ f. setting_line (setting f) in
+    flat_map-map setting_line setting (a ++ b ++ c) ∙ flat_map-append line (a ++ b) c ∙ ap (λ (t : List ℕ). t ++ flat_map line c) (flat_map-append line a b)

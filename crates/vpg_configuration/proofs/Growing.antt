@@ -22,17 +22,6 @@ pub grown_all_mapped : {X Y : Type 0} (f : Y → List ℕ) (v : X → Y) (xs : L
     b ≡ a ++ flat_map f (map v xs)
 grown_all_mapped f v xs i a b l e = e ∙ ap (λ t. a ++ flat_map f (map v t)) (take_all i xs l)
 
--- the same of a function of what each element is taken for
-pub grown_twice : {X Y Z : Type 0} (f : Z → List ℕ) (g : Y → Z) (v : X → Y) (xs : List X) (i : ℕ) (d : X) (a b c : List ℕ) → i < length xs → b ≡ a ++ flat_map f (map g (map v (take i xs))) →
-    c ≡ b ++ f (g (v (get_or xs i d))) → c ≡ a ++ flat_map f (map g (map v (take (i + 1) xs)))
-grown_twice f g v xs i d a b c l e h =
-    grown_mapped (λ y. f (g y)) v xs i d a b c l (e ∙ ap (λ (t : List ℕ). a ++ t) (flat_map-map f g (map v (take i xs)))) h
-    ∙ ap (λ (t : List ℕ). a ++ t) (sym (flat_map-map f g (map v (take (i + 1) xs))))
-
-pub grown_all_twice : {X Y Z : Type 0} (f : Z → List ℕ) (g : Y → Z) (v : X → Y) (xs : List X) (i : ℕ) (a b : List ℕ) → length xs ≤ i → b ≡ a ++ flat_map f (map g (map v (take i xs))) →
-    b ≡ a ++ flat_map f (map g (map v xs))
-grown_all_twice f g v xs i a b l e = e ∙ ap (λ t. a ++ flat_map f (map g (map v t))) (take_all i xs l)
-
 -- a text that grows by one more piece
 pub more : (o s x y t : List ℕ) → x ≡ o ++ s → y ≡ x ++ t → y ≡ o ++ (s ++ t)
 more o s x y t e f = f ∙ (ap (λ (z : List ℕ). z ++ t) e ∙ append_assoc o s t)

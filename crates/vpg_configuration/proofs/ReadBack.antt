@@ -18,7 +18,10 @@ use Rattle.vpg_xml.proofs.StepCode.{run_one, run_empty}
 use Rattle.vpg_xml.proofs.Contents.{run_end, run_after, document_found}
 use Rattle.vpg_configuration.specs.Deciding.{TextFault, Selection, Selected, Unselected, Undefined, selection_word, decision_line, feature_line, with_line, and_then, step, lines_with, Decides}
 use Rattle.vpg_configuration.specs.Documents.{Setting, setting_line, document_text, decision_lines}
-use Rattle.vpg_configuration.specs.Laws.{AreNamed}
+
+-- each name is a feature name
+abbrev AreNamed : List Setting → Type 0
+AreNamed settings = list_all (λ s. is_name s.name) settings ≡ true
 
 -- ---- values
 

@@ -1,6 +1,6 @@
 -- Configurations: texts with one selected feature a line, as FeatureIDE (Thüm et al., 2014) and tools for UVL exchange
 -- them. Comments are this project's own.
-use Rattle.std.specs.Prelude.{ℕ, ◌-◌, Bool, true, false, ◌==◌, ◌||◌, ◌&&◌, nat_le, if◌then◌else◌, List, [], ◌∷◌, ◌++◌, length, take, drop, flat_map, slice_index_or, Option, Some, None, bytes_eq, codes}
+use Rattle.std.specs.Prelude.{ℕ, ◌-◌, Bool, true, ◌==◌, ◌||◌, if◌then◌else◌, List, [], ◌∷◌, ◌++◌, length, take, drop, flat_map, slice_index_or, codes}
 use Rattle.std.specs.List.{prefix_len, slice_split}
 
 -- ---- a configuration before a script
@@ -39,39 +39,8 @@ selections pieces =
 abbrev pub selecting : List ℕ → List ℕ
 selecting text = selections (slice_split is_line_end text)
 
--- ---- the configuration behind a script
-
-abbrev pub is_between : ℕ → Bool
-is_between b = b == 32
-
--- whether this is the first of some words
-abbrev pub is_first : List ℕ → List (List ℕ) → Bool
-is_first word [] = false
-is_first word (first ∷ words) = bytes_eq first word
-
-abbrev pub begins_with : List ℕ → List ℕ → Bool
-begins_with word line = is_first word (slice_split is_between line)
+-- ---- a configuration that is written
 
 -- a feature's line
 abbrev pub name_line : List ℕ → List ℕ
 name_line name = name ++ 10 ∷ []
-
--- the configuration that a line `in F ..` tells of
-abbrev pub listed : List ℕ → List ℕ
-listed line = flat_map name_line (drop 1 (slice_split is_between line))
-
--- The configuration of pieces between line feeds, the last of them empty: the three lines before it answer `products`.
-abbrev pub configuration_from : (known last : List ℕ) → Option (List ℕ)
-configuration_from known last =
-    if begins_with (codes "in") known && begins_with (codes "open") last then Some (listed known) else None
-
-abbrev pub configuration_of : List (List ℕ) → Option (List ℕ)
-configuration_of pieces =
-    if nat_le 4 (length pieces)
-    then configuration_from (slice_index_or pieces (length pieces - 4) [])
-    (slice_index_or pieces (length pieces - 2) [])
-    else None
-
--- the configuration of a text that ends in the answer to `products`: the features that are known to be in
-abbrev pub configuration_in : List ℕ → Option (List ℕ)
-configuration_in written = configuration_of (slice_split is_line_end written)

@@ -1,22 +1,26 @@
 -- Statements of the laws.
-use Rattle.std.specs.Prelude.{◌≡◌, ℕ, List, true, flat_map, Some}
+use Rattle.std.specs.Prelude.{◌≡◌, ℕ, List, true, length, flat_map, Some}
 use Rattle.std.specs.List.{list_all}
+use Rattle.vpg_guards.specs.declared.tri.Tri.{Tri}
+use Rattle.vpg_guards.specs.declared.tri.Tri.TheVariants.{Yes}
+use Rattle.vpg_diagram.specs.DiagramText.{name_of}
+use Rattle.vpg_diagram.specs.declared.clause.Literal.{Literal}
 use Rattle.vpg_featureide.specs.Model.{is_name}
-use Rattle.vpg_configuration.specs.Configurations.{name_line, selecting}
+use Rattle.vpg_configuration.specs.Configurations.{selecting}
 use Rattle.vpg_configuration.specs.Deciding.{Selected, decision_line, Decides}
-use Rattle.vpg_configuration.specs.Documents.{Setting, document_text, decision_lines}
+use Rattle.vpg_configuration.specs.Documents.{decision_lines}
+use Rattle.vpg_configuration.specs.Exports.{features_known, settings_of, configuration_text}
+use Rattle.vpg_configuration.specs.declared.form.ConfigurationForm.TheVariants as forms
 
--- each name is a feature name
-abbrev pub AreNamed : List Setting → Type 0
-AreNamed settings = list_all (λ s. is_name s.name) settings ≡ true
-
--- a document that is written of settings decides what a person decided in them
+-- the document of a page decides what the page's decisions select, in the document's order
 abbrev pub WrittenDecisionsReadBack : Type 0
 WrittenDecisionsReadBack =
-    (settings : List Setting) → AreNamed settings → Decides (document_text settings) (decision_lines settings)
+    (names : List (List ℕ)) (known : List Tri) (decisions : List Literal) → list_all is_name names ≡ true →
+    Decides (configuration_text forms.Xml names known decisions) (decision_lines (settings_of names known decisions))
 
--- a list of feature names selects each of them
+-- the list of a page selects each feature that is known to be in, in the diagram's order
 abbrev pub WrittenNamesReadBack : Type 0
 WrittenNamesReadBack =
-    (names : List (List ℕ)) → list_all is_name names ≡ true →
-    selecting (flat_map name_line names) ≡ flat_map (λ name. decision_line (Some Selected) name) names
+    (names : List (List ℕ)) (known : List Tri) (decisions : List Literal) → list_all is_name names ≡ true →
+    selecting (configuration_text forms.Names names known decisions)
+    ≡ flat_map (λ f. decision_line (Some Selected) (name_of names f)) (features_known known Yes (length names))

@@ -1,7 +1,7 @@
 //! Configurations of names: a text with one selected feature a line.
-ghost use Rattle.std.specs.Prelude.{◌≡◌, ◌++◌, ◌≤◌, length, map, drop, option_map, flat_map, bytes_eq, IfOk, OnOk};
+ghost use Rattle.std.specs.Prelude.{◌≡◌, ◌++◌, ◌≤◌, length, map, flat_map, IfOk, OnOk};
 ghost use Rattle.std.specs.List.{prefix_len, slice_split};
-ghost use Rattle.vpg_configuration.specs.Configurations.{is_blank, is_line_end, begins_nothing, says_nothing, selection, last_selection, selections, selecting, is_between, is_first, begins_with, name_line, listed, configuration_from, configuration_of, configuration_in};
+ghost use Rattle.vpg_configuration.specs.Configurations.{is_blank, is_line_end, begins_nothing, says_nothing, selection, last_selection, selections, selecting, name_line};
 
 use std::alloc::{AllocError, Global};
 
@@ -64,7 +64,7 @@ fn put_selections(lines: &[&[u8]], out: &mut Vec<u8>) -> Result<(), AllocError>
 }
 
 /// Returns the lines of a text.
-pub(crate) fn lines(alloc: Global, text: &[u8]) -> Result<Vec<&[u8]>, AllocError>
+fn lines(alloc: Global, text: &[u8]) -> Result<Vec<&[u8]>, AllocError>
     ensures { IfOk result (λ v. map (λ w. w.now) v.items ≡ slice_split is_line_end text.now) }
 {
     text.split(|b| is_line_end(*b)).collect(alloc)
@@ -104,83 +104,10 @@ pub fn selecting(alloc: Global, text: &[u8]) -> Result<Vec<u8>, AllocError>
     Ok(script)
 }
 
-fn is_between(b: u8) -> bool
-    ensures { result ≡ is_between b }
-{
-    b == b' '
-}
-
-/// Returns the words of a line.
-pub(crate) fn words(alloc: Global, line: &[u8]) -> Result<Vec<&[u8]>, AllocError>
-    ensures { IfOk result (λ v. map (λ w. w.now) v.items ≡ slice_split is_between line.now) }
-{
-    line.split(|b| is_between(*b)).collect(alloc)
-}
-
-/// Whether this is the first of some words.
-pub(crate) fn is_first(word: &[u8], words: &[&[u8]]) -> bool
-    ensures { result ≡ is_first word.now (map (λ w. w.now) words.now) }
-{
-    match words {
-        [] => false,
-        [first, ..] => *first == word,
-    }
-}
-
 /// Appends the line of a feature.
-fn put_name(name: &[u8], out: &mut Vec<u8>) -> Result<(), AllocError>
+pub(crate) fn put_name(name: &[u8], out: &mut Vec<u8>) -> Result<(), AllocError>
     ensures { OnOk result (out.new.items ≡ out.old.items ++ name_line name.now) }
 {
     out.extend_from_slice(name)?;
     out.extend_from_slice(b"\n")
-}
-
-/// Appends a line for each feature.
-fn put_names(names: &[&[u8]], out: &mut Vec<u8>) -> Result<(), AllocError>
-    ensures { OnOk result (out.new.items ≡ out.old.items ++ flat_map name_line (map (λ w. w.now) names.now)) }
-{
-    for name in names {
-        put_name(name, out)?;
-    }
-    Ok(())
-}
-
-/// Returns the words behind the first.
-pub(crate) fn behind_first<'w, 'l>(words: &'w [&'l [u8]]) -> &'w [&'l [u8]]
-    ensures { map (λ w. w.now) result.now ≡ drop 1 (map (λ w. w.now) words.now) }
-{
-    match words {
-        [] => words,
-        [_, rest @ ..] => rest,
-    }
-}
-
-/// Returns the configuration that these lines of the answer to `products` tell of.
-fn configuration_from(
-    alloc: Global,
-    known: &[u8],
-    last: &[u8],
-) -> Result<Option<Vec<u8>>, AllocError>
-    ensures { IfOk result (λ text. option_map (λ v. v.items) text ≡ configuration_from known.now last.now) }
-{
-    let known = words(alloc, known)?;
-    let last = words(alloc, last)?;
-    if !(is_first(b"in", &known) && is_first(b"open", &last)) {
-        return Ok(None);
-    }
-    let mut text = Vec::new(alloc);
-    put_names(behind_first(&known), &mut text)?;
-    Ok(Some(text))
-}
-
-/// Returns the configuration that a text tells of which ends in the answer to `products`.
-pub fn configuration_in(alloc: Global, written: &[u8]) -> Result<Option<Vec<u8>>, AllocError>
-    ensures { IfOk result (λ text. option_map (λ v. v.items) text ≡ configuration_in written.now) }
-{
-    let lines = lines(alloc, written)?;
-    let n = lines.len();
-    if n < 4 {
-        return Ok(None);
-    }
-    configuration_from(alloc, lines[n - 4], lines[n - 2])
 }

@@ -1,49 +1,73 @@
-//! Configurations in FeatureIDE's XML: they are written of answers, read, and refused.
+//! Configurations: they are written in both forms, and in FeatureIDE's XML read and refused.
 use crate::said::Said;
+use std::alloc::Global;
+use std::process::Abort;
 use std::test::*;
-use vpg_configuration::{ConfigurationForm, asking, deciding, exported_in, form_of};
+use vpg_configuration::{deciding, exported, form_of};
+use vpg_diagram::Diagram;
 use vpg_family::Fault;
+use vpg_partial::{Decision, Partial};
 
-/// Answers to `show`, after an earlier answer, and to `products`.
-const ANSWERS: &str = "\
-decisions -lift
-full no
-settled no
-decisions +sensor -slow
-full no
-settled no
-0 0 0 possible unsure
-in elevator sensor lift
-out slow fast
-open overload
+/// A diagram that makes features known: three are in, and two out.
+const DIAGRAM: &[u8] = b"\
+root elevator
+optional elevator overload
+mandatory elevator sensor
+optional elevator fast
+mandatory elevator lift
+optional elevator slow
+excludes lift fast
+excludes lift slow
 ";
 
-/// The document that they tell of.
+/// The decisions of a page: `sensor` is in, and `slow` out.
+const DECISIONS: [Decision; 2] = [
+    Decision {
+        serial: 1,
+        session: 1,
+        feature: 2,
+        value: true,
+    },
+    Decision {
+        serial: 2,
+        session: 1,
+        feature: 5,
+        value: false,
+    },
+];
+
+/// The configuration of the page as names.
+const NAMES: &str = "elevator\nsensor\nlift\n";
+
+/// Its configuration as a document.
 const DOCUMENT: &str = "\
 <?xml version=\"1.0\" encoding=\"UTF-8\" standalone=\"no\"?>
 <configuration>
 \t<feature automatic=\"selected\" manual=\"undefined\" name=\"elevator\"/>
 \t<feature automatic=\"undefined\" manual=\"selected\" name=\"sensor\"/>
 \t<feature automatic=\"selected\" manual=\"undefined\" name=\"lift\"/>
-\t<feature automatic=\"undefined\" manual=\"unselected\" name=\"slow\"/>
 \t<feature automatic=\"unselected\" manual=\"undefined\" name=\"fast\"/>
+\t<feature automatic=\"undefined\" manual=\"unselected\" name=\"slow\"/>
 \t<feature automatic=\"undefined\" manual=\"undefined\" name=\"overload\"/>
 </configuration>
 ";
 
+/// Returns the configuration of the page for a file with a name.
+fn configuration(rt: &impl Abort, alloc: Global, file: &str) -> Result<Vec<u8>, Fail> {
+    let diagram = Diagram::read(alloc, DIAGRAM)?;
+    let names = diagram.names();
+    let known = Partial::close(alloc, &diagram, &[])?;
+    assert!(rt; known.values().len() == names.len());
+    let text = exported(alloc, form_of(file), names, &known, &DECISIONS)?;
+    Ok(text)
+}
+
 #[test]
 fn a_configuration_is_written(rt: HostRuntime) -> Result<(), Fail> {
-    let mut said = Said::new(rt.alloc());
-    said.put_text(asking(ConfigurationForm::Xml));
-    match exported_in(rt.alloc(), form_of("page.xml"), ANSWERS.as_bytes()) {
-        Ok(Some(text)) => said.put_text(&text),
-        Ok(None) => said.put("none"),
-        Err(_) => said.note(false),
-    }
-    let mut expected = Said::new(rt.alloc());
-    expected.put("show\nproducts\n");
-    expected.put(DOCUMENT);
-    assert_eq!(rt; said.text(), expected.text());
+    let names = configuration(&rt, rt.alloc(), "page.config")?;
+    assert_eq!(rt; names.as_slice(), NAMES.as_bytes());
+    let document = configuration(&rt, rt.alloc(), "page.xml")?;
+    assert_eq!(rt; document.as_slice(), DOCUMENT.as_bytes());
     Ok(())
 }
 

@@ -1,35 +1,40 @@
 -- Configurations on pages that scripts leave.
-use Rattle.std.proofs.Common.{◌≡◌, ℕ, List, [], Option, Some, Ok, sym, ap, ◌∙◌, subst}
-use Rattle.std.specs.Prelude.{option_map}
-use Rattle.std.specs.Global.{Vec}
-use Rattle.vpg_configuration.specs.Forms.{exported_in}
+use Rattle.std.proofs.Common.{◌≡◌, ℕ, List, length, map, Some, ap, ap₂, sym, ◌∙◌}
+use Rattle.vpg_configuration.specs.Exports.{configuration_text}
 use Rattle.vpg_configuration.specs.declared.form.ConfigurationForm.{ConfigurationForm}
+use Rattle.vpg_diagram.specs.declared.clause.Literal.{Literal}
 use Rattle.vpg_diagram.specs.DiagramText.{NamedDiagram}
 use Rattle.vpg_game.specs.Game.{NamedGame}
+use Rattle.vpg_guards.specs.declared.tri.Tri.{Tri}
+use Rattle.vpg_measure.specs.Games.{GamesView, ArePageGames}
+use Rattle.vpg_measure.specs.Orders.{OrderView}
+use Rattle.vpg_trail.specs.Page.{Decision, literal_of}
 use Rattle.vpg_script.specs.declared.serving.Ending.{Ending}
 use Rattle.vpg_family.specs.declared.known.Context.{Context}
-use Rattle.vpg_report.specs.Left.{plain}
-use Rattle.vpg_report.specs.Runs.{IsRun}
-use Rattle.vpg_report.specs.Exports.{exporting_script, AreToldProducts, IsExportedAfter}
+use Rattle.vpg_report.specs.Left.{IsLeft}
+use Rattle.vpg_report.specs.Exports.{IsConfiguration, IsExportedAfter}
 
--- devices that hold the script and nothing before the run, and what was written after it
-pub is_told : (diagram : NamedDiagram) (game : NamedGame) (context : Context) (form : ConfigurationForm) (script written : List ℕ) (ending : Ending) (input rest before after : Option (List ℕ))
-    → IsRun plain diagram game context 1 input rest before after (Ok ending)
-    → input ≡ Some (exporting_script form script) → before ≡ Some [] → Some written ≡ after → AreToldProducts diagram game context form script ending written
-is_told diagram game context form script written ending input rest before after run of_script empty is = (
-  rest,
-  subst (λ (i : Option (List ℕ)). IsRun plain diagram game context 1 i rest (Some []) (Some written) (Ok ending)) of_script
-      (subst (λ (b : Option (List ℕ)). IsRun plain diagram game context 1 input rest b (Some written) (Ok ending)) empty
-      (subst (λ (a : Option (List ℕ)). IsRun plain diagram game context 1 input rest before a (Ok ending)) (sym is) run)),
+-- what is known by the games of a page has one value for each name
+pub as_many : (game : NamedGame) (diagram : NamedDiagram) (choices : List Literal) (games : GamesView) (known : List Tri) (names : List (List ℕ)) → ArePageGames game diagram choices games → known ≡ games.known → names ≡ diagram.names →
+    length known ≡ length names
+as_many game diagram choices games known names are k n =
+    ap (λ (ts : List Tri). length ts) k ∙ are.known.length_is ∙ sym (ap (λ (ns : List (List ℕ)). length ns) n ∙ are.is_diagram.each_named)
+
+-- the configuration by the games of a page
+pub configured : (form : ConfigurationForm) (game : NamedGame) (diagram : NamedDiagram) (decisions said : List Decision) (games : GamesView) (known : List Tri) (names : List (List ℕ)) (text : List ℕ) → ArePageGames game diagram (map literal_of decisions) games →
+    text ≡ configuration_text form names known (map literal_of said) → known ≡ games.known → names ≡ diagram.names → said ≡ decisions → IsConfiguration form diagram game decisions text
+configured form game diagram decisions said games known names text are is k n d = (
+  games.known,
+  (
+    are.known,
+    is ∙ ap (λ (ts : List Tri). configuration_text form names ts (map literal_of said)) k
+        ∙ ap₂ (λ (ns : List (List ℕ)) (ds : List Decision). configuration_text form ns games.known (map literal_of ds)) n d,
+  ),
 )
 
-pub exported : (diagram seen : NamedDiagram) (game sighted : NamedGame) (context : Context) (form : ConfigurationForm) (script written shown : List ℕ) (found : Option (Vec ℕ)) (text : Vec ℕ) (ending : Ending)
-    → AreToldProducts seen sighted context form script ending written → option_map (λ (v : Vec ℕ). v.items) found ≡ exported_in form shown → found ≡ Some text
-    → seen ≡ diagram → sighted ≡ game → shown ≡ written → IsExportedAfter diagram game context form script ending text.items
-exported diagram seen game sighted context form script written shown found text ending ran told is d g w = (
-  written,
-  subst (λ (x : NamedDiagram). AreToldProducts x game context form script ending written) d
-      (subst (λ (x : NamedGame). AreToldProducts seen x context form script ending written) g ran),
-  subst (λ (t : List ℕ). exported_in form t ≡ Some text.items) w
-      (sym told ∙ ap (λ (o : Option (Vec ℕ)). option_map (λ (v : Vec ℕ). v.items) o) is),
-)
+-- the page of an order that a script leaves
+pub exported_left : (diagram : NamedDiagram) (game : NamedGame) (context : Context) (script : List ℕ) (ending : Ending) (order : OrderView) (form : ConfigurationForm) (text : List ℕ) → IsLeft diagram game context script ending (Some order) →
+    IsConfiguration form order.diagram order.game order.decisions text → IsExportedAfter diagram game context form script ending text
+exported_left diagram game context script ending order form text is on =
+    let of = is.2 in
+    (is.0, is.1, coe 0 1 (i. IsConfiguration form (of.diagram_is i) (of.game_is i) (of.decisions_are i) text) on)

@@ -1,28 +1,25 @@
 -- The configuration of a family on the page that a script leaves. This project's own.
-use Rattle.std.specs.Prelude.{◌≡◌, ℕ, List, [], ◌∷◌, ◌++◌, Option, Some, Ok}
-use Rattle.vpg_configuration.specs.Forms.{asking, exported_in}
+use Rattle.std.specs.Prelude.{◌≡◌, ℕ, List, [], map}
+use Rattle.vpg_configuration.specs.Exports.{configuration_text}
 use Rattle.vpg_configuration.specs.declared.form.ConfigurationForm.{ConfigurationForm}
 use Rattle.vpg_diagram.specs.DiagramText.{NamedDiagram}
 use Rattle.vpg_game.specs.Game.{NamedGame}
+use Rattle.vpg_trail.specs.Page.{Decision, literal_of, decisions_of}
 use Rattle.vpg_script.specs.declared.serving.Ending.{Ending}
 use Rattle.vpg_family.specs.declared.known.Context.{Context}
-use Rattle.vpg_report.specs.Left.{plain}
-use Rattle.vpg_report.specs.Runs.{IsRun}
+use Rattle.vpg_texts.specs.Scene.{UnderKnown, scene_of}
+use Rattle.vpg_engine.specs.Line.{Between}
+use Rattle.vpg_report.specs.Left.{LeavesBook}
 
--- a script with the lines at its end whose answers tell of a configuration in this form
-abbrev pub exporting_script : ConfigurationForm → List ℕ → List ℕ
-exporting_script form script = script ++ 10 ∷ asking form
+-- the text is the configuration, in this form, of these decisions and of what they make known
+abbrev pub IsConfiguration : ConfigurationForm → NamedDiagram → NamedGame → List Decision → (text : List ℕ) → Type 0
+IsConfiguration form diagram game decisions text =
+    UnderKnown (scene_of [] game diagram) decisions
+    (λ known. text ≡ configuration_text form diagram.names known (map literal_of decisions))
 
--- an office on the family, in this context, writes this for the script's lines and those last lines, by one lifter
-abbrev pub AreToldProducts :
-    NamedDiagram → NamedGame → Context → ConfigurationForm → (script : List ℕ) → Ending → (written : List ℕ) → Type 0
-AreToldProducts diagram game context form script ending written =
-    (rest : Option (List ℕ)) ×
-    IsRun plain diagram game context 1 (Some (exporting_script form script)) rest (Some []) (Some written) (Ok ending)
-
--- The written text ends in the answers to the last lines, and this is the configuration in this form that it tells of.
+-- The text is the configuration, in this form, of the page that the script leaves.
 abbrev pub IsExportedAfter :
     NamedDiagram → NamedGame → Context → ConfigurationForm → (script : List ℕ) → Ending → (text : List ℕ) → Type 0
 IsExportedAfter diagram game context form script ending text =
-    (written : List ℕ) × AreToldProducts diagram game context form script ending written ×
-    (exported_in form written ≡ Some text)
+    (left : Between) × LeavesBook diagram game context script ending left ×
+    IsConfiguration form diagram game (decisions_of left.book.present) text

@@ -16,8 +16,8 @@
 //! `specs/Run` defines how lines change a book, and their answers, over the requests of an engine. `specs/Output` and
 //! `specs/Results` define a run's result. `specs/Runs` defines the text that a run on a family reads and writes, and
 //! how its end is reported. `specs/Winners` defines who wins by the text, `specs/Settling` when a script has one text.
-//! `specs/Left` defines which page a script leaves, and `specs/Draws` how it is drawn. `specs/Exports` defines which
-//! page is exported, and `specs/Ends` the program's exit status. All are this project's own.
+//! `specs/Left` defines which page a script leaves, `specs/Draws` how it is drawn, and `specs/Exports` which
+//! configuration it has. `specs/Ends` defines the program's exit status. All are this project's own.
 //!
 //! Trials: `scripts` and `refusals` of `vpg_examples`.
 #![tactic(auto)]
