@@ -3,7 +3,7 @@
 somewhere, each name that a document cites stands in the code, docs/DEFINITIONS.md is that of specs/ and docs/API.md
 that of src/, no file has more over-long lines than its ceiling allows, the stored play of crates/vpg_play is as an
 independent book answers it, crates.txt has the groups of docs/ARCHITECTURE.md, each crate names only crates above it
-there, each file is laid out.
+there, each module that a proof uses is there, as is each name of the prelude in a clause, each file is laid out.
 
     python3 .ci/quick.py        names each fault, one a line, and exits with 1 where there is one
 
@@ -135,6 +135,35 @@ def of_groups():
             yield f"docs/ARCHITECTURE.md: the crates of the group {group} are not those of crates.txt"
 
 
+def module_of(parts):
+    """The source module in which rattle makes what this path of a definition or proof leads to, or None."""
+    at = next((i for i, it in enumerate(parts) if it[0].isupper() or it == "fn"), len(parts))
+    return parts[: at - 1] if parts[at:] in (["Goals"], ["Given"]) else parts[:at] if parts[at:] else None
+
+
+def of_uses():
+    """Looks for the modules that definitions and proofs use, and for the prelude's names in clauses."""
+    uses = r"^(?:pub )?use Rattle\.(vpg_\w+)\.(specs|proofs)\.([\w.+-]+)"
+    for path in sorted(glob.glob(f"{ROOT}/crates/*/[sp]*/**/*.antt", recursive=True)):
+        for crate, kind, use in re.findall(uses, text_of(path), re.M):
+            parts = use.strip(".").split(".")
+            within, source = f"{ROOT}/crates/{crate}/{kind}/", f"{ROOT}/crates/{crate}/src/"
+            made = module_of(parts[1:] if parts[0] in ("declared", "contracts") else parts)
+            is_made = made == [] or made and os.path.exists(f"{source}{'/'.join(made)}.rt")
+            if not os.path.exists(f"{within}{'/'.join(parts)}.antt") and not is_made:
+                yield f"{os.path.relpath(path, ROOT)}: there is no module {crate}.{kind}.{use}"
+    prelude = r"^ *ghost use Rattle\.std\.specs\.Prelude\.\{(.*)\};"
+    sources = {path: text_of(path) for path in sorted(glob.glob(f"{ROOT}/crates/*/src/**/*.rt", recursive=True))}
+    names = {it for text in sources.values() for line in re.findall(prelude, text, re.M) for it in line.split(", ")}
+    names = {it for it in names if re.fullmatch(r"[A-Z]\w+", it)} - {"Ok", "Err", "Some", "None"}
+    for path, text in sources.items():
+        clauses = " ".join(re.findall(r"^ *(?:requires|ensures)\b([^;{]*\{(?:[^{}]|\{[^{}]*\})*\})", text, re.M))
+        used = " ".join(re.findall(r"^ *ghost use .*", text, re.M)) + " ".join(re.findall(r"\bghost (\w+)", text))
+        named = set(re.findall(r"(?<![.\w])[A-Z]\w+(?![.\w])", clauses))
+        for it in sorted(names & named - set(re.findall(r"\w+", used))):
+            yield f"{os.path.relpath(path, ROOT)}: no use brings {it} of the prelude into scope"
+
+
 def of_layout():
     rt = shutil.which("rt")
     if not rt:
@@ -151,7 +180,7 @@ def of_layout():
 
 
 def main():
-    faults = [*of_edits(), *of_links(), *of_names(), *of_scripts(), *of_groups(), *of_layout()]
+    faults = [*of_edits(), *of_links(), *of_names(), *of_scripts(), *of_groups(), *of_uses(), *of_layout()]
     for it in faults:
         print(f"quick: {it}")
     print(f"quick: {len(faults)} faults" if faults else "quick: ok")
