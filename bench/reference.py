@@ -170,7 +170,9 @@ class File:
         """The head of a type, a trait or an impl."""
         block, kind = BLOCK.match(line), KIND.match(line)
         self.owner, self.trait = (block[2], block[1]) if block else (None, None)
-        if block and block[1]:
+        # (a type of another crate has the name of one of this crate's perhaps)
+        foreign = block and re.search(rf"(?m)^use vpg_\w+::[^;]*\b{block[2]}\b", "\n".join(self.lines))
+        if block and block[1] and not foreign:
             self.traits.append((block[2], block[1]))
         if kind and kind[1] == "trait":
             self.owner, self.trait = kind[2], ""

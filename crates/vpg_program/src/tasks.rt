@@ -11,64 +11,9 @@ use clap::Error;
 use std::alloc::Global;
 use std::sync::Wait;
 use std::thread::Threads;
-use vpg_family::{
-    Fault, Paths, Texts, checked, explained, explained_diagram, explained_set, linted,
-};
+use vpg_family::{Fault, Texts, checked, explained, explained_diagram, explained_set, linted};
 use vpg_report::End;
 use vpg_terminal::{Invocation, ScriptRun, Task, Work};
-
-/// Carries work on the family of some files out, whose texts are kept to explain a fault.
-fn work_out<T: Threads + Wait + Sync>(
-    rt: &HostRuntime,
-    threads: &T,
-    alloc: Global,
-    paths: Paths<'_>,
-    work: &Work<'_>,
-    texts: &mut Texts,
-) -> Result<End, Fault> {
-    match work {
-        Work::Run(run) => run_files(rt, threads, alloc, paths, *run, texts),
-        Work::Desk(talk) => sit(rt, threads, alloc, paths, *talk, texts),
-        Work::Export { script, xml } => {
-            let form = configuration_form(*xml);
-            put_left(rt, exported(rt, threads, alloc, paths, form, script, texts))
-        }
-        Work::Model => {
-            read_into(rt, alloc, paths, texts)?;
-            put_out(rt, &texts.game)
-        }
-        Work::Project { features } => put_made(rt, projected(rt, alloc, paths, features, texts)),
-        Work::Check => {
-            read_into(rt, alloc, paths, texts)?;
-            put_made(rt, checked(alloc, texts))
-        }
-        Work::Lint => {
-            read_into(rt, alloc, paths, texts)?;
-            put_made(rt, linted(alloc, paths, texts))
-        }
-        Work::Draw {
-            picture: _,
-            script,
-            trace: Some(vertex),
-        } => put_left(
-            rt,
-            traced_files(rt, threads, alloc, paths, vertex, *script, texts),
-        ),
-        Work::Draw {
-            picture,
-            script: Some(script),
-            trace: None,
-        } => put_left(
-            rt,
-            drawn_after_files(rt, threads, alloc, paths, *picture, script, texts),
-        ),
-        Work::Draw {
-            picture,
-            script: None,
-            trace: None,
-        } => put_made(rt, pictured(rt, alloc, paths, *picture, texts)),
-    }
-}
 
 /// Carries out the task that was asked for, or prints the message in its place. The texts of its files are kept in
 /// `texts`, to explain a fault.
@@ -86,7 +31,54 @@ pub fn carry_out<T: Threads + Wait + Sync>(
     match task {
         Task::BuiltIn => run_built_in(rt, threads, alloc),
         Task::Diagram { path } => put_made(rt, diagram_text(rt, alloc, path, texts)),
-        Task::Family { paths, work } => work_out(rt, threads, alloc, *paths, work, texts),
+        Task::Family { paths, work } => match work {
+            Work::Run(run) => run_files(rt, threads, alloc, *paths, *run, texts),
+            Work::Desk(talk) => sit(rt, threads, alloc, *paths, *talk, texts),
+            Work::Export { script, xml } => {
+                let form = configuration_form(*xml);
+                put_left(
+                    rt,
+                    exported(rt, threads, alloc, *paths, form, script, texts),
+                )
+            }
+            Work::Model => {
+                read_into(rt, alloc, *paths, texts)?;
+                put_out(rt, &texts.game)
+            }
+            Work::Project { features } => put_made(
+                rt,
+                projected(rt, alloc, *paths, features, texts),
+            ),
+            Work::Check => {
+                read_into(rt, alloc, *paths, texts)?;
+                put_made(rt, checked(alloc, texts))
+            }
+            Work::Lint => {
+                read_into(rt, alloc, *paths, texts)?;
+                put_made(rt, linted(alloc, *paths, texts))
+            }
+            Work::Draw {
+                picture: _,
+                script,
+                trace: Some(vertex),
+            } => put_left(
+                rt,
+                traced_files(rt, threads, alloc, *paths, vertex, *script, texts),
+            ),
+            Work::Draw {
+                picture,
+                script: Some(script),
+                trace: None,
+            } => put_left(
+                rt,
+                drawn_after_files(rt, threads, alloc, *paths, *picture, script, texts),
+            ),
+            Work::Draw {
+                picture,
+                script: None,
+                trace: None,
+            } => put_made(rt, pictured(rt, alloc, *paths, *picture, texts)),
+        },
     }
 }
 

@@ -282,7 +282,10 @@ fn work_of<'a>(
 ) -> Result<Option<Work<'a>>, AllocError> {
     let Files { paths, script, .. } = files;
     match name {
-        "run" => Ok(script.map(|script| Work::Run(run_of(script, matches)))),
+        "run" => match script {
+            Some(script) => Ok(Some(Work::Run(run_of(script, matches)))),
+            None => Ok(None),
+        },
         "desk" => Ok(Some(Work::Desk(Talk {
             lifters: matches.get_one("lifters").unwrap_or(1),
             form: form_of(matches),
