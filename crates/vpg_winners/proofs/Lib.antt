@@ -22,3 +22,4 @@ pub mod MetSets
 pub mod Learned
 pub mod PartLaws
 pub mod Samples
+pub mod Tried

@@ -9,8 +9,9 @@ ghost use Rattle.vpg_winners.specs.Finding.{IsFirstFound, IsSetOfMet};
 ghost use Rattle.vpg_winners.specs.OpenParts.{IsPartOf};
 
 use crate::dividing::Effort;
-use crate::part::{OF_ONE, on_part, order_on, part_of};
+use crate::part::{OF_ONE, edges_of, on_part, order_on, part_of};
 use crate::sampling::{last_of, sampled_for};
+use crate::trying::{Tried, first_tried, not_tried};
 use crate::two_sets::{TwoSets, two_sets};
 use std::alloc::{AllocError, Global};
 use vpg_measure::Order;
@@ -184,6 +185,65 @@ fn first_won(
     }
 }
 
+// The least number of edges of a large part.
+const LARGE: usize = 16_384;
+
+// Whether a part is large, also beside the game: a look at the whole game takes less time than sets do there.
+fn is_large(order: &Order, part: &Reached) -> bool {
+    edges_of(&part.game) > (edges_of(order.game()) / 16).max(LARGE)
+}
+
+// A look at the first product that is left, where the part is large.
+fn tried(
+    alloc: Global,
+    order: &Order,
+    which: Which,
+    vertex: u32,
+    part: &Reached,
+    limits: Limits,
+) -> Result<Tried, AllocError>
+    requires { vertex < length order.now.game.vertices }
+    ensures found { IfOk result (λ tried. IfSome tried.found
+        (IsFound order.now.game order.now.diagram (Aim.Won which vertex) (choices order.now.decisions))) }
+    ensures exact { IfOk result (λ tried. IfSome tried.found IsFoundExact) }
+{
+    if !is_large(order, part) {
+        return Ok(not_tried());
+    }
+    let found = first_tried(alloc, order, which, vertex, limits)?;
+    Ok(found)
+}
+
+// The first product that is won at the vertex, or that there is none: by the first that is left, or by the set of all
+// that are won. Returns nothing if limits are met.
+fn find_first(
+    alloc: Global,
+    order: &Order,
+    which: Which,
+    vertex: u32,
+    part: &Reached,
+    limits: Limits,
+) -> Result<Option<Found>, AllocError>
+    requires vertex { vertex < length order.now.game.vertices }
+    requires part { IsPartOf order.now vertex part.now.game part.now.vertex }
+    ensures found { IfOk result (λ found. IfSome found
+        (IsFound order.now.game order.now.diagram (Aim.Won which vertex) (choices order.now.decisions))) }
+    ensures exact { IfOk result (λ found. IfSome found IsFoundExact) }
+{
+    let Tried { found, is_lost } = tried(alloc, order, which, vertex, part, limits)?;
+    if let Some(found) = found {
+        return Ok(Some(found));
+    }
+    if let Some(met) = met_at(alloc, order, which, vertex, part)? {
+        let found = first_found(alloc, &met.sets, met.set)?;
+        return Ok(Some(found));
+    }
+    if is_lost {
+        return Ok(None);
+    }
+    first_won(alloc, order, which, vertex, part)
+}
+
 // A product that is left and won at the vertex, or that there is none. Returns nothing if the vertex is not open, or a
 // search on the whole game has to show more.
 fn find_at(
@@ -204,11 +264,7 @@ fn find_at(
         Some(part) => part,
         None => return Ok(None),
     };
-    if let Some(met) = met_at(alloc, order, which, vertex, &part)? {
-        let found = first_found(alloc, &met.sets, met.set)?;
-        return Ok(Some(found));
-    }
-    if let Some(found) = first_won(alloc, order, which, vertex, &part)? {
+    if let Some(found) = find_first(alloc, order, which, vertex, &part, limits)? {
         return Ok(Some(found));
     }
     let found = search_part(alloc, order, which, vertex, part, limits)?;
@@ -241,8 +297,8 @@ fn find_open(
 ///
 /// For a vertex that is open on the page the call solves the part of the game that decides it, for all products at
 /// once. If a limit is met it solves it for the first product, and then searches on that part, in a large family with
-/// few trials where it has many edges. If the page's verdict decides, it searches as `vpg_why::find` does. The only
-/// error is a lack of memory.
+/// few trials where it has many edges. If the part is large, it looks at the game for the first product before all
+/// else. If the page's verdict decides, it searches as `vpg_why::find` does. The only error is a lack of memory.
 pub fn find(alloc: Global, order: &Order, aim: Aim, limits: Limits) -> Result<Found, AllocError>
     requires { IsAim order.now.game aim }
     ensures found { IfOk result (IsFound order.now.game order.now.diagram aim (choices order.now.decisions)) }

@@ -37,8 +37,8 @@ use vpg_why::{
     no_findings, none_spared,
 };
 
-// Whether a product has a feature.
-fn chosen(product: &[bool], feature: u16) -> bool
+/// Whether a product has a feature.
+pub(crate) fn chosen(product: &[bool], feature: u16) -> bool
     ensures { result ≡ slice_index_or product.now feature false }
 {
     match product.get(feature as usize) {

@@ -16,8 +16,9 @@
 //!
 //! If a limit is met, or there are no sets, each call searches, and on that part where it can; there are no findings of
 //! one player then, and `winners` counts no products. Before that a few products are solved on the part, which often
-//! show what is asked. A search goes over features that are not known, cut off by the
-//! verdicts of each trial (`vpg_why`). Parity games are determined (`vpg_determined`): so a product in which Even has
+//! show what is asked. Where that part is large, `find` and `why_lost` look at the game for the first product alone
+//! before they make sets. A search goes over features that are not known, cut off by the verdicts of each trial
+//! (`vpg_why`). Parity games are determined (`vpg_determined`): so a product in which Even has
 //! no strategy is won by Odd. A search that met a limit is reported as unsettled, and never wrong.
 //!
 //! Definitions: `specs/Decided` (the winners in the products that are left), `specs/Winners` (the parts, and the rule
@@ -44,6 +45,7 @@ mod sampling;
 mod solving;
 mod splitting;
 mod standing;
+mod trying;
 mod two_sets;
 
 pub use deciding::{Decided, decide};
