@@ -27,6 +27,7 @@ use Rattle.vpg_looks.specs.Edges.{TellsEdges}
 use Rattle.vpg_looks.specs.Looked.{IsCountAnswer, TellsClaims}
 use Rattle.vpg_looks.specs.Meanings.{IsDoubtfulIf, Meaning, Seen, Sight, answered, equal, searched, shown}
 use Rattle.vpg_looks.specs.Parts.{TellsPart}
+use Rattle.vpg_looks.specs.Uses.{TellsUses}
 use Rattle.vpg_looks.proofs.Asserted.{exact_one}
 use Rattle.vpg_looks.proofs.Looked.{claims_one, count_one}
 use Rattle.vpg_looks.proofs.OneEdges.{edges_one}
@@ -37,6 +38,7 @@ use Rattle.vpg_looks.proofs.OneParts.{tells_part_one}
 use Rattle.vpg_looks.proofs.OneReasons.{choice_one, example_one, feature_one, lost_one, vertex_one}
 use Rattle.vpg_looks.proofs.OneRepairs.{forced_one, repair_one}
 use Rattle.vpg_looks.proofs.OneTraces.{traced_one}
+use Rattle.vpg_looks.proofs.OneUses.{uses_one}
 use Rattle.vpg_looks.proofs.OneWinners.{tells_decided_one, tells_winners_one}
 use Rattle.vpg_answers.specs.Topics.{Topic, OfPage, OfVertex, OfVertices, OfClaims, OfFeature, OfChoice, feature_takes_order, page_takes_order, takes_order}
 
@@ -140,6 +142,8 @@ feature_meaning feature_looks.Why feature =
     answered (λ s limits. TellsFeature s.scene feature s.page.decisions)
     (λ s limits others is one other a b sure also.
     feature_one s.scene limits others s.page.decisions is.diagram is.named feature one other a b)
+feature_meaning feature_looks.Uses feature =
+    shown (λ s. TellsUses s.scene feature) (λ s. uses_one s.scene feature)
 
 -- the meaning of any look
 abbrev pub meaning : Option Behaviour → (topic : Topic) → Meaning (takes_order topic)

@@ -97,6 +97,7 @@ page_takes_order _ = false
 abbrev pub feature_takes_order : FeatureLook → Bool
 feature_takes_order feature_looks.Known = false
 feature_takes_order feature_looks.Why = true
+feature_takes_order feature_looks.Uses = true
 
 -- whether a topic's answer takes an order, and searches; else it takes the page with its games
 abbrev pub takes_order : Topic → Bool

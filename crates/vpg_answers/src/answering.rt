@@ -1,5 +1,5 @@
 //! Answers that take an order of the page, and search.
-ghost use Rattle.std.specs.Prelude.{ℕ, ◌≡◌, ◌<◌, List, length, true, IfOk};
+ghost use Rattle.std.specs.Prelude.{◌≡◌, ◌<◌, length, true, IfOk};
 ghost use Rattle.vpg_answers.specs.Told.{IsTold, TellsOfFeature, TellsOfPage, TellsOfVertex};
 ghost use Rattle.vpg_answers.specs.Topics.{HasItsSystem, IsWithin, TopicHasSystem, feature_takes_order, page_takes_order, takes_order, topic_shown};
 ghost use Rattle.vpg_diagram.specs.FeatureDiagram.{feature_count};
@@ -13,7 +13,7 @@ use vpg_checking::Behaviour;
 use vpg_game::VertexNames;
 use vpg_looks::{
     asserting, deciding, drawing, edges, examples, losses, needs, numbers, offers, reasons,
-    repairs, traces, winners, winning,
+    repairs, traces, uses, winners, winning,
 };
 use vpg_measure::Order;
 use vpg_script::{FeatureLook, PageLook, Tone, VertexLook};
@@ -99,18 +99,20 @@ fn of_page(
 fn of_feature(
     alloc: Global,
     order: &Order,
+    labels: &VertexNames,
     look: FeatureLook,
     feature: u16,
     out: &mut Vec<u8>,
 ) -> Result<Tone, AllocError>
     requires order { feature_takes_order look ≡ true }
     requires feature { feature < feature_count order.now.diagram.lines }
-    ensures { (names : List (List ℕ)) (limits : Limits) → IfOk result (λ tone. Gives
-        (TellsOfFeature (scene_of names order.now.game order.now.diagram) limits look feature
+    ensures { (limits : Limits) → IfOk result (λ tone. Gives
+        (TellsOfFeature (scene_of labels.now.names order.now.game order.now.diagram) limits look feature
         (ordered_sight order.now.decisions order.now.hopeful order.now.dual)) tone out.old.items out.new.items) }
 {
     match look {
         FeatureLook::Why => reasons::feature(alloc, order, feature, out),
+        FeatureLook::Uses => uses::put_uses(alloc, order, labels, feature, out),
         FeatureLook::Known => unreachable!(),
     }
 }
@@ -141,7 +143,9 @@ fn told(
         Topic::OfVertex(look, vertex) => of_vertex(
             alloc, order, labels, behaviour, *look, *vertex, limits, out,
         ),
-        Topic::OfFeature(look, feature) => of_feature(alloc, order, *look, *feature, out),
+        Topic::OfFeature(look, feature) => {
+            of_feature(alloc, order, labels, *look, *feature, out)
+        }
         Topic::OfChoice { feature, value } => {
             reasons::choice(alloc, order, *feature, *value, out)
         }

@@ -90,7 +90,7 @@ fn of_feature(
 {
     match look {
         FeatureLook::Known => done(put_known(alloc, games, diagram, feature, out)),
-        FeatureLook::Why => unreachable!(),
+        FeatureLook::Why | FeatureLook::Uses => unreachable!(),
     }
 }
 

@@ -167,7 +167,7 @@ pub fn takes_order(topic: &Topic) -> bool
     match topic {
         Topic::OfPage(PageLook::Forced | PageLook::Empty | PageLook::Number)
         | Topic::OfVertex(_, _)
-        | Topic::OfFeature(FeatureLook::Why, _)
+        | Topic::OfFeature(FeatureLook::Why | FeatureLook::Uses, _)
         | Topic::OfChoice { .. } => true,
         Topic::OfPage(_)
         | Topic::OfVertices(_)

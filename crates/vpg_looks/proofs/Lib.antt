@@ -11,6 +11,7 @@ pub mod OneParts
 pub mod OneReasons
 pub mod OneRepairs
 pub mod OneTraces
+pub mod OneUses
 pub mod OneWinners
 pub mod Parting
 pub mod Pictures
@@ -18,3 +19,4 @@ pub mod Repairing
 pub mod Telling
 pub mod Told
 pub mod Trying
+pub mod Using

@@ -9,4 +9,5 @@ pub mod Parts
 pub mod Repairs
 pub mod Room
 pub mod Texts
+pub mod Uses
 pub mod Winners

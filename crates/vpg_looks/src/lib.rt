@@ -14,7 +14,7 @@
 //! `unsettled` a fact that was not shown.
 //!
 //! Texts are defined in `specs/Texts`, and their meaning for a page in `specs/Answers`, `specs/Offers`,
-//! `specs/Repairs`, `specs/Parts`, `specs/Numbers`, `specs/Winners`, `specs/Edges`, `specs/Asserted` and
+//! `specs/Repairs`, `specs/Parts`, `specs/Numbers`, `specs/Winners`, `specs/Edges`, `specs/Uses`, `specs/Asserted` and
 //! `specs/Looked`, with the room of limits in `specs/Room`. All are this project's own.
 #![tactic(auto)]
 
@@ -35,5 +35,6 @@ pub mod reasons;
 pub mod repairs;
 mod retracting;
 pub mod traces;
+pub mod uses;
 pub mod winners;
 pub mod winning;

@@ -4,7 +4,7 @@ use Rattle.std.specs.Prelude.{is_some}
 use Rattle.vpg_features.specs.Names.{index_of}
 use Rattle.vpg_script.specs.Calling.{meant, meant_command, meant_feature, meant_look, meant_name, meant_vertex}
 use Rattle.vpg_script.specs.declared.look.FeatureLook.{FeatureLook}
-use Rattle.vpg_script.specs.declared.look.FeatureLook.TheVariants.{Known, Why}
+use Rattle.vpg_script.specs.declared.look.FeatureLook.TheVariants.{Known, Uses, Why}
 use Rattle.vpg_script.specs.Script as script
 use Rattle.vpg_script.specs.Script.{Request}
 
@@ -22,6 +22,7 @@ none_name false name = refl
 
 none_feature : (features : List (List ℕ)) (look : FeatureLook) (name : List ℕ) → meant_feature [] features look name ≡ script.OfFeature look name
 none_feature features Known name = refl
+none_feature features Uses name = refl
 none_feature features Why name = none_name (is_some (index_of features name)) name
 
 none_look : (features : List (List ℕ)) (look : script.Look) → meant_look [] features look ≡ look

@@ -3,7 +3,7 @@ use Rattle.std.specs.Prelude.{◌≡◌, ℕ, Bool, not, ◌||◌, ◌==◌, if�
 use Rattle.std.specs.List.{find, list_all, list_any}
 use Rattle.vpg_features.specs.Names.{index_of}
 use Rattle.vpg_script.specs.declared.look.FeatureLook.{FeatureLook}
-use Rattle.vpg_script.specs.declared.look.FeatureLook.TheVariants.{Known, Why}
+use Rattle.vpg_script.specs.declared.look.FeatureLook.TheVariants.{Known, Uses, Why}
 use Rattle.vpg_script.specs.declared.look.VertexLook.TheVariants as vertex_looks
 use Rattle.vpg_script.specs.Script.{Vertex, Numbered, Named, Look, OfPage, OfVertex, OfVertices, OfClaims, OfFeature, OfChoice, Command, Lift, Looks, Request}
 
@@ -58,6 +58,7 @@ meant_name is_feature is_vertex callings name =
 -- a look at a feature, over these features: only `why` has a second meaning
 abbrev pub meant_feature : List Calling → List (List ℕ) → FeatureLook → List ℕ → Look
 meant_feature callings features Known name = OfFeature Known name
+meant_feature callings features Uses name = OfFeature Uses name
 meant_feature callings features Why name =
     meant_name (is_some (index_of features name)) (calls callings name) callings name
 

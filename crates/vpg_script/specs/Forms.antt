@@ -118,6 +118,7 @@ forms =
     page_look (codes "empty") page_looks.Empty ∷
     page_look (codes "number") page_looks.Number ∷
     vertex_look (codes "edges") vertex_looks.Edges ∷
+    feature_look (codes "uses") feature_looks.Uses ∷
     []
 
 -- whether this word names the form

@@ -447,6 +447,16 @@ const FORMS: &[CommandForm] = &[
                          every product left, or in none",
         ..PLAIN
     },
+    CommandForm {
+        word: "uses",
+        written: "uses F",
+        parameters: &[Parameter::Feature],
+        least: 1,
+        of_feature: Some(FeatureLook::Uses),
+        help: "
+  uses F                 the edges whose guard names F, and how many there are",
+        ..PLAIN
+    },
 ];
 
 /// Returns the forms of all commands, in the order of their help.

@@ -86,6 +86,8 @@ pub enum FeatureLook {
     Known,
     /// Why it is known, or else why the vertex of its name has its verdicts.
     Why,
+    /// The edges whose guard names F, and how many there are.
+    Uses,
 }
 
 /// A look at the page. Names stand in the line that was read.

@@ -67,6 +67,7 @@ fn meant_feature<'t>(
 {
     match look {
         FeatureLook::Known => Look::OfFeature(look, name),
+        FeatureLook::Uses => Look::OfFeature(look, name),
         FeatureLook::Why => meant_name(callings, features, name),
     }
 }

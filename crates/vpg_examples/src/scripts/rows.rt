@@ -565,7 +565,7 @@ static PRODUCTS_LEFT: [Row; 2] = [
     },
 ];
 
-static KNOWN: [Row; 2] = [
+static KNOWN: [Row; 3] = [
     Row {
         diagram: DIAGRAM,
         game: GAME,
@@ -580,6 +580,16 @@ static KNOWN: [Row; 2] = [
         game: DOT,
         script: "known c / select a / known c / known b / retract a / known c",
         answers: "open c / done 1 / in c / out b / done 2 / open c",
+    },
+    // A guard that names a feature in vain uses it, a successor that is named twice is one edge, and decisions make no
+    // difference.
+    Row {
+        diagram: "root r\noptional r a\noptional r b\nexcludes a b\n",
+        game: "5 1 0 3[a],5[!a | b],3[b],4[a & !a]; 3 2 0; 4 0 1 5[b & false],4;",
+        script: "uses a / uses b / uses r / select a / uses b / uses c",
+        answers: "\
+            use 5 3 / use 5 5 / use 5 4 / uses 3 / use 5 3 / use 5 5 / use 4 5 / uses 3 / uses 0 / done 1 / use 5 3 / \
+            use 5 5 / use 4 5 / uses 3 / refused UnknownFeature",
     },
 ];
 

@@ -93,7 +93,7 @@ pub(super) fn answers_lines<T: Threads + Wait + Sync>(rt: &T, alloc: Global) -> 
 }
 
 /// Lines with words that their command doesn't take.
-static ARGS: [&str; 44] = [
+static ARGS: [&str; 46] = [
     "settle 1000000001",
     "lift hopeful 4294967296",
     "keep 18446744073709551616",
@@ -138,6 +138,8 @@ static ARGS: [&str; 44] = [
     "select 9",
     "edges",
     "edges 0 1",
+    "uses",
+    "uses +f",
 ];
 
 /// Lines with a first word that is no command, or a label that is none.

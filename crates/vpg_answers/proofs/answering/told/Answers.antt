@@ -24,7 +24,7 @@ returns-in-OfFeature c =
     let order = c.args.order.now in
     told_as (scene_of c.args.labels.now.names order.game order.diagram) (ordered_sight order.decisions order.hopeful order.dual)
     c.game-order.ensures.order.diagram.diagram c.game-order.ensures.order.named c.args.behaviour.now c.args.limits c.of_feature.result (OfFeature c.in-OfFeature.look c.in-OfFeature.feature) (topic_shown c.args.topic.now) (ap topic_shown (sym c.in-OfFeature.is))
-    c.args.out.now.items c.of_feature.new.out.items (c.of_feature.ensures c.args.labels.now.names c.args.limits)
+    c.args.out.now.items c.of_feature.new.out.items (c.of_feature.ensures c.args.limits)
 
 pub returns-in-OfChoice : goal.returns-in-OfChoice
 returns-in-OfChoice c =
