@@ -13,9 +13,8 @@
 //! lines to which others may belong, or a number that may be greater; `some product` one that need not be the first;
 //! `unsettled` a fact that was not shown.
 //!
-//! Texts are defined in `specs/Texts`, and their meaning for a page in `specs/Answers`, `specs/Offers`,
-//! `specs/Repairs`, `specs/Parts`, `specs/Numbers`, `specs/Winners`, `specs/Edges`, `specs/Uses`, `specs/Asserted` and
-//! `specs/Looked`, with the room of limits in `specs/Room`. All are this project's own.
+//! Texts are defined in `specs/Texts`, and their meaning for a page in `specs/Answers`, or both in a look's own file of
+//! `specs/`; the room of limits in `specs/Room`. All are this project's own.
 #![tactic(auto)]
 
 pub mod asserting;

@@ -29,11 +29,11 @@ use Rattle.vpg_engine.specs.declared.fault.ClientFault.TheVariants.{LogFull}
 use Rattle.vpg_engine.specs.Engine.{EngineState, IsOpenFault, between_of, engine_of}
 use Rattle.vpg_engine.specs.Line.{Between, begun}
 use Rattle.vpg_report.specs.Run.{answering_called, called_by, called_in}
-use Rattle.vpg_report.specs.Runs.{TellsOpening}
+use Rattle.vpg_report.specs.Runs.{TellsStop}
 use Rattle.vpg_report.specs.Results.{IsOpenRefusal}
 use Rattle.vpg_report.specs.Left.{plain, IsHanded, IsLeft, IsOrderOn, IsRunStopped, IsStopped, IsUnleft}
 use Rattle.vpg_report.proofs.Results.{opens as opened, outcome_as}
-use Rattle.vpg_report.proofs.RunEnds.{nothing_ran, run_of_opening}
+use Rattle.vpg_report.proofs.RunEnds.{nothing_ran, run_of_stop, root_of_run}
 
 -- ---- the order
 
@@ -158,10 +158,8 @@ module _ (diagram : NamedDiagram) (game : NamedGame) (context : Context) (script
   pub unleft_memory : Unleft told.Memory
   unleft_memory = inl out_of_memory
 
-  pub unleft_opening : (fault : OpenFault) (said : Fault) → Stops (stops.Open fault) → TellsOpening diagram.names fault said → Unleft said
-  unleft_opening fault said (rest, ends) tells = inl (rest, run_of_opening plain diagram game context 1 (Some script) rest None None fault said ends tells)
+  pub unleft_stop : (stop : RunFault) (said : Fault) → Stops stop → TellsStop diagram.names stop said → Unleft said
+  unleft_stop stop said (rest, ends) tells = inl (rest, run_of_stop plain diagram game context 1 (Some script) rest None None stop said ends tells)
 
-  pub root_of : (fault : OpenFault) → Stops (stops.Open fault) → (f : ℕ) → fault ≡ opens.Conflict f → f ≡ 0
-  root_of opens.AtLimit stop f e = absurd cc
-  root_of (opens.Conflict n) (rest, ends) f e = let same : n ≡ f = cc in subst (λ (k : ℕ). k ≡ 0) same ends.answered.0.2
-  root_of opens.Memory stop f e = absurd cc
+  pub root_of : (stop : RunFault) → Stops stop → (f : ℕ) → stop ≡ stops.Open (opens.Conflict f) → f ≡ 0
+  root_of stop (rest, ends) = root_of_run plain diagram game context 1 (Some script) rest None None stop ends

@@ -11,8 +11,9 @@ use Rattle.vpg_script.specs.Output.{ReadKnown}
 use Rattle.vpg_script.specs.declared.serving.Manner.{Manner}
 use Rattle.vpg_engine.specs.Line.{begun}
 use Rattle.vpg_family.specs.declared.known.Context.{Context}
+use Rattle.vpg_script.specs.declared.fault.RunFault.{RunFault}
 use Rattle.vpg_script.specs.declared.fault.RunFault.TheVariants as stops
-use Rattle.vpg_report.specs.Runs.{TellsOpening, Ends, IsRun}
+use Rattle.vpg_report.specs.Runs.{TellsOpening, TellsStop, Ends, IsRun}
 use Rattle.vpg_family.specs.declared.fault.Fault.{Fault}
 use Rattle.vpg_family.specs.declared.fault.Fault.TheVariants as told
 
@@ -37,22 +38,44 @@ unchanged manner diagram game context lifters script rest before after read writ
     subst (λ (r : Option (List ℕ)). Ends manner diagram game context lifters script r before after (Err stops.Memory)) (sym read)
     (subst (λ (a : Option (List ℕ)). Ends manner diagram game context lifters script script before a (Err stops.Memory)) (sym written) (nothing_ran manner diagram game context lifters script before))
 
--- a conflict is that of the root
-pub conflict_of_root : (manner : Manner) (diagram : NamedDiagram) (game : NamedGame) (context : Context) (lifters : ℕ) (script rest before after : Option (List ℕ)) (fault : OpenFault) → Ends manner diagram game context lifters script rest before after (Err (stops.Open fault))
-    → (f : ℕ) → fault ≡ opens.Conflict f → f ≡ 0
-conflict_of_root manner diagram game context lifters script rest before after opens.AtLimit ends f e = absurd cc
-conflict_of_root manner diagram game context lifters script rest before after (opens.Conflict n) ends f e = let same : n ≡ f = cc in subst (λ (k : ℕ). k ≡ 0) same ends.answered.0.2
-conflict_of_root manner diagram game context lifters script rest before after opens.Memory ends f e = absurd cc
+module _ (manner : Manner) (diagram : NamedDiagram) (game : NamedGame) (context : Context) (lifters : ℕ) (script rest before after : Option (List ℕ)) where
+  abbrev Stops : RunFault → Type 0
+  Stops stop = Ends manner diagram game context lifters script rest before after (Err stop)
 
--- a refused opening
-pub run_of_opening : (manner : Manner) (diagram : NamedDiagram) (game : NamedGame) (context : Context) (lifters : ℕ) (script rest before after : Option (List ℕ)) (fault : OpenFault) (said : Fault) → Ends manner diagram game context lifters script rest before after (Err (stops.Open fault))
-    → TellsOpening diagram.names fault said → IsRun manner diagram game context lifters script rest before after (Err said)
-run_of_opening manner diagram game context lifters script rest before after opens.AtLimit said ends is = subst (λ (f : Fault). IsRun manner diagram game context lifters script rest before after (Err f)) (sym is) ends
-run_of_opening manner diagram game context lifters script rest before after (opens.Conflict f) (told.Conflict name) ends is =
-    let root = ends.answered.0.2 in (
-      subst (λ (n : ℕ). Ends manner diagram game context lifters script rest before after (Err (stops.Open (opens.Conflict n)))) root ends,
-      subst (λ (n : ℕ). slice_get diagram.names n ≡ Some (string_bytes name)) root is,
-    )
-run_of_opening manner diagram game context lifters script rest before after (opens.Conflict f) told.Memory ends is = unchanged manner diagram game context lifters script rest before after ends.answered.1 ends.answered.2
-run_of_opening manner diagram game context lifters script rest before after (opens.Conflict f) _ ends is = absurd is
-run_of_opening manner diagram game context lifters script rest before after opens.Memory said ends is = absurd ends.answered.0
+  abbrev Told : Fault → Type 0
+  Told fault = IsRun manner diagram game context lifters script rest before after (Err fault)
+
+  -- a conflict is that of the root
+  root_of_opening : (why : OpenFault) → Stops (stops.Open why) → (f : ℕ) → stops.Open why ≡ stops.Open (opens.Conflict f) → f ≡ 0
+  root_of_opening opens.AtLimit ends f e = absurd cc
+  root_of_opening (opens.Conflict n) ends f e = let same : n ≡ f = cc in subst (λ (k : ℕ). k ≡ 0) same ends.answered.0.2
+  root_of_opening opens.Memory ends f e = absurd cc
+
+  pub root_of_run : (stop : RunFault) → Stops stop → (f : ℕ) → stop ≡ stops.Open (opens.Conflict f) → f ≡ 0
+  root_of_run (stops.Open why) ends f e = root_of_opening why ends f e
+  root_of_run (stops.Line n what) ends f e = absurd cc
+  root_of_run stops.Read ends f e = absurd cc
+  root_of_run stops.Write ends f e = absurd cc
+  root_of_run stops.Memory ends f e = absurd cc
+  root_of_run stops.Stray ends f e = absurd cc
+
+  -- a refused opening
+  of_opening : (why : OpenFault) (said : Fault) → Stops (stops.Open why) → TellsOpening diagram.names why said → Told said
+  of_opening opens.AtLimit said ends is = subst Told (sym is) ends
+  of_opening (opens.Conflict f) (told.Conflict name) ends is =
+      let root = ends.answered.0.2 in (
+        subst (λ (n : ℕ). Stops (stops.Open (opens.Conflict n))) root ends,
+        subst (λ (n : ℕ). slice_get diagram.names n ≡ Some (string_bytes name)) root is,
+      )
+  of_opening (opens.Conflict f) told.Memory ends is = unchanged manner diagram game context lifters script rest before after ends.answered.1 ends.answered.2
+  of_opening (opens.Conflict f) _ ends is = absurd is
+  of_opening opens.Memory said ends is = absurd ends.answered.0
+
+  -- the result of a run that stopped
+  pub run_of_stop : (stop : RunFault) (said : Fault) → Stops stop → TellsStop diagram.names stop said → Told said
+  run_of_stop (stops.Open why) said ends is = of_opening why said ends is
+  run_of_stop (stops.Line n what) said ends is = subst Told (sym is) ends
+  run_of_stop stops.Read said ends is = subst Told (sym is) ends
+  run_of_stop stops.Write said ends is = subst Told (sym is) ends
+  run_of_stop stops.Memory said ends is = subst Told (sym is) ends
+  run_of_stop stops.Stray said ends is = subst Told (sym is) ends

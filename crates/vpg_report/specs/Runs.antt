@@ -25,6 +25,15 @@ TellsOpening names opens.AtLimit fault = fault ≡ told.AtLimit
 TellsOpening names (opens.Conflict f) fault = TellsConflict names f fault
 TellsOpening names opens.Memory fault = fault ≡ told.Memory
 
+-- the fault that reports how a run stopped
+abbrev pub TellsStop : List (List ℕ) → RunFault → Fault → Type 0
+TellsStop names (stops.Line n what) fault = fault ≡ told.Line n what
+TellsStop names stops.Read fault = fault ≡ told.Read
+TellsStop names stops.Write fault = fault ≡ told.Write
+TellsStop names (stops.Open why) fault = TellsOpening names why fault
+TellsStop names stops.Memory fault = fault ≡ told.Memory
+TellsStop names stops.Stray fault = fault ≡ told.Stray
+
 -- An office on the family answered the lines that were read, in this manner and context and with this many lifters, and
 -- ended so. The texts read and written are known if the devices report them.
 pub record Ends (manner : Manner) (diagram : NamedDiagram) (game : NamedGame) (context : Context) (lifters : ℕ)

@@ -8,7 +8,7 @@ ghost use Rattle.vpg_report.specs.Run.{answering_called, called_by};
 ghost use Rattle.vpg_script.specs.Manners.{Leaves};
 
 use crate::answering::Answering;
-use crate::running::not_opened;
+use crate::running::stopped;
 use crate::runs::end_engine;
 use std::alloc::Global;
 use std::marker::Brand;
@@ -107,13 +107,9 @@ fn handed<L: Terms, R: Wait>(
 ) -> Result<(Ending, Option<Order>), RunFault>
     ensures { IsHanded L.game L.diagram (between_of engine.old) run result }
 {
-    match run {
-        Ok(ending) => match present(rt, alloc, engine) {
-            Ok(order) => Ok((ending, order)),
-            Err(fault) => Err(fault),
-        },
-        Err(fault) => Err(fault),
-    }
+    let ending = run?;
+    let order = present(rt, alloc, engine)?;
+    Ok((ending, order))
 }
 
 /// Carries a script out at an office with this row and this ledger, which `L` names. Returns its end with an order of
@@ -196,11 +192,6 @@ pub(crate) fn page_after<T: Threads + Wait + Sync>(
             Some(order) => Ok((ending, order)),
             None => Err(Fault::LogFull),
         },
-        Err(RunFault::Line { line, fault }) => Err(Fault::Line { line, fault }),
-        Err(RunFault::Read) => Err(Fault::Read),
-        Err(RunFault::Write) => Err(Fault::Write),
-        Err(RunFault::Open { fault }) => Err(not_opened(alloc, &family.diagram, fault)),
-        Err(RunFault::Memory) => Err(Fault::Memory),
-        Err(RunFault::Stray) => Err(Fault::Stray),
+        Err(stop) => Err(stopped(alloc, &family.diagram, stop)),
     }
 }

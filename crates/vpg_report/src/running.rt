@@ -2,7 +2,7 @@
 ghost use Rattle.std.specs.Arc.{arc_value};
 ghost use Rattle.std.specs.Prelude.{◌≡◌, ◌≤◌, ◌⊎◌, ℕ, true, IsErrOf};
 ghost use Rattle.vpg_diagram.specs.FeatureDiagram.{feature_count};
-ghost use Rattle.vpg_report.specs.Runs.{TellsOpening, IsRun, UnlessScriptFails, UnlessOutputFails};
+ghost use Rattle.vpg_report.specs.Runs.{TellsStop, IsRun, UnlessScriptFails, UnlessOutputFails};
 
 use crate::runs::run_there;
 use std::alloc::Global;
@@ -15,15 +15,22 @@ use vpg_family::{Context, Family, Fault, conflict};
 use vpg_office::Site;
 use vpg_script::{Ending, Manner, RunFault, Sink, Source};
 
-/// Returns the fault that reports a refused opening. A conflict names the root.
-pub(crate) fn not_opened(alloc: Global, diagram: &Diagram, fault: OpenFault) -> Fault
-    requires root { (f : ℕ) → fault ≡ OpenFault.Conflict f → f ≡ 0 }
-    ensures { TellsOpening diagram.now.names fault result }
+/// Returns the fault that reports how a run stopped. A conflict names the root.
+pub(crate) fn stopped(alloc: Global, diagram: &Diagram, stop: RunFault) -> Fault
+    requires root { (f : ℕ) → stop ≡ RunFault.Open (OpenFault.Conflict f) → f ≡ 0 }
+    ensures { TellsStop diagram.now.names stop result }
 {
-    match fault {
-        OpenFault::AtLimit => Fault::AtLimit,
-        OpenFault::Conflict { feature } => conflict(alloc, diagram, feature),
-        OpenFault::Memory => Fault::Memory,
+    match stop {
+        RunFault::Line { line, fault } => Fault::Line { line, fault },
+        RunFault::Read => Fault::Read,
+        RunFault::Write => Fault::Write,
+        RunFault::Open { fault } => match fault {
+            OpenFault::AtLimit => Fault::AtLimit,
+            OpenFault::Conflict { feature } => conflict(alloc, diagram, feature),
+            OpenFault::Memory => Fault::Memory,
+        },
+        RunFault::Memory => Fault::Memory,
+        RunFault::Stray => Fault::Stray,
     }
 }
 
@@ -73,11 +80,6 @@ pub fn run_script<T: Threads + Wait + Sync, R: Source, W: Sink>(
         manner,
     ) {
         Ok(ending) => Ok(ending),
-        Err(RunFault::Line { line, fault }) => Err(Fault::Line { line, fault }),
-        Err(RunFault::Read) => Err(Fault::Read),
-        Err(RunFault::Write) => Err(Fault::Write),
-        Err(RunFault::Open { fault }) => Err(not_opened(alloc, &diagram, fault)),
-        Err(RunFault::Memory) => Err(Fault::Memory),
-        Err(RunFault::Stray) => Err(Fault::Stray),
+        Err(stop) => Err(stopped(alloc, &diagram, stop)),
     }
 }

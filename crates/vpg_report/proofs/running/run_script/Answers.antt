@@ -2,9 +2,8 @@ use Rattle.std.proofs.Common.{Err, subst, ◌∙◌}
 use Rattle.std.specs.Arc.{arc_value}
 use Rattle.std.proofs.lemmas.Result.{err_from_is_err_and}
 use Rattle.vpg_diagram.specs.DiagramText.{NamedDiagram}
-use Rattle.vpg_script.specs.declared.fault.RunFault.{RunFault}
-use Rattle.vpg_report.specs.Runs.{TellsOpening, Ends}
-use Rattle.vpg_report.proofs.RunEnds.{nothing_ran, run_of_opening}
+use Rattle.vpg_report.specs.Runs.{TellsStop}
+use Rattle.vpg_report.proofs.RunEnds.{nothing_ran, root_of_run, run_of_stop}
 use Rattle.vpg_report.proofs.running.run_script.Goals as goal
 
 pub returns-in_err-diagram-clause-output : goal.returns-in_err-diagram-clause-output
@@ -16,15 +15,16 @@ pub returns-in_default-clause-output : goal.returns-in_default-clause-output
 returns-in_default-clause-output g c =
     nothing_ran c.args.manner (arc_value c.args.family.diagram) (arc_value c.args.family.game) c.args.context.now c.args.lifters (g.R.Source.remaining c.args.reader.now) (g.W.Sink.contents c.args.writer.now)
 
-pub returns-in-Err-Open-clause-output : goal.returns-in-Err-Open-clause-output
-returns-in-Err-Open-clause-output g c =
-    run_of_opening c.args.manner (arc_value c.args.family.diagram) (arc_value c.args.family.game) c.args.context.now c.args.lifters
+pub stopped-requires : goal.stopped-requires
+stopped-requires g c = record {
+  root = root_of_run c.args.manner (arc_value c.args.family.diagram) (arc_value c.args.family.game) c.args.context.now c.args.lifters
+      (g.R.Source.remaining c.args.reader.now) (g.R.Source.remaining c.run_there.new.reader) (g.W.Sink.contents c.args.writer.now) (g.W.Sink.contents c.run_there.new.writer)
+      c.in-Err.stop (record { answered = c.in-Err.ensures.output; opened = c.in-Err.ensures.opened });
+}
+
+pub returns-clause-output : goal.returns-clause-output
+returns-clause-output g c =
+    run_of_stop c.args.manner (arc_value c.args.family.diagram) (arc_value c.args.family.game) c.args.context.now c.args.lifters
     (g.R.Source.remaining c.args.reader.now) (g.R.Source.remaining c.run_there.new.reader) (g.W.Sink.contents c.args.writer.now) (g.W.Sink.contents c.run_there.new.writer)
-    c.in-Err-Open.fault c.not_opened.result
-    (subst
-    (λ (f : RunFault).
-    Ends c.args.manner (arc_value c.args.family.diagram) (arc_value c.args.family.game) c.args.context.now c.args.lifters
-    (g.R.Source.remaining c.args.reader.now) (g.R.Source.remaining c.run_there.new.reader) (g.W.Sink.contents c.args.writer.now) (g.W.Sink.contents c.run_there.new.writer) (Err f))
-    c.in-Err-Open.field-0-is
-    (record { answered = c.in-Err-Open.ensures.output; opened = c.in-Err-Open.ensures.opened }))
-    (subst (λ (d : NamedDiagram). TellsOpening d.names c.in-Err-Open.fault c.not_opened.result) (c.deref.ensures ∙ c.in_ok-diagram.ensures.cases) c.not_opened.ensures)
+    c.in-Err.stop c.stopped.result (record { answered = c.in-Err.ensures.output; opened = c.in-Err.ensures.opened })
+    (subst (λ (d : NamedDiagram). TellsStop d.names c.in-Err.stop c.stopped.result) (c.deref.ensures ∙ c.in_ok-diagram.ensures.cases) c.stopped.ensures)
