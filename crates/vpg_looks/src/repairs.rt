@@ -19,7 +19,7 @@ use vpg_measure::Order;
 use vpg_partial::Decision;
 use vpg_script::{Tone, done};
 use vpg_sides::Which;
-use vpg_why::{Limits, Shown, order_under, why_within};
+use vpg_why::{Limits, Shown, looks_for_decisions, order_under, why_within};
 
 fn is_winning(t: &Tried) -> bool
     ensures { result ≡ is_winning t.now.effect }
@@ -312,7 +312,7 @@ pub fn repairs_at(
         (IsDone (TellsRepair (scene_of labels.now.names order.now.game order.now.diagram) limits vertex
         order.now.decisions order.now.hopeful)) tone out.old.items out.new.items) }
 {
-    let mut looks = limits.budget;
+    let mut looks = looks_for_decisions(limits);
     let mut trials = limits.trials;
     if let Some(why) = why_within(alloc, order, Which::Hopeful, vertex, limits, &mut looks)? {
         return done(retractions(

@@ -2,12 +2,11 @@
 use Rattle.std.proofs.Common.{◌≡◌, ◌≢◌, ◌↔◌, ℕ, zero, suc, ◌+◌, ◌-◌, ◌<◌, ◌≤◌, ◌⊎◌, inl, inr, Bool, true, false, not, IsTrue, List, [], ◌∷◌, ◌++◌, count_by, length, map, replicate, take, get_or, slice_index_or, refl, sym, ap, ◌∙◌, subst, arith}
 use Rattle.std.specs.List.{AllByRecursion}
 use Rattle.std.proofs.Math.ListN.{set, length-set}
-use Rattle.std.proofs.lemmas.Bool.{cases_eq}
 use Rattle.std.proofs.lemmas.List.{ext_get_or, get_or-map, get_or-set_same, length-append, length-map, take-map}
 use Rattle.vpg_guards.specs.declared.tri.Tri.{Tri}
 use Rattle.vpg_guards.specs.declared.tri.Tri.TheVariants.{No, Unknown, Yes}
-use Rattle.vpg_guards.specs.Known.{Agrees, AreAllKnown, IsCompletion, IsFiner}
-use Rattle.vpg_diagram.specs.DiagramText.{NamedDiagram, IsNamedDiagram}
+use Rattle.vpg_guards.specs.Known.{Agrees, AreAllKnown, IsFiner}
+use Rattle.vpg_diagram.specs.DiagramText.{NamedDiagram}
 use Rattle.vpg_diagram.specs.FeatureDiagram.{Line, IsDiagram, IsProduct, feature_count}
 use Rattle.vpg_diagram.specs.Clauses.{IsTrueIn, clauses_of, counts_of}
 use Rattle.vpg_diagram.specs.declared.clause.Literal.{Literal}
@@ -24,13 +23,12 @@ use Rattle.vpg_products.specs.Growing.{GrowsBy, LeavesNone, AreRefuted, AreShown
 use Rattle.vpg_products.proofs.Growth.{meets_all, set_finer, set_with}
 use Rattle.vpg_why.specs.Explained.{choices}
 use Rattle.vpg_why.specs.declared.question.Aim.TheVariants as aims
-use Rattle.vpg_why.specs.Found.{HasRoom}
 use Rattle.vpg_why.specs.Glances.{IsFirstOpen}
-use Rattle.vpg_why.specs.Products.{AgreeBelow, NoneMeets}
+use Rattle.vpg_why.specs.Products.{NoneMeets}
 use Rattle.vpg_why.specs.declared.searching.Reasoned.{Reasoned}
 use Rattle.vpg_why.specs.declared.searching.Reasoned.TheVariants as reasons
 use Rattle.vpg_why.specs.Reasons.{marked, HasMarks, IsReason, IsReasoned}
-use Rattle.vpg_why.specs.Suffices.{choice, is_open, most_trials, AreOpenUpTo}
+use Rattle.vpg_why.specs.Suffices.{choice, is_open, most_trials}
 use Rattle.vpg_why.proofs.Reasons.{kept_are_reason}
 use Rattle.vpg_why.proofs.Rooms.{fewer_open, one_fewer, trials_grow}
 

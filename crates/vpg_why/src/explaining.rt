@@ -6,6 +6,7 @@ ghost use Rattle.vpg_why.specs.Suffices.{Suffice, EachIsSettled, IsAskable, IsSe
 
 use crate::answering::suffice_within;
 use crate::question::{Limits, Question, Shown};
+use crate::sampling::is_refuted;
 use crate::under::{are_among, has_choice};
 use std::alloc::{AllocError, Global};
 use vpg_measure::Order;
@@ -69,6 +70,11 @@ fn front_suffices(
     }
     if !is_small && *looks == 0 {
         return Ok(Shown::Unsettled);
+    }
+    if is_refuted(
+        alloc, order, question, &joined, decisions, limits, looks, trials,
+    )? {
+        return Ok(Shown::No);
     }
     let shown = suffice_within(
         alloc, order, question, &joined, limits, looks, is_small, trials,

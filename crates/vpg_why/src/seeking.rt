@@ -7,7 +7,8 @@ ghost use Rattle.vpg_why.specs.Suffices.{IsAim, AimSettles, HasTrials, IsSettled
 
 use crate::asking::closed;
 use crate::question::{Aim, Limits, Question};
-use crate::searching::{Found, Reasoned, search_with_reasons};
+use crate::sampling::sample;
+use crate::searching::{Example, Found, Reasoned, search_with_reasons};
 use std::alloc::{AllocError, Global};
 use vpg_guards::Tri;
 use vpg_measure::Order;
@@ -18,6 +19,9 @@ const PART: u64 = 512;
 
 /// In a large family, the rounds of lifts for one table take one in this many of the looks that are left.
 const LARGE: u64 = 16;
+
+/// A line that searches for decisions has one in this many of the looks of a line: it begins many tables.
+const OF_DECISIONS: u64 = 8;
 
 // Whether a product has a feature.
 pub(crate) fn has(product: &[bool], feature: u16) -> bool
@@ -87,6 +91,13 @@ pub fn large_limits(order: &Order, limits: Limits, looks: u64) -> Limits
     }
 }
 
+/// Returns the looks of a line that searches for decisions, and not for a product alone.
+pub fn looks_for_decisions(limits: Limits) -> u64
+    ensures { result ≤ limits.budget }
+{
+    limits.budget / OF_DECISIONS
+}
+
 /// One of several searches of a line, among all products that agree with the decisions, for any that meets the aim.
 ///
 /// A small family has the trials of the limits for each search. Otherwise the line has them for all of its searches,
@@ -149,7 +160,8 @@ pub fn is_small(
 
 /// Searches for any product that agrees with the decisions and meets the aim, as one of several searches of a line. It
 /// takes looks from those of the line, and half at most of its trials. Where the trials of the limits suffice for each
-/// case of the open features, it has these. The only error is a lack of memory.
+/// case of the open features, it has these. Before it searches, it tries two products by themselves: one with each
+/// feature that it can have, and one without each that it can lack. The only error is a lack of memory.
 pub fn seek(
     alloc: Global,
     order: &Order,
@@ -169,6 +181,12 @@ pub fn seek(
     ensures looks { IfOk result (λ found. looks.new ≤ looks.old) }
     ensures left { IfOk result (λ found. trials.new ≤ trials.old) }
 {
+    if let Some(features) = sample(alloc, order, aim, decisions, &[], limits, looks, trials)? {
+        return Ok(Found::Product(Example {
+            features,
+            first: false,
+        }));
+    }
     let is_small = is_small(alloc, order, decisions, limits)?;
     let found = seek_in_line(
         alloc,

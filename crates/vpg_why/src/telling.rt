@@ -14,7 +14,7 @@ use crate::answering::suffice_within;
 use crate::explaining::{Explanation, explain_by};
 use crate::question::{Aim, Limits, Question, Shown};
 use crate::searching::{Example, Found, find_within};
-use crate::seeking::is_small;
+use crate::seeking::{is_small, looks_for_decisions};
 use crate::under::order_under;
 use std::alloc::{AllocError, Global};
 use vpg_measure::Order;
@@ -199,8 +199,31 @@ pub fn why_lost(
         Found::Unsettled => return Ok(WhyLost::Unsettled),
         Found::Nothing => {}
     }
+    looks = looks.min(looks_for_decisions(limits));
     let found = because(alloc, order, aim, limits, &mut looks, &mut trials)?;
     Ok(WhyLost::Because(found))
+}
+
+/// Returns the decisions of the page that leave no product that meets the aim, where none does. The only error is a
+/// lack of memory.
+pub fn losing_decisions(
+    alloc: Global,
+    order: &Order,
+    aim: Aim,
+    limits: Limits,
+) -> Result<Explanation, AllocError>
+    requires aim { IsAim order.now.game aim }
+    requires lost { NoneMeets order.now.game order.now.diagram aim (choices order.now.decisions) }
+    ensures explains { IfOk result (λ found. Explains (Suffice order.now.game order.now.diagram (Question.Lost aim))
+        order.now.decisions found.decisions.items found.exact) }
+    ensures settled { IfOk result (λ found.
+        EachIsSettled order.now.game order.now.diagram limits (Question.Lost aim) (choices order.now.decisions) →
+        IsTrue found.exact) }
+{
+    let mut looks = looks_for_decisions(limits);
+    let mut trials = limits.trials;
+    let found = because(alloc, order, aim, limits, &mut looks, &mut trials)?;
+    Ok(found)
 }
 
 // An explanation, if the page's decisions make it so: for questions that are always answered.

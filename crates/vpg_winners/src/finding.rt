@@ -18,7 +18,7 @@ use vpg_measure::Order;
 use vpg_open::{Reached, is_open};
 use vpg_sets::{Set, Sets};
 use vpg_sides::Which;
-use vpg_why::{Aim, Example, Found, Limits, Question, WhyLost, is_small};
+use vpg_why::{Aim, Example, Found, Limits, Question, WhyLost, is_small, losing_decisions};
 
 /// The products that meet an aim, as a set, and its arena.
 #[derive(Drop)]
@@ -317,8 +317,7 @@ pub fn find(alloc: Global, order: &Order, aim: Aim, limits: Limits) -> Result<Fo
 /// page is. In such a product Even wins from the vertex, for the hopeful table, or Odd, for the dual one. With
 /// `Aim::Any` they are the decisions that leave no product at all.
 ///
-/// If there is such a product, it is found as by `find`. The search for decisions has half of the looks: it begins many
-/// tables, and a look at a large game takes longer. The only error is a lack of memory.
+/// If there is such a product, it is found as by `find`. The only error is a lack of memory.
 pub fn why_lost(
     alloc: Global,
     order: &Order,
@@ -335,15 +334,15 @@ pub fn why_lost(
         IsWhyLostExact found) }
 {
     match find_open(alloc, order, aim, limits)? {
-        Some(Found::Product(example)) => return Ok(WhyLost::Unless(example)),
-        Some(Found::Unsettled) => return Ok(WhyLost::Unsettled),
-        _ => {}
+        Some(Found::Product(example)) => Ok(WhyLost::Unless(example)),
+        Some(Found::Unsettled) => Ok(WhyLost::Unsettled),
+        Some(Found::Nothing) => {
+            let found = losing_decisions(alloc, order, aim, limits)?;
+            Ok(WhyLost::Because(found))
+        }
+        None => {
+            let found = vpg_why::why_lost(alloc, order, aim, limits)?;
+            Ok(found)
+        }
     }
-    let half = Limits {
-        budget: limits.budget / 2,
-        rounds: limits.rounds,
-        trials: limits.trials,
-    };
-    let found = vpg_why::why_lost(alloc, order, aim, half)?;
-    Ok(found)
 }

@@ -1,6 +1,6 @@
-use Rattle.std.proofs.Common.{refl, ◌∙◌}
+use Rattle.std.proofs.Common.{refl}
 use Rattle.vpg_why.specs.Explained.{choices}
-use Rattle.vpg_why.proofs.ByFeatures.{grown_shown, none_left, first_of}
+use Rattle.vpg_why.proofs.ByFeatures.{none_left}
 use Rattle.vpg_why.proofs.features.glance_on.Goals as goal
 
 pub reason_on-requires-clause-lost : goal.reason_on-requires-clause-lost

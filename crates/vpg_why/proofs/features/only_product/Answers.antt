@@ -1,5 +1,4 @@
 use Rattle.std.proofs.Common.{◌≡◌, true, false, Bool, List, sym, ◌∙◌, subst}
-use Rattle.std.specs.List.{AllByRecursion}
 use Rattle.vpg_diagram.specs.FeatureDiagram.{IsProduct}
 use Rattle.vpg_partial.specs.Known.{AgreesWithChoices}
 use Rattle.vpg_why.specs.Explained.{choices}

@@ -1,4 +1,4 @@
-use Rattle.std.proofs.Common.{◌<◌, ◌≤◌, List, count_by, refl, sym, subst, arith}
+use Rattle.std.proofs.Common.{◌≤◌, List, count_by, refl, sym, subst, arith}
 use Rattle.vpg_guards.specs.declared.tri.Tri.{Tri}
 use Rattle.vpg_products.specs.Growing.{AreShown}
 use Rattle.vpg_why.specs.Explained.{choices}
