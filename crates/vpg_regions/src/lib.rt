@@ -4,7 +4,7 @@
 //! counts all that they look at. The only promise is that they are safe and end: their results count only as far as
 //! certificates show them.
 //!
-//! The layer above, `vpg_tangles`, uses `solve_by_recursion` and `solve_by_weights` on a `Solution`, and `win_cycles`.
+//! The layer above, `vpg_tangles`, uses `solve_by_recursion` and `solve_by_weights` on a `Solution`.
 //! All layers above use `Graph` for the edges of a game both ways, `Predecessors` for those that lead to a vertex, and
 //! `Components` for the game that a strategy leaves. `VertexSet` has some of the vertices, `PerVertex` one value for
 //! each vertex, and `Found` is a list that grows. `Budget` counts the work.
@@ -25,7 +25,6 @@ mod weights;
 
 pub use budget::Budget;
 pub use components::{Components, Moves};
-pub use cycles::win_cycles;
 pub use found::Found;
 pub use graph::{Arrivals, Draft, Graph, Places, Predecessors};
 pub use per_vertex::{Choices, PerVertex, VertexSet};

@@ -1,9 +1,16 @@
 //! The winners of a game, by Zielonka's recursion (Zielonka 1998) with a stack of its own.
 use crate::budget::Budget;
 use crate::found::Found;
+use crate::graph::Graph;
 use crate::solution::{Solution, player_of};
 use std::alloc::{AllocError, Global};
 use vpg_sides::Player;
+
+/// The number of priorities after which the recursion may give up. It does if they took less than one in `LITTLE` of
+/// the vertices, and its budget does not suffice to look at the others once for each lesser priority.
+const LEVELS: usize = 2;
+
+const LITTLE: usize = 1024;
 
 // A game on the stack: its vertices, those of greater priorities first, and those found to be won by the player against
 // whom its greatest priority is.
@@ -80,6 +87,14 @@ impl Game {
             game: self,
             attracted,
             player,
+        }
+    }
+
+    // The number of looks at its vertices, once for each priority up to the greatest.
+    fn looks(&self, graph: &Graph) -> u64 {
+        match self.all.first() {
+            Some(v) => u64::from(graph.priority(*v)).saturating_mul(self.all.len() as u64),
+            None => 0,
         }
     }
 
@@ -184,15 +199,26 @@ fn ascend(
     Ok(())
 }
 
-// Solves the games on the stack until it is empty or the budget is spent.
+// Whether the greatest priorities took little of this many vertices, and the budget is too small for the others.
+fn is_stuck(graph: &Graph, stack: &[Frame], vertices: usize, budget: &Budget) -> bool {
+    let Some(Frame::Open(game)) = stack.last() else {
+        return false;
+    };
+    let most = vertices.saturating_sub(vertices / LITTLE);
+    LEVELS < stack.len() && most < game.all.len() && budget.left() < game.looks(graph)
+}
+
+// Solves the games on the stack, the outermost of which has this many vertices, until it is empty, or the budget is
+// spent or too small.
 fn run(
     alloc: Global,
     solution: &mut Solution<'_>,
     stack: &mut Vec<Frame>,
+    vertices: usize,
     budget: &mut Budget,
 ) -> Result<(), AllocError> {
     for _ in 0..u64::MAX {
-        if budget.is_spent() {
+        if budget.is_spent() || is_stuck(solution.graph, stack, vertices, budget) {
             break;
         }
         match stack.pop() {
@@ -204,7 +230,7 @@ fn run(
     Ok(())
 }
 
-// Forgets all but the vertices that the outermost game gave away, after a spent budget.
+// Forgets all but the vertices that the outermost game gave away, if the stack is not empty.
 fn forget(solution: &mut Solution<'_>, stack: &[Frame]) {
     match stack.first() {
         Some(Frame::Open(game)) => solution.forget(&game.all),
@@ -214,7 +240,7 @@ fn forget(solution: &mut Solution<'_>, stack: &[Frame]) {
 }
 
 /// Gives each vertex of the present game, which is of some of these, its winner, or those known when the budget is
-/// spent. Returns whether all are given.
+/// spent, or too small. Returns whether all are given.
 pub fn solve_by_recursion(
     alloc: Global,
     solution: &mut Solution<'_>,
@@ -228,7 +254,7 @@ pub fn solve_by_recursion(
         &mut stack,
         solution.graph.by_priority(alloc, &living)?,
     )?;
-    run(alloc, solution, &mut stack, budget)?;
+    run(alloc, solution, &mut stack, living.len(), budget)?;
     forget(solution, &stack);
     Ok(stack.is_empty())
 }

@@ -6,9 +6,7 @@
 //! tangles. One without an escape is won. The others help in the next round.
 use crate::tangles::{Member, Tangles};
 use std::alloc::{AllocError, Global};
-use vpg_regions::{
-    Budget, Components, Found, Graph, Moves, PerVertex, Solution, player_of, win_cycles,
-};
+use vpg_regions::{Budget, Components, Found, Graph, Moves, PerVertex, Solution, player_of};
 use vpg_sides::Player;
 
 /// The region of a vertex that the round has left.
@@ -16,6 +14,9 @@ const FREE: u32 = 0;
 
 /// The region of a vertex outside the game.
 const OUT: u32 = u32::MAX;
+
+/// A round ends once something is won, if it took less than one look for this many vertices. What is left is easier.
+const EARLY: usize = 16;
 
 /// What is known of the present region's vertices: the opponent can, or can't, be forced to stay there.
 #[derive(Clone, Copy, PartialEq, Eq)]
@@ -75,7 +76,7 @@ impl Learning {
     fn of(alloc: Global, graph: &Graph, living: Vec<u32>) -> Result<Learning, AllocError> {
         let vertices = graph.vertices();
         let greatest = graph.greatest_priority(&living);
-        let mut learning = Learning {
+        Ok(Learning {
             living,
             first: PerVertex::of(alloc, greatest.saturating_add(1), 0)?,
             next: PerVertex::of(alloc, vertices, 0)?,
@@ -91,13 +92,12 @@ impl Learning {
             even: Found::none(alloc),
             odd: Found::none(alloc),
             has_learnt: false,
-        };
-        learning.chain(graph);
-        Ok(learning)
+        })
     }
 
     // Chains the vertices of each priority.
     fn chain(&mut self, graph: &Graph) {
+        self.first.fill(0);
         for v in &self.living {
             let priority = graph.priority(*v);
             self.next.set(*v, self.first.get(priority));
@@ -105,21 +105,28 @@ impl Learning {
         }
     }
 
+    // Sets the region of the vertices that the game had so far.
+    fn set_regions(&mut self, region: u32) {
+        for v in &self.living {
+            self.region.set(*v, region);
+        }
+    }
+
     // Begins a round; returns whether anything is left.
-    fn begin(&mut self, solution: &Solution<'_>, budget: &mut Budget) -> bool {
+    fn begin(
+        &mut self,
+        alloc: Global,
+        solution: &Solution<'_>,
+        budget: &mut Budget,
+    ) -> Result<bool, AllocError> {
         self.number = 0;
         self.has_learnt = false;
         budget.spend(self.living.len());
-        let mut is_left = false;
-        for v in &self.living {
-            if solution.is_alive(*v) {
-                self.region.set(*v, FREE);
-                is_left = true;
-            } else {
-                self.region.set(*v, OUT);
-            }
-        }
-        is_left
+        self.set_regions(OUT);
+        self.living = solution.living(alloc, &self.living)?;
+        self.set_regions(FREE);
+        self.chain(solution.graph);
+        Ok(!self.living.is_empty())
     }
 
     // Begins a region with the vertices of a priority that are left. They have no choices yet.
@@ -588,17 +595,28 @@ impl Learning {
         Ok(())
     }
 
-    // Takes all priorities, from the greatest on. Returns whether the budget sufficed.
+    // Whether this round found vertices that a player wins.
+    fn has_won(&self) -> bool {
+        0 < self.even.len() || 0 < self.odd.len()
+    }
+
+    // Takes all priorities, from the greatest on, or the first ones, if something is won early. Returns whether the
+    // budget sufficed.
     fn look_all(
         &mut self,
         alloc: Global,
         solution: &mut Solution<'_>,
         budget: &mut Budget,
     ) -> Result<bool, AllocError> {
+        let early = (self.living.len() / EARLY) as u64;
+        let late = budget.left().saturating_sub(early);
         for below in 0..=self.greatest {
             let priority = self.greatest.saturating_sub(below);
             if !self.look(alloc, solution, priority, budget)? {
                 return Ok(false);
+            }
+            if late < budget.left() && self.has_won() {
+                break;
             }
         }
         Ok(true)
@@ -639,18 +657,14 @@ pub fn solve_by_tangles(
 ) -> Result<bool, AllocError> {
     budget.spend(solution.graph.vertices() as usize);
     let living = solution.living(alloc, vertices)?;
-    win_cycles(alloc, Player::Even, solution, &living, budget)?;
-    let living = solution.living(alloc, vertices)?;
-    win_cycles(alloc, Player::Odd, solution, &living, budget)?;
-    let living = solution.living(alloc, vertices)?;
     let mut learning = Learning::of(alloc, solution.graph, living)?;
     for _ in 0..u64::MAX {
-        if !learning.begin(solution, budget) {
+        if !learning.begin(alloc, solution, budget)? {
             return Ok(true);
         }
         if !learning.round(alloc, solution, budget)? {
             break;
         }
     }
-    Ok(!learning.begin(solution, budget))
+    Ok(!learning.begin(alloc, solution, budget)?)
 }

@@ -1,5 +1,5 @@
 //! The winners of a game, and their moves, by Zielonka's recursion, by tangles, and by the weights of paths, in turns.
-//! If the recursion's first turn does not end, strongly connected components are solved one by one.
+//! If the first turns of the recursion and of tangles do not end, strongly connected components are solved one by one.
 use crate::learning::solve_by_tangles;
 use std::alloc::{AllocError, Global};
 use vpg_regions::{
@@ -18,7 +18,7 @@ const COMPONENT_PASSES: u64 = 2;
 const GRAPH_PASSES: u64 = 5;
 
 /// The number of times that tangles, and then weights, may look at a component in their first turn, and the least that
-/// they may look at.
+/// they may look at. Tangles may look at a whole game as often, without that least.
 const FIRST_TURN: u64 = 32;
 
 const LEAST_TURN: u64 = 1 << 20;
@@ -215,6 +215,28 @@ pub fn solve_regions(
     Ok(Regions::of(winner, choice))
 }
 
+// Takes the recursion's first turn, and one of tangles if the recursion gives up before; returns whether all of these
+// vertices are solved.
+fn take_first_turns(
+    alloc: Global,
+    solution: &mut Solution<'_>,
+    all: &[u32],
+    budget: &mut Budget,
+) -> Result<bool, AllocError> {
+    let least = u64::from(solution.graph.vertices()).saturating_mul(GRAPH_PASSES);
+    let size = size_of(solution.graph, all);
+    let most = size.saturating_mul(FIRST_PASSES).max(least);
+    let spent = budget.left().saturating_sub(most);
+    if take_turn(alloc, solution, Way::Recursion, all, most, budget)? {
+        return Ok(true);
+    }
+    if budget.left() <= spent {
+        return Ok(false);
+    }
+    let turn = size.saturating_mul(FIRST_TURN);
+    take_turn(alloc, solution, Way::Tangles, all, turn, budget)
+}
+
 fn solve_whole(
     alloc: Global,
     solution: &mut Solution<'_>,
@@ -225,11 +247,7 @@ fn solve_whole(
     solution.win_dead_ends(alloc, Player::Even, budget)?;
     solution.win_dead_ends(alloc, Player::Odd, budget)?;
     let all = solution.all_living(alloc)?;
-    let least = u64::from(solution.graph.vertices()).saturating_mul(GRAPH_PASSES);
-    let most = size_of(solution.graph, &all)
-        .saturating_mul(FIRST_PASSES)
-        .max(least);
-    if take_turn(alloc, solution, Way::Recursion, &all, most, budget)? {
+    if take_first_turns(alloc, solution, &all, budget)? {
         return Ok(());
     }
     solve_apart(alloc, solution, &all, budget)
