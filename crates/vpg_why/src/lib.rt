@@ -19,14 +19,15 @@
 //! search along them and all edges of the opponent. `reachable` returns the vertices that can be reached over edges
 //! that may be there, by such moves or by any.
 //!
-//! The layer above uses `why_within`, `why_lost`, `why_known`, `why_conflict` (explanations), `find` (an example or a
-//! counterexample, or that there is none) and `needs` (the features that all won products share). It uses `foresee`
-//! (the verdicts and the winner after one more decision) with `spared_choices` (choices that do not make a verdict,
-//! found by trials of many at once), `seek` and `verdict_shown` (what other decisions would bring), `order_under`
-//! (tables for their trials), `are_among`, `winning_moves`, and `caution` (the game that those win). `Which::Hopeful`
-//! asks for Even, `Which::Dual` for Odd. Every answer has `Limits` of work, and says if it met one: it is then
-//! unsettled, never wrong. Its searches share them: each takes looks and trials from what is left, and gives back what
-//! it did not need. Only a search of few features has the trials of the limits for itself.
+//! The layer above uses `why_within`, `why_lost`, `losing_decisions`, `why_known`, `why_conflict` (explanations),
+//! `find` (an example or a counterexample, or that there is none) and `needs` (the features that all won products
+//! share). It uses `foresee` (the verdicts and the winner after one more decision) with `spared_choices` (choices that
+//! do not make a verdict, found by trials of many at once), `seek` and `verdict_shown` (what other decisions would
+//! bring), `order_under` (tables for their trials), `are_among`, `winning_moves`, and `caution` (the game that those
+//! win). `Which::Hopeful` asks for Even, `Which::Dual` for Odd. Every answer has `Limits` of work, and says if it met
+//! one: it is then unsettled, never wrong. Its searches share them: each takes looks and trials from what is left, and
+//! gives back what it did not need; a line that searches for decisions has `looks_for_decisions`. Only a search of few
+//! features has the trials of the limits for itself.
 //!
 //! Definitions: `specs/Suffices` (what decisions alone make so); `specs/Explained` (explanations); `specs/Products`
 //! (the products that decisions leave); `specs/Eased` (aims that each product left meets); `specs/Found`,
