@@ -33,8 +33,7 @@ pub enum Topic {
     OfChoice { feature: u16, value: bool },
 }
 
-/// What is missing for a look: a vertex or a feature that the game, or the diagram, lacks; or the system that a trace
-/// needs.
+/// The reason why a look is refused: no such vertex, no such feature, or no system to trace.
 #[derive(Clone, Copy, Debug, Error)]
 pub enum Missing {
     #[error("NoVertex")]

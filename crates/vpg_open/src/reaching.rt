@@ -166,7 +166,7 @@ pub(crate) fn reached_settled(
 /// there. Its vertices keep identifiers, owners, priorities, edges and their order. In each product the same player
 /// wins from the vertex. Returns nothing if it could not make the part a game.
 ///
-/// What is left out is speed alone: no clause says how small the part is, or that there is one.
+/// The contract leaves out speed alone: no clause says how small the part is, or that there is one.
 pub fn reached_game(
     alloc: Global,
     game: &GuardedGame,

@@ -168,7 +168,7 @@ const FORMS: &[CommandForm] = &[
         parameters: &[Parameter::Table, Parameter::Vertex],
         least: 2,
         verb: Some(Verb::Lift),
-        // `settle` is told of first: most scripts have no `lift`.
+        // Help names `settle` first: most scripts have no `lift`.
         help: "
   settle [N]             raise both tables until they are settled, or in at most
                          N sweeps

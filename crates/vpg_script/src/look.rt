@@ -28,11 +28,11 @@ pub enum PageLook {
     Show,
     /// Its entries.
     Trail,
-    /// What is known of each feature.
+    /// The features that are known in, known out, and open.
     Products,
     /// Moves of Even, if each feature is known and the page is settled.
     Plan,
-    /// How many vertices have which verdict.
+    /// The number of vertices with each verdict.
     Count,
     /// The picture of its game.
     Draw,

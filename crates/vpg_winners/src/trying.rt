@@ -62,7 +62,7 @@ fn decided_as(alloc: Global, order: &Order, product: &[bool]) -> Result<Vec<Deci
     Ok(more)
 }
 
-/// What a look at the first product that is left shows; nothing if a limit is met.
+/// The result of a look at the first product that is left; nothing if a limit is met.
 #[derive(Drop)]
 pub(crate) struct Tried {
     /// The product, if it is won.
