@@ -3,7 +3,6 @@ pub mod Above
 pub mod Below
 pub mod BestValues
 pub mod Choices
-pub mod Conflicts
 pub mod Cycles
 pub mod Easier
 pub mod Least

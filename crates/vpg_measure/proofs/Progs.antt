@@ -2,7 +2,7 @@
 use Rattle.std.proofs.Common.{ℕ, zero, suc, ◌≡◌, ◌+◌, ◌/◌, ◌<◌, ◌≤◌, ◌↔◌, ◌⊎◌, min, max, List, [], ◌∷◌, length, map, refl, sym, ap, ◌∙◌, inl, inr, All, arith}
 use Rattle.std.specs.Prelude.{slice_index, Any}
 use Rattle.std.proofs.lemmas.Bool.{cases_lt, cases_Bool}
-use Rattle.std.proofs.lemmas.List.{get_or_past, nil_from_length}
+use Rattle.std.proofs.lemmas.List.{get_or_past}
 use Rattle.std.proofs.lemmas.List.Elements.{All-head, All-tail, All-cons, All-nil}
 use Rattle.std.proofs.Math.Nat.{le-div_iff_mul-le, div-mul-le_self, mul-le-mul_right, min-eq_left, min-eq_right, max-eq_left, max-eq_right}
 use Rattle.vpg_game.specs.declared.levels.Level.{Level}
@@ -183,11 +183,6 @@ lift-odd ls table x within odd some =
         greatest_of (map (λ w. prog_of ls x.priority (slice_index table w)) ws) ≡ prog_of ls x.priority (greatest_of (map (λ w. slice_index table w) ws))
     step [] h = absurd (omega arith)
     step (w ∷ ws) h = greatest-prog ls x.priority (λ w. slice_index table w) w ws (slice_index-le (top_of ls) table within)
-
-pub lift-odd_none : (ls : List Level) (table : List ℕ) (x : Vertex) → x.owner ≡ Odd → length x.successors ≡ 0 → lift_of ls table x ≡ 0
-lift-odd_none ls table x odd none =
-    ap (λ o. best_for o (top_of ls) (map (λ w. prog_of ls x.priority (slice_index table w)) x.successors)) odd
-    ∙ ap (λ ws. greatest_of (map (λ w. prog_of ls x.priority (slice_index table w)) ws)) (nil_from_length x.successors none)
 
 -- ---- lifts grow with the table
 

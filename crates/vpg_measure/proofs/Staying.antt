@@ -18,9 +18,6 @@ use Rattle.vpg_sides.specs.declared.which.Which.TheVariants.{Hopeful, Dual}
 use Rattle.vpg_measure.proofs.Rounds.{progress_at}
 use Rattle.vpg_measure.proofs.TwoGames.{arena_length}
 
-pub known_length : (game : NamedGame) (games : GamesView) → AreGamesOver game games → length games.known ≡ game.features
-known_length game games over = over.are.1.known.length_is ∙ sym over.features
-
 module _ (game : NamedGame) (games : GamesView) (over : AreGamesOver game games) (which : Which) (table : List ℕ) where
   -- a table of one game is one of every other
   pub table_stays : (value : Formula → Tri) → IsTableOf (levels_for which (graph_of game)) (arena_for value which (graph_of game)) table → IsTableOf (games_levels which games) (games_arena which games) table

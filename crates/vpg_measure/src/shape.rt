@@ -161,6 +161,9 @@ impl Shape {
             return value;
         }
         let weight = self.weight(priority);
+        if weight == 1 {
+            return value + priority % 2;
+        }
         let quotient = value / weight;
         (quotient + priority % 2) * weight
     }

@@ -125,17 +125,6 @@ module _ (order again : OrderView) (first second : HarvestView) (more : ℕ) (is
       (moved_then 0 (same_page first.order order same) (tables_stay order first lawful same)
       (omega (arith, sums_rise order.hopeful first.hopeful (tables_stay order first lawful same Hopeful), sums_rise order.dual first.dual (tables_stay order first lawful same Dual))))
 
--- one sweep of several lifters
-pub board_sweeps : (order : OrderView) (harvest : HarvestView) → IsHarvest harvest → IsSameOrder harvest.order order →
-    ((which : Which) → IsBelowTable (order_table which order) (harvest_table which harvest)) →
-    (¬ IsSettledHarvest harvest → sum order.hopeful + sum order.dual < sum harvest.hopeful + sum harvest.dual) → IsSweptOrder order 1 harvest
-board_sweeps order harvest lawful same above moved = record {
-  lawful = lawful;
-  page = same_page harvest.order order same;
-  above = above;
-  moved = λ unsettled. omega (arith, moved unsettled);
-}
-
 -- ---- up to a goal
 
 -- it moved by no less than it did

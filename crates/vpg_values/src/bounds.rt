@@ -175,6 +175,18 @@ fn rank_along(
     )
 }
 
+// Whether zeros are ranks of these vertices along Odd's choices: all have odd priorities, and Odd has each of its
+// choices.
+fn are_of_odd_priorities(ground: &GuessGround, choice: &Choices, vertices: &[u32]) -> bool {
+    for v in vertices {
+        let is_stuck = ground.graph.owner(*v) == Player::Odd && choice.get(*v).is_none();
+        if is_stuck || ground.odd.is_strict(*v) {
+            return false;
+        }
+    }
+    true
+}
+
 // Ranks of these vertices along Odd's choices.
 fn ranks_along(
     alloc: Global,
@@ -184,7 +196,9 @@ fn ranks_along(
     budget: &mut Budget,
 ) -> Result<PerVertex<u64>, AllocError> {
     let mut ranks = PerVertex::of(alloc, ground.graph.vertices(), 0)?;
-    rank_along(alloc, ground, choice, raised, &mut ranks, budget)?;
+    if !are_of_odd_priorities(ground, choice, raised) {
+        rank_along(alloc, ground, choice, raised, &mut ranks, budget)?;
+    }
     Ok(ranks)
 }
 

@@ -140,15 +140,33 @@ impl<'a> Improvement<'a> {
     ) -> Result<(), AllocError> {
         self.value(alloc, region, budget)?;
         let mut look = self.open_all(alloc, region)?;
+        let are_strict = self.are_strict(region);
         let mut turns = 0u32;
         for _ in 0..u64::MAX {
             let changed = self.changes(alloc, region, &look, &mut turns, budget)?;
-            if changed.is_empty() || budget.is_spent() {
+            let is_exact = are_strict && self.is_lowered();
+            if changed.is_empty() || budget.is_spent() || is_exact {
                 break;
             }
             look = self.value_again(alloc, changed, budget)?;
         }
         Ok(())
+    }
+
+    // Whether each open vertex of the region is at an odd priority. Then values rise along each cycle of moves: those
+    // that lowering leaves are the values of the choices, so they need not be valued again.
+    fn are_strict(&self, region: &[u32]) -> bool {
+        for v in region {
+            if self.open.get(*v) && !self.scale.is_strict(*v) {
+                return false;
+            }
+        }
+        true
+    }
+
+    // Whether lowering ended, and no value fell to the table's.
+    fn is_lowered(&self) -> bool {
+        self.stack.len() == 0 && self.closed.len() == 0
     }
 
     // Even's vertices that changed: for better moves, and otherwise round even cycles, in at most this many turns.
@@ -287,7 +305,7 @@ impl<'a> Improvement<'a> {
                 self.mark.set(v, self.stamp);
                 changed.add(v);
             }
-            self.scale.prog(v, self.values.get(w))
+            self.scale.prog_to(v, w, self.values.get(w))
         } else {
             self.greatest_over(v)
         };

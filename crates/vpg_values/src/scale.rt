@@ -84,6 +84,18 @@ impl Scale {
             .min(self.top)
     }
 
+    /// Returns `prog` over an edge from v to w, where the value is a number at w's priority. Nothing is cut off unless
+    /// w's weight is less than v's.
+    pub fn prog_to(&self, v: u32, w: u32, value: u64) -> u64 {
+        if self.weight(w) < self.weight(v) {
+            return self.prog(v, value);
+        }
+        if self.top <= value {
+            return self.top;
+        }
+        value.saturating_add(self.step(v)).min(self.top)
+    }
+
     /// Whether the least number over an edge from this vertex to one of this value is at least a bound, itself such a
     /// number.
     pub fn reaches(&self, v: u32, bound: u64, value: u64) -> bool {
