@@ -1,19 +1,17 @@
 -- What is counted of a page, and asserted of it.
-use Rattle.std.proofs.Common.{◌≡◌, ℕ, ◌≤◌, Bool, List, [], ◌++◌, length, All, refl, ap, ◌∙◌, append_assoc}
+use Rattle.std.proofs.Common.{◌≡◌, ℕ, Bool, List, [], ◌++◌, length, refl, ap, ◌∙◌, append_assoc}
 use Rattle.std.specs.Prelude.{map}
 use Rattle.std.specs.Bool.{Decides}
 use Rattle.vpg_diagram.specs.DiagramText.{NamedDiagram}
-use Rattle.vpg_game.specs.Game.{NamedGame, graph_of, vertex_ids}
+use Rattle.vpg_game.specs.Game.{NamedGame, graph_of}
 use Rattle.vpg_game.specs.Levels.{top_of}
 use Rattle.vpg_guards.specs.Known.{AreAllKnown}
 use Rattle.vpg_measure.specs.Games.{GamesView, ArePageGames}
 use Rattle.vpg_measure.specs.TwoGames.{top_for}
 use Rattle.vpg_trail.specs.Page.{Hopeful, Dual, Decision, literal_of}
 use Rattle.vpg_script.specs.Answer.{Answer}
-use Rattle.vpg_texts.specs.Scene.{AreSettledTables, IsCounted, scene_of}
+use Rattle.vpg_texts.specs.Scene.{AreProgressTables, scene_of}
 use Rattle.vpg_texts.specs.Sights.{IsAsserted}
-use Rattle.vpg_texts.specs.Text.{count_text}
-use Rattle.vpg_texts.proofs.Settled.{settled_tells}
 use Rattle.vpg_texts.proofs.Shown.{tells}
 
 -- three parts, written one behind another
@@ -21,32 +19,11 @@ pub three_parts : (before one two three x y z : List ℕ) → one ≡ before ++ 
 three_parts before one two three x y z first second third =
     third ∙ ap (λ (bytes : List ℕ). bytes ++ z) (second ∙ ap (λ (bytes : List ℕ). bytes ++ y) first ∙ append_assoc before x y) ∙ append_assoc before (x ++ y) z
 
-pub counts : (game : NamedGame) (diagram : NamedDiagram) (decisions : List Decision) (games : GamesView) → ArePageGames game diagram (map literal_of decisions) games →
-    (hopeful dual mark text : List ℕ) → length hopeful ≡ length game.vertices → length dual ≡ length game.vertices →
-    All (λ n. n ≤ top_for Hopeful (graph_of game)) hopeful → All (λ n. n ≤ top_for Dual (graph_of game)) dual →
-    (full settled : Bool) → Decides full (AreAllKnown (length games.known) games.known) → Decides settled (AreSettledTables games hopeful dual) →
-    text ≡ count_text (top_of games.hopeful_levels) (top_of games.dual_levels) full settled mark hopeful dual → IsCounted (scene_of [] game diagram) decisions hopeful dual mark text
-counts game diagram decisions games are hopeful dual mark text hopeful_len dual_len hopeful_within dual_within full settled full_is settled_is text_is = (
-  games.known,
-  (
-    are.known,
-    tells game diagram (map literal_of decisions) games are (λ first second is_full is_settled. count_text first second is_full is_settled mark hopeful dual) full settled hopeful dual text full_is
-        (settled_tells game diagram (map literal_of decisions) games are hopeful dual hopeful_len dual_len hopeful_within dual_within settled settled_is) text_is,
-  ),
-)
-
 -- an answer that is made of whether each feature is known and the page is settled, by the tops of the games
 pub asserts : (game : NamedGame) (diagram : NamedDiagram) (decisions : List Decision) (games : GamesView) → ArePageGames game diagram (map literal_of decisions) games →
-    (hopeful dual : List ℕ) → length hopeful ≡ length game.vertices → length dual ≡ length game.vertices →
-    All (λ n. n ≤ top_for Hopeful (graph_of game)) hopeful → All (λ n. n ≤ top_for Dual (graph_of game)) dual → (answer_by : ℕ → ℕ → Bool → Bool → Answer) →
-    (full settled : Bool) → Decides full (AreAllKnown (length games.known) games.known) → Decides settled (AreSettledTables games hopeful dual) →
+    (hopeful dual : List ℕ) (answer_by : ℕ → ℕ → Bool → Bool → Answer) (full settled : Bool) →
+    Decides full (AreAllKnown (length games.known) games.known) → Decides settled (AreProgressTables games.known (graph_of game) hopeful dual) →
     IsAsserted (scene_of [] game diagram) (answer_by (top_for Hopeful (graph_of game)) (top_for Dual (graph_of game))) decisions hopeful dual
     (answer_by (top_of games.hopeful_levels) (top_of games.dual_levels) full settled)
-asserts game diagram decisions games are hopeful dual hopeful_len dual_len hopeful_within dual_within answer_by full settled full_is settled_is = (
-  games.known,
-  (
-    are.known,
-    tells game diagram (map literal_of decisions) games are answer_by full settled hopeful dual (answer_by (top_of games.hopeful_levels) (top_of games.dual_levels) full settled) full_is
-        (settled_tells game diagram (map literal_of decisions) games are hopeful dual hopeful_len dual_len hopeful_within dual_within settled settled_is) refl,
-  ),
-)
+asserts game diagram decisions games are hopeful dual answer_by full settled full_is settled_is =
+    (games.known, (are.known, tells game diagram (map literal_of decisions) games are answer_by full settled hopeful dual _ full_is settled_is refl))

@@ -5,12 +5,12 @@ use Rattle.std.specs.Bool.{one_answer}
 use Rattle.std.proofs.lemmas.List.{same_lists}
 use Rattle.std.proofs.lemmas.Option.{get_or_from_slice_get}
 use Rattle.vpg_diagram.specs.DiagramText.{NamedDiagram}
-use Rattle.vpg_game.specs.Game.{NamedGame, graph_of, vertex_ids}
+use Rattle.vpg_game.specs.Game.{NamedGame, vertex_ids}
 use Rattle.vpg_game.specs.Levels.{top_of}
 use Rattle.vpg_guards.specs.Known.{kleene}
 use Rattle.vpg_guards.specs.declared.tri.Tri.{Tri}
 use Rattle.vpg_measure.specs.Games.{GamesView, ArePageGames}
-use Rattle.vpg_measure.specs.TwoGames.{arena_for, top_for}
+use Rattle.vpg_measure.specs.TwoGames.{arena_for}
 use Rattle.vpg_trail.specs.Page.{Hopeful, Dual, Decision, literal_of}
 use Rattle.vpg_script.specs.Answer.{Answer}
 use Rattle.vpg_script.proofs.Given.{done_one}

@@ -35,21 +35,7 @@ settled_one game known which shape arena table shape_is arena_is len within prog
       settled = subst (λ (a : Game). IsProgressTable (levels_for which (graph_of game)) a table) arena_is (subst (λ (s : List Level). IsProgressTable s arena table) shape_is progress);
     }
 
--- ---- two tables of a page's games
-
-module _ (games : GamesView) (hopeful dual : List ℕ) where
-  both : IsProgressTable games.hopeful_levels games.hopeful_arena hopeful → IsProgressTable games.dual_levels games.dual_arena dual → AreSettledTables games hopeful dual
-  both first second Hopeful = first
-  both first second Dual = second
-
-  -- where the first is raised by a lift, they are not settled
-  pub first_fails : (b : Bool) → b ≡ false → (IsTrue b ↔ IsProgressTable games.hopeful_levels games.hopeful_arena hopeful) → Decides false (AreSettledTables games hopeful dual)
-  first_fails b fails tells = (λ h. absurd (cc), λ all. absurd (cc (fails, tells.1 (all Hopeful))))
-
-  -- where it isn't, the second decides
-  pub second_tells : (a b : Bool) → a ≡ true → (IsTrue a ↔ IsProgressTable games.hopeful_levels games.hopeful_arena hopeful) →
-      (IsTrue b ↔ IsProgressTable games.dual_levels games.dual_arena dual) → Decides b (AreSettledTables games hopeful dual)
-  second_tells a b holds first second = (λ h. both (first.0 holds) (second.0 h), λ all. second.1 (all Dual))
+-- ---- the tables of a page's games
 
 -- what a test refutes
 pub refuted : (b : Bool) (P : Type 0) → b ≡ false → (IsTrue b ↔ P) → ¬ P
@@ -75,5 +61,15 @@ module _ (game : NamedGame) (diagram : NamedDiagram) (choices : List Literal) (g
       all_settled all Hopeful = settled_one game games.known Hopeful games.hopeful_levels games.hopeful_arena hopeful (are.levels Hopeful) (are.arena Hopeful) hopeful_len hopeful_within (all Hopeful)
       all_settled all Dual = settled_one game games.known Dual games.dual_levels games.dual_arena dual (are.levels Dual) (are.arena Dual) dual_len dual_within (all Dual)
 
-      pub settled_tells : (b : Bool) → Decides b (AreSettledTables games hopeful dual) → Decides b (AreProgressTables games.known (graph_of game) hopeful dual)
-      settled_tells b tells = (λ h. all_settled (tells.0 h), λ p. tells.1 (settled_back p))
+      both : IsProgressTable games.hopeful_levels games.hopeful_arena hopeful → IsProgressTable games.dual_levels games.dual_arena dual → AreSettledTables games hopeful dual
+      both first second Hopeful = first
+      both first second Dual = second
+
+      -- where the first is raised by a lift, they are not settled
+      pub first_fails : (b : Bool) → b ≡ false → (IsTrue b ↔ IsProgressTable games.hopeful_levels games.hopeful_arena hopeful) → Decides false (AreProgressTables games.known (graph_of game) hopeful dual)
+      first_fails b fails tells = (λ h. absurd (cc), λ all. absurd (cc (fails, tells.1 (settled_back all Hopeful))))
+
+      -- where it isn't, the second decides
+      pub second_tells : (a b : Bool) → a ≡ true → (IsTrue a ↔ IsProgressTable games.hopeful_levels games.hopeful_arena hopeful) →
+          (IsTrue b ↔ IsProgressTable games.dual_levels games.dual_arena dual) → Decides b (AreProgressTables games.known (graph_of game) hopeful dual)
+      second_tells a b holds first second = (λ h. all_settled (both (first.0 holds) (second.0 h)), λ all. second.1 (settled_back all Dual))

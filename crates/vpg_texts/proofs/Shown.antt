@@ -3,7 +3,6 @@ use Rattle.std.specs.Bool.{Decides}
 use Rattle.std.proofs.Common.{Bool, length, ap₂, ◌≡◌, ℕ, zero, suc, ◌<◌, List, [], ◌∷◌, ◌++◌, sym, ap, ◌∙◌, arith, subst, Result, Ok, Err}
 use Rattle.std.specs.Prelude.{map, All, OnOk, is_ok, if◌then◌else◌}
 use Rattle.vpg_diagram.specs.FeatureDiagram.{Line, feature_count}
-use Rattle.vpg_diagram.specs.Clauses.{clauses_of, counts_of}
 use Rattle.vpg_diagram.specs.DiagramText.{NamedDiagram}
 use Rattle.vpg_game.specs.Game.{NamedGame, graph_of, vertex_ids}
 use Rattle.vpg_game.specs.Levels.{top_of}
@@ -13,10 +12,8 @@ use Rattle.vpg_sides.specs.declared.which.Which.TheVariants.{Hopeful, Dual}
 use Rattle.vpg_measure.specs.TwoGames.{top_for}
 use Rattle.vpg_diagram.specs.declared.clause.Literal.{Literal}
 use Rattle.vpg_partial.specs.declared.decision.Decision.{Decision}
-use Rattle.vpg_partial.specs.Known.{literal_of, NamesConflict}
-use Rattle.vpg_partial.specs.KnownLaws.{HasConflictOf}
+use Rattle.vpg_partial.specs.Known.{literal_of}
 use Rattle.vpg_partial.specs.TableLaws.{AreChoicesOf}
-use Rattle.vpg_partial.proofs.KnownLemmas.{conflict_named}
 use Rattle.vpg_texts.specs.Scene.{AreProgressTables, TellsUnder, shown_lines, scene_of}
 use Rattle.vpg_texts.specs.Text.{show_text}
 
@@ -25,10 +22,6 @@ pub named_below : (lines : List Line) (n : ℕ) (decisions : List Decision) → 
 named_below lines n [] named is k d l = absurd (omega (arith, l))
 named_below lines n (x ∷ decisions) named is zero d l = subst (λ (m : ℕ). x.feature < m) (sym is) named.0
 named_below lines n (x ∷ decisions) named is (suc k) d l = named_below lines n decisions named.1 is k d (omega (arith, l))
-
-pub named_conflict : (lines : List Line) (decisions : List Decision) (f : ℕ) → NamesConflict (clauses_of lines) (counts_of lines) (map literal_of decisions) f →
-    HasConflictOf lines (map literal_of decisions)
-named_conflict lines decisions f named = conflict_named (clauses_of lines) (counts_of lines) (map literal_of decisions) f named
 
 pub on_ok : {E : Type 0} (r : Result (Unit {0}) E) (P Q : Type 0) → (P → Q) → OnOk r P → OnOk r Q
 on_ok (Ok done) P Q f p = f p

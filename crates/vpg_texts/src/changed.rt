@@ -1,8 +1,8 @@
 //! The verdicts of a page's vertices, and the lines of those that differ from earlier ones.
-ghost use Rattle.std.specs.Prelude.{◌≡◌, ◌++◌, ◌<◌, length, slice_index, IfOk, OnOk};
+ghost use Rattle.std.specs.Prelude.{◌≡◌, ◌++◌, ◌<◌, ◌≤◌, if◌then◌else◌, length, slice_index, IfOk, OnOk};
 ghost use Rattle.vpg_game.specs.Game.{vertex_ids};
 ghost use Rattle.vpg_game.specs.Levels.{top_of};
-ghost use Rattle.vpg_texts.specs.Changed.{change_count, change_line, change_lines, changed_text, same_verdicts, seen_at, verdict_of, verdict_words, verdicts_below};
+ghost use Rattle.vpg_texts.specs.Changed.{change_count, change_line, change_lines, change_text, changed_text, same_verdicts, seen_at, verdict_of, verdict_words, verdicts_below};
 
 use crate::labels::put_beside;
 use crate::text::{count_line, hopeless, identifier, number, sure};
@@ -93,6 +93,25 @@ fn change(
     Ok(())
 }
 
+/// Appends the line of a vertex with another verdict than was seen, and returns the number of lines.
+fn change_if(
+    id: u32,
+    label: &[u8],
+    before: Verdict,
+    now: Verdict,
+    out: &mut Vec<u8>,
+) -> Result<usize, AllocError>
+    ensures count { IfOk result (λ n. n ≡ (if same_verdicts before now then 0 else 1)) }
+    ensures few { IfOk result (λ n. n ≤ 1) }
+    ensures text { OnOk result (out.new.items ≡ out.old.items ++ change_text id label.now before now) }
+{
+    if same(before, now) {
+        return Ok(0);
+    }
+    change(id, label, before, now, out)?;
+    Ok(1)
+}
+
 /// Appends the lines of the vertices with another verdict than was seen, and returns their number.
 fn changes(
     game: &GuardedGame,
@@ -111,10 +130,7 @@ fn changes(
     for v in 0..count {
         let before = seen_at(seen, v);
         let verdict = seen_at(present, v);
-        if !same(before, verdict) {
-            change(identifier(game, v), labels.name(v), before, verdict, out)?;
-            changed += 1;
-        }
+        changed += change_if(identifier(game, v), labels.name(v), before, verdict, out)?;
     }
     Ok(changed)
 }

@@ -41,7 +41,7 @@ pub fn claims_over(
         page.now.dual) tone out.old.items out.new.items) }
     ensures unchanged { OnErr result (out.new.items ≡ out.old.items) }
 {
-    let settled = is_settled(games, &page.hopeful, &page.dual);
+    let settled = is_settled(games, game, diagram, &page.hopeful, &page.dual);
     // For the proof: whether each feature is known.
     let _full = games.known().is_full();
     let mut text = Vec::new(alloc);
@@ -79,7 +79,7 @@ pub fn full_over(
     ensures unchanged { OnErr result (out.new.items ≡ out.old.items) }
 {
     // For the proof: whether both tables are progress tables.
-    let _settled = is_settled(games, &page.hopeful, &page.dual);
+    let _settled = is_settled(games, game, diagram, &page.hopeful, &page.dual);
     let mut text = Vec::new(alloc);
     let tone = sights::full_line(games.known().is_full(), &mut text)?;
     out.extend_from_slice(&text)?;
@@ -106,7 +106,7 @@ pub fn settled_over(
         out.old.items out.new.items) }
     ensures unchanged { OnErr result (out.new.items ≡ out.old.items) }
 {
-    let settled = is_settled(games, &page.hopeful, &page.dual);
+    let settled = is_settled(games, game, diagram, &page.hopeful, &page.dual);
     // For the proof: whether each feature is known.
     let _full = games.known().is_full();
     let mut text = Vec::new(alloc);

@@ -39,7 +39,7 @@ pub fn count(
     ensures unchanged { OnErr result (out.new.items ≡ out.old.items) }
 {
     let full = games.known().is_full();
-    let settled = is_settled(games, &page.hopeful, &page.dual);
+    let settled = is_settled(games, game, diagram, &page.hopeful, &page.dual);
     let mut text = Vec::new(alloc);
     text::count(
         games,

@@ -2,12 +2,12 @@
 ghost use Rattle.std.specs.Prelude.{◌≡◌, ◌≤◌, ◌↔◌, ◌++◌, ℕ, List, length, map, All, IfOk, IsTrue, OnOk, OnErr};
 ghost use Rattle.std.specs.Bool.{Decides};
 ghost use Rattle.vpg_game.specs.Game.{graph_of};
-ghost use Rattle.vpg_measure.specs.Games.{ArePageGames, games_levels, games_arena};
+ghost use Rattle.vpg_measure.specs.Games.{AreGamesOf, ArePageGames, games_levels, games_arena};
 ghost use Rattle.vpg_measure.specs.Lifts.{IsTableOf, IsProgressTable};
 ghost use Rattle.vpg_measure.specs.TwoGames.{top_for};
 ghost use Rattle.vpg_partial.specs.Known.{literal_of};
 ghost use Rattle.vpg_partial.specs.TableLaws.{AreChoicesOf};
-ghost use Rattle.vpg_texts.specs.Scene.{AreSettledTables, IsShown, TellsUnder, scene_of, shown_lines};
+ghost use Rattle.vpg_texts.specs.Scene.{AreProgressTables, IsShown, TellsUnder, scene_of, shown_lines};
 
 use crate::text;
 use std::alloc::{AllocError, Global};
@@ -26,11 +26,20 @@ pub(crate) fn is_settled_table(games: &PageGames, which: Which, table: &Table) -
     is_progress(games.shape(which), games.arena(which), table)
 }
 
-/// Whether no lift raises either table.
-pub(crate) fn is_settled(games: &PageGames, hopeful: &Table, dual: &Table) -> bool
-    requires hopeful { IsTableOf games.now.hopeful_levels games.now.hopeful_arena hopeful.now }
-    requires dual { IsTableOf games.now.dual_levels games.now.dual_arena dual.now }
-    ensures { Decides result (AreSettledTables games.now hopeful.now dual.now) }
+/// Whether both tables are progress tables of a page's games.
+pub(crate) fn is_settled(
+    games: &PageGames,
+    game: &GuardedGame,
+    diagram: &Diagram,
+    hopeful: &Table,
+    dual: &Table,
+) -> bool
+    requires games { AreGamesOf game.now diagram.now games.now }
+    requires hopeful { length hopeful.now ≡ length game.now.vertices }
+    requires dual { length dual.now ≡ length game.now.vertices }
+    requires hopeful_within { All (λ n. n ≤ top_for Which.Hopeful (graph_of game.now)) hopeful.now }
+    requires dual_within { All (λ n. n ≤ top_for Which.Dual (graph_of game.now)) dual.now }
+    ensures { Decides result (AreProgressTables games.now.known (graph_of game.now) hopeful.now dual.now) }
 {
     if !is_settled_table(games, Which::Hopeful, hopeful) {
         return false;
@@ -60,7 +69,7 @@ fn shown(
         (shown_lines (scene_of labels.now.names game.now diagram.now) decisions.now hopeful.now dual.now) text.items) }
 {
     let full = games.known().is_full();
-    let settled = is_settled(games, hopeful, dual);
+    let settled = is_settled(games, game, diagram, hopeful, dual);
     let mut text = Vec::new(alloc);
     text::page(
         diagram.names(),

@@ -1,19 +1,8 @@
-use Rattle.std.proofs.Common.{◌++◌, ℕ, Bool, List, [], refl, ap, ◌∙◌, map}
-use Rattle.vpg_sides.specs.declared.which.Which.TheVariants.{Hopeful, Dual}
-use Rattle.vpg_partial.specs.Known.{literal_of}
+use Rattle.std.proofs.Common.{◌++◌, ℕ, Bool, List, refl, ap, ◌∙◌}
 use Rattle.vpg_texts.specs.Sights.{verdicts_at}
 use Rattle.vpg_texts.proofs.Counted.{asserts}
-use Rattle.vpg_texts.proofs.Settled.{table_of_games}
 use Rattle.vpg_texts.proofs.Shown.{written}
 use Rattle.vpg_texts.proofs.showing.assertions.claims_over.Goals as goal
-
-pub is_settled-settled-requires-clause-hopeful : goal.is_settled-settled-requires-clause-hopeful
-is_settled-settled-requires-clause-hopeful c =
-    table_of_games c.args.game.now c.args.diagram.now (map literal_of c.args.page.now.decisions) c.args.games.now c.requires.games Hopeful c.args.page.now.hopeful c.requires.hopeful c.requires.hopeful_within
-
-pub is_settled-settled-requires-clause-dual : goal.is_settled-settled-requires-clause-dual
-is_settled-settled-requires-clause-dual c =
-    table_of_games c.args.game.now c.args.diagram.now (map literal_of c.args.page.now.decisions) c.args.games.now c.requires.games Dual c.args.page.now.dual c.requires.dual c.requires.dual_within
 
 pub returns-clause-claimed : goal.returns-clause-claimed
 returns-clause-claimed c =
@@ -21,7 +10,6 @@ returns-clause-claimed c =
       _,
       (
         asserts c.args.game.now c.args.diagram.now page.decisions c.args.games.now c.requires.games page.hopeful page.dual
-            c.requires.hopeful c.requires.dual c.requires.hopeful_within c.requires.dual_within
             (λ (first second : ℕ) (full settled : Bool). verdicts_at first second page.hopeful page.dual settled c.args.claims.now c.args.vertex) c.is_full-full.result c.is_settled-settled.result
             (rw c.known.ensures at c.is_full-full.ensures.known) c.is_settled-settled.ensures,
         (c.in_ok-tone.ensures.0, c.in_ok-extend_from_slice.ensures.items ∙ ap (λ (bytes : List ℕ). c.args.out.now.items ++ bytes) (c.deref.ensures.value ∙ written _ _ c.new-text.result.items _ refl c.in_ok-tone.ensures.1 c.new-text.ensures.items)),
