@@ -1,5 +1,5 @@
 -- Looks by places.
-use Rattle.std.proofs.Common.{◌≡◌, ℕ, ◌<◌, Bool, true, false, List, length, Option, Some, None, Err, refl, sym}
+use Rattle.std.proofs.Common.{◌≡◌, ℕ, ◌<◌, Bool, true, false, List, length, Option, Some, None, refl}
 use Rattle.std.proofs.lemmas.Bool.{eqb-true, false≢true}
 use Rattle.std.specs.Prelude.{IfSome, slice_get}
 use Rattle.std.proofs.lemmas.Option.{slice_get_within}
@@ -24,7 +24,3 @@ has_system features behaviour other is = tt
 pub asked_if : (answerable : Bool) (look : VertexLook) (place : Option ℕ) → answerable ≡ true → topic_if answerable look place ≡ topic_or missings.Vertex (OfVertex look) place
 asked_if true look place is = refl
 asked_if false look place is = absurd (false≢true is)
-
-pub asked_not : (answerable : Bool) (look : VertexLook) (place : Option ℕ) → answerable ≡ false → topic_if answerable look place ≡ Err missings.System
-asked_not false look place is = refl
-asked_not true look place is = absurd (false≢true (sym is))

@@ -14,5 +14,5 @@ abbrev pub NumbersAddUp : Type 0
 NumbersAddUp =
     (scene : Scene) (looks others : ℕ) (choices : List Literal) (parts : List PartView) (numbers : List ℕ)
     (number : ℕ) → ArePartition scene.lines choices parts →
-    AreAmounts scene looks choices parts (map Exactly numbers) → IsAmount scene others choices (Exactly number) →
+    AreAmounts scene looks choices parts (map Exactly numbers) → IsAmount scene.lines others choices (Exactly number) →
     sum numbers ≡ number

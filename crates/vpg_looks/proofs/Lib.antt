@@ -1,7 +1,8 @@
 pub mod Asserted
+pub mod Doubts
+pub mod Facts
 pub mod Looked
 pub mod Moving
-pub mod Naming
 pub mod Offering
 pub mod OneEdges
 pub mod OneMoves
@@ -14,8 +15,6 @@ pub mod OneTraces
 pub mod OneUses
 pub mod OneWinners
 pub mod Parting
-pub mod Pictures
-pub mod Repairing
 pub mod Telling
 pub mod Told
 pub mod Trying

@@ -1,5 +1,5 @@
 -- Two lists of moves are one text.
-use Rattle.std.proofs.Common.{◌≡◌, ℕ, ◌<◌, Option, Some, None, List, length, get_or, refl, sym, ap, ◌∙◌, subst, inl, inr}
+use Rattle.std.proofs.Common.{◌≡◌, ℕ, ◌<◌, Option, Some, None, List, length, get_or, refl, sym, ap, ◌∙◌, subst}
 use Rattle.std.proofs.Math.Nat.{le_antisymm}
 use Rattle.std.proofs.lemmas.List.{same_lists, get_or_default}
 use Rattle.std.proofs.lemmas.Option.{get_or_from_slice_get}
@@ -19,6 +19,7 @@ use Rattle.vpg_why.specs.Explained.{choices}
 use Rattle.vpg_why.specs.declared.question.Limits.{Limits}
 use Rattle.vpg_looks.specs.Answers.{HasDoubt, TellsMoves, TellsWinning}
 use Rattle.vpg_looks.specs.Texts.{moves_text, moves_word}
+use Rattle.vpg_looks.proofs.Doubts.{either_one, sought_one}
 
 -- ---- lists that are the same everywhere
 
@@ -72,14 +73,9 @@ module _ (scene : Scene) (limits others : Limits) (mover : Which) (vertex : ℕ)
       (subst (λ (k : List Tri). ArePlayed (caution_for k mover scene.game) b.all vertex other) known b.played))
 
   winning_one : (one other : List ℕ) → TellsWinning scene limits mover vertex decisions one → TellsWinning scene others mover vertex decisions other → ¬ (HasDoubt one) → ¬ (HasDoubt other) → one ≡ other
-  winning_one one other (inl a) (inl b) sure also =
-      a.2 ∙ ap (moves_text (moves_word mover) scene.identifiers scene.labels) (moves_one a.0 b.0 a.1 b.1) ∙ sym b.2
-  winning_one one other (inl a) (inr b) sure also = absurd (also (inr (inr (inl b.1))))
-  winning_one one other (inr a) b sure also = absurd (sure (inr (inr (inl a.1))))
+  winning_one one other a b sure also = sought_one one other a b sure also (λ x y.
+      x.2 ∙ ap (moves_text (moves_word mover) scene.identifiers scene.labels) (moves_one x.0 y.0 x.1 y.1) ∙ sym y.2)
 
   pub tells_moves_one : (table one other : List ℕ) → TellsMoves scene limits mover vertex decisions table one → TellsMoves scene others mover vertex decisions table other →
       ¬ (HasDoubt one) → ¬ (HasDoubt other) → one ≡ other
-  tells_moves_one table one other (inl a) (inl b) sure also = winning_one one other a.1 b.1 sure also
-  tells_moves_one table one other (inl a) (inr b) sure also = absurd (b.0 a.0)
-  tells_moves_one table one other (inr a) (inl b) sure also = absurd (a.0 b.0)
-  tells_moves_one table one other (inr a) (inr b) sure also = a.1 ∙ sym b.1
+  tells_moves_one table one other a b sure also = either_one a b (λ x y. winning_one one other x y sure also) (λ x y. x ∙ sym y)

@@ -1,12 +1,8 @@
 -- Two lists of offers are one text.
-use Rattle.std.proofs.Common.{◌≡◌, ◌≢◌, ℕ, Bool, List, [], ◌∷◌, ◌++◌, length, map, refl, sym, ap, ap₂, ◌∙◌, subst, inl, inr, append_assoc}
+use Rattle.std.proofs.Common.{◌≡◌, ◌≢◌, ℕ, List, [], ◌∷◌, ◌++◌, length, map, refl, sym, ap, ap₂, ◌∙◌, subst, inl, inr, append_assoc}
 use Rattle.std.specs.Prelude.{codes, flat_map, ⊤}
 use Rattle.std.specs.List.{AllByRecursion}
-use Rattle.vpg_sides.specs.declared.player.Player.TheVariants.{Even, Odd}
-use Rattle.vpg_guards.specs.Formula.{truth}
 use Rattle.vpg_guards.specs.declared.tri.Tri.{Tri}
-use Rattle.vpg_hope.specs.Hope.{product_game}
-use Rattle.vpg_hope.proofs.Both.{not_both}
 use Rattle.vpg_diagram.specs.declared.clause.Literal.{Literal}
 use Rattle.vpg_sides.specs.declared.which.Which.{Which}
 use Rattle.vpg_sides.specs.declared.which.Which.TheVariants.{Hopeful, Dual}
@@ -18,15 +14,16 @@ use Rattle.vpg_why.specs.Explained.{choices}
 use Rattle.vpg_why.specs.declared.question.Limits.{Limits}
 use Rattle.vpg_why.specs.declared.question.Shown.{Shown}
 use Rattle.vpg_why.specs.declared.question.Shown.TheVariants as shown
-use Rattle.vpg_winners.specs.Decided.{WinsProduct}
 use Rattle.vpg_looks.specs.declared.offers.Fact.{Fact}
 use Rattle.vpg_looks.specs.declared.offers.Fact.TheVariants as facts
 use Rattle.vpg_looks.specs.declared.offers.Offered.{Offered}
 use Rattle.vpg_looks.specs.declared.offers.Prospect.{Prospect}
 use Rattle.vpg_looks.specs.declared.offers.Prospect.TheVariants as prospects
-use Rattle.vpg_looks.specs.Offers.{IsFact, IsVerdictShown, IsProspect, IsOffered, open_choices}
+use Rattle.vpg_looks.specs.Offers.{IsVerdictShown, IsProspect, IsOffered, open_choices}
+use Rattle.vpg_looks.specs.Room.{bare}
 use Rattle.vpg_looks.specs.Texts.{fact_word, shown_word, offer_words, offer_line, offers_text}
 use Rattle.vpg_looks.specs.Answers.{TellsOffers, HasDoubt}
+use Rattle.vpg_looks.proofs.Facts.{fact_one}
 
 -- ---- doubts
 
@@ -57,24 +54,19 @@ module _ (names : List (List ℕ)) where
   settled_words choice rest (prospects.Left hopeless sure fact) none = (first hopeless none, second sure none, third fact none)
     where
       first : (h : Shown) → HasNone (offer_line names (record { choice = choice; prospect = prospects.Left h sure fact }) ++ rest) → h ≢ shown.Unsettled
-      first shown.Yes fine = λ e. cc e
-      first shown.No fine = λ e. cc e
       first shown.Unsettled fine = λ e. fine (choice_text names choice) (shown_word Dual sure ++ (fact_word fact ++ (codes "\n" ++ rest)))
           (in_first (codes "offer") (choice_text names choice) (codes " unsettled") (shown_word Dual sure) (fact_word fact) (codes "\n") rest)
+      first h fine = λ e. cc e
 
       second : (s : Shown) → HasNone (offer_line names (record { choice = choice; prospect = prospects.Left hopeless s fact }) ++ rest) → s ≢ shown.Unsettled
-      second shown.Yes fine = λ e. cc e
-      second shown.No fine = λ e. cc e
       second shown.Unsettled fine = λ e. fine (choice_text names choice ++ shown_word Hopeful hopeless) (fact_word fact ++ (codes "\n" ++ rest))
           (in_second (codes "offer") (choice_text names choice) (shown_word Hopeful hopeless) (codes " unsettled") (fact_word fact) (codes "\n") rest)
+      second s fine = λ e. cc e
 
       third : (f : Fact) → HasNone (offer_line names (record { choice = choice; prospect = prospects.Left hopeless sure f }) ++ rest) → f ≢ facts.Unsettled
-      third facts.Won fine = λ e. cc e
-      third facts.Lost fine = λ e. cc e
-      third facts.Mixed fine = λ e. cc e
-      third facts.Empty fine = λ e. cc e
       third facts.Unsettled fine = λ e. fine (choice_text names choice ++ (shown_word Hopeful hopeless ++ shown_word Dual sure)) (codes "\n" ++ rest)
           (in_third (codes "offer") (choice_text names choice) (shown_word Hopeful hopeless) (shown_word Dual sure) (codes " unsettled") (codes "\n") rest)
+      third f fine = λ e. cc e
 
   all_settled : (listed : List Offered) (tail : List ℕ) → HasNone (flat_map (offer_line names) listed ++ tail) → AllByRecursion (λ o. IsSettledProspect o.prospect) listed
   all_settled [] tail none = tt
@@ -96,49 +88,14 @@ module _ (names : List (List ℕ)) where
 
 -- ---- one page
 
-pub first_of : {X : Type 0} (x y : X) (xs ys : List X) → x ∷ xs ≡ y ∷ ys → x ≡ y
-first_of x y xs ys e = cc e
-
-pub rest_of : {X : Type 0} (x y : X) (xs ys : List X) → x ∷ xs ≡ y ∷ ys → xs ≡ ys
-rest_of x y xs ys e = cc e
-
 module _ (scene : Scene) (limits others : Limits) (vertex : ℕ) where
   shown_one : (choices : List Literal) (which : Which) (a b : Shown) → IsVerdictShown scene limits vertex choices which a → IsVerdictShown scene others vertex choices which b →
       a ≢ shown.Unsettled → b ≢ shown.Unsettled → a ≡ b
   shown_one choices which shown.Yes shown.Yes x y s t = refl
   shown_one choices which shown.Yes shown.No x y s t = absurd (y.no refl (x.yes refl))
-  shown_one choices which shown.Yes shown.Unsettled x y s t = absurd (t refl)
   shown_one choices which shown.No shown.Yes x y s t = absurd (x.no refl (y.yes refl))
   shown_one choices which shown.No shown.No x y s t = refl
-  shown_one choices which shown.No shown.Unsettled x y s t = absurd (t refl)
-  shown_one choices which shown.Unsettled b x y s t = absurd (s refl)
-
-  -- both players don't win one product
-  both_win : (set : List Bool) → WinsProduct scene.game Even vertex set → WinsProduct scene.game Odd vertex set → ⊥
-  both_win set s t = not_both (product_game (truth set) scene.game) s.0 t.0 vertex s.1 t.1
-
-  fact_one : (choices : List Literal) (a b : Fact) → IsFact scene limits vertex choices a → IsFact scene others vertex choices b → a ≢ facts.Unsettled → b ≢ facts.Unsettled → a ≡ b
-  fact_one choices facts.Won facts.Won x y s t = refl
-  fact_one choices facts.Won facts.Lost x y s t = absurd (both_win x.0.0 (x.1 x.0.0 x.0.1) (y.1 x.0.0 x.0.1))
-  fact_one choices facts.Won facts.Mixed x y s t = absurd (both_win y.1.0 (x.1 y.1.0 y.1.1) y.1.2)
-  fact_one choices facts.Won facts.Empty x y s t = absurd (y x.0.0 x.0.1)
-  fact_one choices facts.Won facts.Unsettled x y s t = absurd (t refl)
-  fact_one choices facts.Lost facts.Won x y s t = absurd (both_win x.0.0 (y.1 x.0.0 x.0.1) (x.1 x.0.0 x.0.1))
-  fact_one choices facts.Lost facts.Lost x y s t = refl
-  fact_one choices facts.Lost facts.Mixed x y s t = absurd (both_win y.0.0 y.0.2 (x.1 y.0.0 y.0.1))
-  fact_one choices facts.Lost facts.Empty x y s t = absurd (y x.0.0 x.0.1)
-  fact_one choices facts.Lost facts.Unsettled x y s t = absurd (t refl)
-  fact_one choices facts.Mixed facts.Won x y s t = absurd (both_win x.1.0 (y.1 x.1.0 x.1.1) x.1.2)
-  fact_one choices facts.Mixed facts.Lost x y s t = absurd (both_win x.0.0 x.0.2 (y.1 x.0.0 x.0.1))
-  fact_one choices facts.Mixed facts.Mixed x y s t = refl
-  fact_one choices facts.Mixed facts.Empty x y s t = absurd (y x.0.0 x.0.1)
-  fact_one choices facts.Mixed facts.Unsettled x y s t = absurd (t refl)
-  fact_one choices facts.Empty facts.Won x y s t = absurd (x y.0.0 y.0.1)
-  fact_one choices facts.Empty facts.Lost x y s t = absurd (x y.0.0 y.0.1)
-  fact_one choices facts.Empty facts.Mixed x y s t = absurd (x y.0.0 y.0.1)
-  fact_one choices facts.Empty facts.Empty x y s t = refl
-  fact_one choices facts.Empty facts.Unsettled x y s t = absurd (t refl)
-  fact_one choices facts.Unsettled b x y s t = absurd (s refl)
+  shown_one choices which a b x y s t = absurd (search)
 
   left_is : (h k : Shown) (s r : Shown) (f g : Fact) → h ≡ k → s ≡ r → f ≡ g → prospects.Left h s f ≡ prospects.Left k r g
   left_is h k s r f g a b c = cc (a, b, c)
@@ -148,7 +105,7 @@ module _ (scene : Scene) (limits others : Limits) (vertex : ℕ) where
   prospect_one choices prospects.Conflict (prospects.Left hopeless sure fact) x y s t = absurd (y.0 x)
   prospect_one choices (prospects.Left hopeless sure fact) prospects.Conflict x y s t = absurd (x.0 y)
   prospect_one choices (prospects.Left hopeless sure fact) (prospects.Left less surer other) x y s t =
-      left_is hopeless less sure surer fact other (shown_one choices Hopeful hopeless less x.1 y.1 s.0 t.0) (shown_one choices Dual sure surer x.2 y.2 s.1 t.1) (fact_one choices fact other x.3 y.3 s.2 t.2)
+      left_is hopeless less sure surer fact other (shown_one choices Hopeful hopeless less x.1 y.1 s.0 t.0) (shown_one choices Dual sure surer x.2 y.2 s.1 t.1) (fact_one scene choices vertex limits others fact other x.3 y.3 s.2 t.2)
 
   module _ (decisions : List Decision) where
     offered_one : (o p : Offered) → o.choice ≡ p.choice → IsOffered scene limits vertex decisions o → IsOffered scene others vertex decisions p → IsSettledProspect o.prospect → IsSettledProspect p.prospect → o ≡ p
@@ -164,14 +121,15 @@ module _ (scene : Scene) (limits others : Limits) (vertex : ℕ) where
     listed_one (o ∷ os) [] same x y s t = absurd (cc same)
     listed_one (o ∷ os) (p ∷ ps) same x y s t =
         ap₂ (λ (e : Offered) (es : List Offered). e ∷ es)
-        (offered_one o p (first_of o.choice p.choice (map (λ q. q.choice) os) (map (λ q. q.choice) ps) same) x.0 y.0 s.0 t.0)
-        (listed_one os ps (rest_of o.choice p.choice (map (λ q. q.choice) os) (map (λ q. q.choice) ps) same) x.1 y.1 s.1 t.1)
+        (offered_one o p (cc same) x.0 y.0 s.0 t.0)
+        (listed_one os ps (cc same) x.1 y.1 s.1 t.1)
 
-    pub offers_one : (one other : List ℕ) → TellsOffers scene limits vertex decisions one → TellsOffers scene others vertex decisions other → ¬ (HasDoubt one) → ¬ (HasDoubt other) → one ≡ other
-    offers_one one other a b sure also =
-        let known : a.0 ≡ b.0 = known_is_one scene.lines (choices decisions) a.0 b.0 a.2 b.2 in
-        a.4
-        ∙ ap (offers_text scene.names)
-        (listed_one a.1 b.1 (a.3.each ∙ ap (λ (k : List Tri). open_choices k (length k)) known ∙ sym b.3.each) a.3.offered b.3.offered
-        (without_doubt scene.names a.1 one a.4 sure) (without_doubt scene.names b.1 other b.4 also))
-        ∙ sym b.4
+pub offers_one : (scene : Scene) (limits others : Limits) (vertex : ℕ) (decisions : List Decision) (one other : List ℕ) → TellsOffers scene limits vertex decisions one →
+    TellsOffers scene others vertex decisions other → ¬ (HasDoubt one) → ¬ (HasDoubt other) → one ≡ other
+offers_one scene limits others vertex decisions one other a b sure also =
+    let known : a.0 ≡ b.0 = known_is_one scene.lines (choices decisions) a.0 b.0 a.2 b.2 in
+    a.4
+    ∙ ap (offers_text scene.names)
+    (listed_one (bare scene) limits others vertex decisions a.1 b.1 (a.3.each ∙ ap (λ (k : List Tri). open_choices k (length k)) known ∙ sym b.3.each) a.3.offered b.3.offered
+    (without_doubt scene.names a.1 one a.4 sure) (without_doubt scene.names b.1 other b.4 also))
+    ∙ sym b.4

@@ -1,5 +1,5 @@
 -- Two pictures of what matters at a vertex are one text.
-use Rattle.std.proofs.Common.{◌≡◌, ℕ, ◌<◌, Bool, true, false, Option, Some, None, List, [], length, get_or, refl, sym, ◌∙◌, subst, inl, inr}
+use Rattle.std.proofs.Common.{◌≡◌, ℕ, ◌<◌, Bool, true, false, Option, Some, None, List, [], length, get_or, refl, sym, ◌∙◌, subst}
 use Rattle.std.proofs.lemmas.List.{same_lists, get_or_default}
 use Rattle.vpg_guards.specs.declared.tri.Tri.{Tri}
 use Rattle.vpg_guards.specs.Formula.{Formula}
@@ -19,6 +19,7 @@ use Rattle.vpg_why.specs.Products.{loser}
 use Rattle.vpg_why.specs.declared.question.Limits.{Limits}
 use Rattle.vpg_looks.specs.Answers.{HasDoubt}
 use Rattle.vpg_looks.specs.Parts.{IsPartDrawn, DrawsWinning, TellsPart}
+use Rattle.vpg_looks.proofs.Doubts.{each_one, sought_one}
 use Rattle.vpg_looks.proofs.OneMoves.{moves_one}
 
 same_bool : (a b : Bool) → (a ≡ true → b ≡ true) → (b ≡ true → a ≡ true) → a ≡ b
@@ -48,21 +49,12 @@ module _ (scene : Scene) (limits others : Limits) (vertex : ℕ) (decisions : Li
 
   draws_one : (mover : Which) (one other : List ℕ) → DrawsWinning scene limits mover vertex decisions hopeful dual one → DrawsWinning scene others mover vertex decisions hopeful dual other →
       ¬ (HasDoubt one) → ¬ (HasDoubt other) → one ≡ other
-  draws_one mover one other (inl a) (inl b) sure also =
-      part_one (Some (loser mover)) a.0 one other a.2
+  draws_one mover one other a b sure also = sought_one one other a b sure also (λ x y.
+      part_one (Some (loser mover)) x.0 one other x.2
       (subst (λ (ms : List (Option ℕ)). IsPartDrawn scene vertex decisions hopeful dual (Some (loser mover)) ms other)
-      (moves_one scene limits others mover vertex decisions b.0 a.0 b.1 a.1) b.2)
-  draws_one mover one other (inl a) (inr b) sure also = absurd (also (inr (inr (inl b.1))))
-  draws_one mover one other (inr a) b sure also = absurd (sure (inr (inr (inl a.1))))
+      (moves_one scene limits others mover vertex decisions y.0 x.0 y.1 x.1) y.2))
 
   pub tells_part_one : (one other : List ℕ) → TellsPart scene limits vertex decisions hopeful dual one → TellsPart scene others vertex decisions hopeful dual other →
       ¬ (HasDoubt one) → ¬ (HasDoubt other) → one ≡ other
-  tells_part_one one other (inl a) (inl b) sure also = draws_one Dual one other a.1 b.1 sure also
-  tells_part_one one other (inl a) (inr (inl b)) sure also = absurd (b.0 a.0)
-  tells_part_one one other (inl a) (inr (inr b)) sure also = absurd (b.0 a.0)
-  tells_part_one one other (inr (inl a)) (inl b) sure also = absurd (a.0 b.0)
-  tells_part_one one other (inr (inl a)) (inr (inl b)) sure also = draws_one Hopeful one other a.2 b.2 sure also
-  tells_part_one one other (inr (inl a)) (inr (inr b)) sure also = absurd (b.1 a.1)
-  tells_part_one one other (inr (inr a)) (inl b) sure also = absurd (a.0 b.0)
-  tells_part_one one other (inr (inr a)) (inr (inl b)) sure also = absurd (a.1 b.1)
-  tells_part_one one other (inr (inr a)) (inr (inr b)) sure also = part_one None [] one other a.2 b.2
+  tells_part_one one other a b sure also =
+      each_one a b (λ x y. draws_one Dual one other x y sure also) (λ x y. draws_one Hopeful one other x y sure also) (part_one None [] one other)

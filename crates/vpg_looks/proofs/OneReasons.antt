@@ -1,16 +1,14 @@
 -- Two answers of reasons, examples and losses are one text.
-use Rattle.std.proofs.Common.{◌≡◌, ℕ, Bool, true, false, List, [], ◌++◌, refl, sym, ap, ap₂, ◌∙◌, subst, inl, inr, append-nil, append_assoc}
-use Rattle.std.specs.Prelude.{◌⊎◌, codes, length, map, slice_index}
+use Rattle.std.proofs.Common.{◌≡◌, ℕ, Bool, true, false, List, [], ◌++◌, refl, sym, ap, ap₂, ◌∙◌, inl, inr, append-nil, append_assoc}
+use Rattle.std.specs.Prelude.{◌⊎◌, codes, length, slice_index}
 use Rattle.vpg_diagram.specs.FeatureDiagram.{IsDiagram}
 use Rattle.vpg_measure.specs.TwoGames.{top_for}
 use Rattle.vpg_sides.specs.declared.which.Which.{Which}
 use Rattle.vpg_sides.specs.declared.which.Which.TheVariants.{Hopeful, Dual}
-use Rattle.vpg_partial.specs.Known.{literal_of}
 use Rattle.vpg_partial.specs.TableLaws.{AreChoicesOf}
 use Rattle.vpg_partial.specs.declared.decision.Decision.{Decision}
-use Rattle.vpg_texts.specs.Labels.{beside}
 use Rattle.vpg_texts.specs.Scene.{Scene}
-use Rattle.vpg_texts.specs.Text.{blank_number, choices_text}
+use Rattle.vpg_texts.specs.Text.{blank_number}
 use Rattle.vpg_why.specs.Explained.{choices}
 use Rattle.vpg_why.specs.Suffices.{choice}
 use Rattle.vpg_why.specs.declared.question.Aim.{Aim}
@@ -21,32 +19,11 @@ use Rattle.vpg_why.proofs.Listing.{among_named}
 use Rattle.vpg_why.proofs.Monotone.{more_choices_suffice}
 use Rattle.vpg_why.proofs.FirstOnes.{first_products_are_one}
 use Rattle.vpg_why.proofs.Next.{explanations_are_one}
-use Rattle.vpg_looks.specs.Texts.{verdict_word, verdict_line, other_line, lost_line, known_line, conflict_line, names_in, product_line}
+use Rattle.vpg_looks.specs.Texts.{verdict_word, verdict_line, other_line, lost_line, known_line, conflict_line, names_in, product_line, reason_text}
+use Rattle.vpg_looks.proofs.Doubts.{either_one, is_sharp}
 use Rattle.vpg_script.specs.Answer.{Answer}
 use Rattle.vpg_script.proofs.Given.{done_one}
 use Rattle.vpg_looks.specs.Answers.{MakeSo, IsReason, identifier_of, label_in, TellsVerdict, TellsVertex, TellsKnownBy, TellsFeature, TellsChoice, TellsConflict, TellsProduct, TellsExample, TellsLost, HasDoubt, lost_for, lost_label}
-
--- ---- doubts
-
-regroup : (p x c d e n q : List ℕ) → (p ++ (x ++ (((c ++ d) ++ e) ++ n))) ++ q ≡ ((((p ++ (x ++ c)) ++ d) ++ e) ++ n) ++ q
-regroup p x c d e n q = simp append_assoc
-
--- a line in a text without a doubt is exact
-no_doubt : (names : List (List ℕ)) (which : Which) (identifier : ℕ) (label : List ℕ) (listed : List Decision) (exact : Bool) (before behind whole : List ℕ) →
-    whole ≡ before ++ verdict_line names which identifier label listed exact ++ behind → ¬ (HasDoubt whole) → exact ≡ true
-no_doubt names which identifier label listed true before behind whole is none = refl
-no_doubt names which identifier label listed false before behind whole is none =
-    let head : List ℕ = verdict_word which ++ blank_number identifier in
-    let chosen : List ℕ = choices_text names (map literal_of listed) in
-    absurd (none (inl (before ++ (head ++ chosen), label, behind, is ∙ regroup before head chosen (codes " or fewer") (beside label) (codes "\n") behind)))
-
--- nor has what is lost or won
-lost_no_doubt : (head label : List ℕ) (names : List (List ℕ)) (listed : List Decision) (exact : Bool) (whole : List ℕ) →
-    whole ≡ lost_line head label names listed exact → ¬ (HasDoubt whole) → exact ≡ true
-lost_no_doubt head label names listed true whole is none = refl
-lost_no_doubt head label names listed false whole is none =
-    let chosen : List ℕ = choices_text names (map literal_of listed) in
-    absurd (none (inl (head ++ chosen, label, [], is ∙ sym (append-nil (lost_line head label names listed false)) ∙ regroup [] head chosen (codes " or fewer") (beside label) (codes "\n") [])))
 
 -- ---- one page
 
@@ -66,37 +43,25 @@ module _ (scene : Scene) (limits others : Limits) (decisions : List Decision) (i
     abbrev line : List Decision → Bool → List ℕ
     line listed exact = verdict_line scene.names which (identifier_of scene vertex) (label_in scene vertex) listed exact
 
-    -- a verdict that is told without a doubt
-    record IsFor (text : List ℕ) : Type 0 where
-      listed : List Decision
-      reason : IsReason scene (asks.Verdict which vertex) decisions listed true
-      text_is : text ≡ line listed true
-
+    -- what is told without a doubt
     abbrev IsTold : List ℕ → Type 0
-    IsTold text = (IsHigh × IsFor text) ⊎ (¬ IsHigh × (text ≡ other_line which (identifier_of scene vertex) (label_in scene vertex)))
-
-    exactly : (text : List ℕ) (listed : List Decision) (exact : Bool) → exact ≡ true → IsReason scene (asks.Verdict which vertex) decisions listed exact → text ≡ line listed exact → IsFor text
-    exactly text listed exact sure reason text_is = record {
-      listed = listed;
-      reason = subst (λ (b : Bool). IsReason scene (asks.Verdict which vertex) decisions listed b) sure reason;
-      text_is = text_is ∙ ap (line listed) sure;
-    }
+    IsTold text =
+        (IsHigh × ((listed : List Decision) × IsReason scene (asks.Verdict which vertex) decisions listed true × (text ≡ line listed true)))
+        ⊎ (¬ IsHigh × (text ≡ other_line which (identifier_of scene vertex) (label_in scene vertex)))
 
     told : (before text behind whole : List ℕ) → whole ≡ before ++ text ++ behind → ¬ (HasDoubt whole) → (limits : Limits) → TellsVerdict scene limits which vertex decisions table text → IsTold text
     told before text behind whole parts none limits (inr low) = inr low
-    told before text behind whole parts none limits (inl (high, so)) =
-        inl (
-          high,
-          exactly text so.0 so.1
-              (no_doubt scene.names which (identifier_of scene vertex) (label_in scene vertex) so.0 so.1 before behind whole (parts ∙ ap (λ (t : List ℕ). before ++ t ++ behind) so.3) none) so.2 so.3,
-        )
+    told before text behind whole parts none limits (inl (high, (listed, exact, reason, text_is, settled))) =
+        let head : List ℕ = verdict_word which ++ blank_number (identifier_of scene vertex) in
+        let rest : List ℕ = reason_text scene.names listed exact (label_in scene vertex) in
+        let sharp : exact ≡ true = is_sharp whole none (before ++ head) scene.names listed exact (label_in scene vertex) behind
+        (parts ∙ ap (λ (t : List ℕ). (before ++ t) ++ behind) text_is ∙ ap (λ (t : List ℕ). t ++ behind) (sym (append_assoc before head rest))) in
+        inl (high, (listed, rw sharp at reason, rw sharp at text_is))
 
     verdict_one : (one other : List ℕ) → IsTold one → IsTold other → one ≡ other
-    verdict_one one other (inl (high, a)) (inl (also, b)) =
-        a.text_is ∙ ap (λ (listed : List Decision). line listed true) (reason_one (asks.Verdict which vertex) a.listed b.listed a.reason b.reason) ∙ sym b.text_is
-    verdict_one one other (inl (high, a)) (inr (low, b)) = absurd (low high)
-    verdict_one one other (inr (low, a)) (inl (high, b)) = absurd (low high)
-    verdict_one one other (inr (low, a)) (inr (also, b)) = a ∙ sym b
+    verdict_one one other a b = either_one a b (λ x y.
+        x.2 ∙ ap (λ (listed : List Decision). line listed true) (reason_one (asks.Verdict which vertex) x.0 y.0 x.1 y.1) ∙ sym y.2)
+        (λ x y. x ∙ sym y)
 
   pub vertex_one : (vertex : ℕ) (hopeful dual one other : List ℕ) → TellsVertex scene limits vertex decisions hopeful dual one → TellsVertex scene others vertex decisions hopeful dual other →
       ¬ (HasDoubt one) → ¬ (HasDoubt other) → one ≡ other
@@ -146,10 +111,9 @@ module _ (scene : Scene) (limits others : Limits) (decisions : List Decision) (i
         ∙ ap₂ (λ (set : List Bool) (is : Bool). product_line scene.names set is)
         (first_products_are_one scene.game scene.lines aim (choices decisions) a.0 b.0 a.2 a.3 (a.4 first) b.2 b.3 (b.4 second)) (first ∙ sym second) ∙ sym b.5
     example_one one other (inl a) (inr (inl b)) sure also = absurd (b.0 a.0 a.2 a.3)
-    example_one one other (inl a) (inr (inr b)) sure also = absurd (also (inr (inr (inl b.1))))
     example_one one other (inr (inl a)) (inl b) sure also = absurd (a.0 b.0 b.2 b.3)
     example_one one other (inr (inl a)) (inr (inl b)) sure also = a.1 ∙ sym b.1
-    example_one one other (inr (inl a)) (inr (inr b)) sure also = absurd (also (inr (inr (inl b.1))))
+    example_one one other a (inr (inr b)) sure also = absurd (also (inr (inr (inl b.1))))
     example_one one other (inr (inr a)) b sure also = absurd (sure (inr (inr (inl a.1))))
 
     abbrev IsProduct : Limits → List ℕ → Type 0
@@ -158,24 +122,21 @@ module _ (scene : Scene) (limits others : Limits) (decisions : List Decision) (i
     product_one : (one other : List ℕ) → IsProduct limits one → IsProduct others other → ¬ (HasDoubt one) → ¬ (HasDoubt other) → one ≡ other
     product_one one other a b sure also = example_one one other (inl a) (inl b) sure also
 
-    -- what is told without a doubt
-    lost_exactly : (listed : List Decision) (exact : Bool) → exact ≡ true → IsReason scene (asks.Lost aim) decisions listed exact → IsReason scene (asks.Lost aim) decisions listed true
-    lost_exactly listed exact sure reason = subst (λ (b : Bool). IsReason scene (asks.Lost aim) decisions listed b) sure reason
-
     -- a product shows that none of the page's decisions leave none
     not_lost : (limits : Limits) (text : List ℕ) (listed : List Decision) (exact : Bool) → IsReason scene (asks.Lost aim) decisions listed exact → IsProduct limits text → ⊥
     not_lost limits text listed exact reason p = all_make (asks.Lost aim) listed exact reason p.0 p.2 p.3
 
     pub lost_one : (one other : List ℕ) → TellsLost scene limits aim decisions one → TellsLost scene others aim decisions other → ¬ (HasDoubt one) → ¬ (HasDoubt other) → one ≡ other
     lost_one one other (inl a) (inl b) sure also =
-        let first : a.1 ≡ true = lost_no_doubt (lost_for scene aim) (lost_label scene aim) scene.names a.0 a.1 one a.3 sure in
-        let second : b.1 ≡ true = lost_no_doubt (lost_for scene aim) (lost_label scene aim) scene.names b.0 b.1 other b.3 also in
+        let head : List ℕ = lost_for scene aim in
+        let label : List ℕ = lost_label scene aim in
+        let first : a.1 ≡ true = is_sharp one sure head scene.names a.0 a.1 label [] (a.3 ∙ sym (append-nil (lost_line head label scene.names a.0 a.1))) in
+        let second : b.1 ≡ true = is_sharp other also head scene.names b.0 b.1 label [] (b.3 ∙ sym (append-nil (lost_line head label scene.names b.0 b.1))) in
         a.3
-        ∙ ap₂ (λ (listed : List Decision) (exact : Bool). lost_line (lost_for scene aim) (lost_label scene aim) scene.names listed exact)
-        (reason_one (asks.Lost aim) a.0 b.0 (lost_exactly a.0 a.1 first a.2) (lost_exactly b.0 b.1 second b.2)) (first ∙ sym second) ∙ sym b.3
+        ∙ ap₂ (λ (listed : List Decision) (exact : Bool). lost_line head label scene.names listed exact)
+        (reason_one (asks.Lost aim) a.0 b.0 (rw first at a.2) (rw second at b.2)) (first ∙ sym second) ∙ sym b.3
     lost_one one other (inl a) (inr (inl b)) sure also = absurd (not_lost others other a.0 a.1 a.2 b)
-    lost_one one other (inl a) (inr (inr b)) sure also = absurd (also (inr (inr (inl b.1))))
     lost_one one other (inr (inl a)) (inl b) sure also = absurd (not_lost limits one b.0 b.1 b.2 a)
     lost_one one other (inr (inl a)) (inr (inl b)) sure also = product_one one other a b sure also
-    lost_one one other (inr (inl a)) (inr (inr b)) sure also = absurd (also (inr (inr (inl b.1))))
+    lost_one one other a (inr (inr b)) sure also = absurd (also (inr (inr (inl b.1))))
     lost_one one other (inr (inr a)) b sure also = absurd (sure (inr (inr (inl a.1))))

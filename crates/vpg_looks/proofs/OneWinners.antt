@@ -1,15 +1,13 @@
 -- Two answers on who wins are one text.
-use Rattle.std.proofs.Common.{◌≡◌, ◌≢◌, ℕ, Bool, true, false, List, [], ◌∷◌, ◌++◌, refl, sym, ap₂, ◌∙◌, subst, inl, inr, append-nil, append_assoc}
-use Rattle.std.specs.Prelude.{codes, count_by, length}
+use Rattle.std.proofs.Common.{◌≡◌, ◌≢◌, ℕ, Bool, true, false, List, [], ◌∷◌, ◌++◌, refl, sym, ap₂, ◌∙◌, subst, inr, arith, append-nil, append_assoc}
+use Rattle.std.specs.Prelude.{◌⊎◌, codes, count_by, length}
 use Rattle.std.specs.List.{AllByRecursion, list_all}
 use Rattle.std.proofs.lemmas.Bool.{and_parts, false≢true}
 use Rattle.vpg_sides.specs.declared.player.Player.TheVariants.{Even, Odd}
-use Rattle.vpg_guards.specs.Formula.{truth}
 use Rattle.vpg_number.specs.Counted.{IsExact}
 use Rattle.vpg_number.specs.declared.counted.Count.{Count}
-use Rattle.vpg_hope.specs.Hope.{product_game}
-use Rattle.vpg_hope.proofs.Both.{not_both}
 use Rattle.vpg_sides.specs.declared.which.Which.TheVariants.{Hopeful, Dual}
+use Rattle.vpg_partial.specs.KnownLaws.{IsRemaining}
 use Rattle.vpg_partial.specs.declared.decision.Decision.{Decision}
 use Rattle.vpg_texts.specs.Labels.{beside}
 use Rattle.vpg_texts.specs.Scene.{Scene}
@@ -27,6 +25,8 @@ use Rattle.vpg_winners.proofs.One.{winners_one as parts_are_one}
 use Rattle.vpg_looks.specs.Answers.{HasDoubt, TellsDecided, TellsMixed, TellsWinners, identifier_of, label_in}
 use Rattle.vpg_looks.specs.Texts.{is_lost, is_told, is_won, mixed_text, more_text, names_in, part_lines, product_word, winners_line, winners_text}
 use Rattle.vpg_looks.specs.Numbers.{AreAmounts, looks_each}
+use Rattle.vpg_looks.proofs.Doubts.{are_all, not_open}
+use Rattle.vpg_looks.proofs.Facts.{both_win}
 use Rattle.vpg_looks.proofs.OneNumbers.{counts_exact, counts_one}
 
 -- ---- doubts
@@ -34,16 +34,9 @@ use Rattle.vpg_looks.proofs.OneNumbers.{counts_exact, counts_one}
 ends : (f l m e n : List ℕ) → f ++ (((l ++ m) ++ e) ++ n) ≡ ((((f ++ l) ++ m) ++ e) ++ n) ++ []
 ends f l m e n = simp (append_assoc, append-nil)
 
--- a text without a doubt ends without one
-all_told : (front line label : List ℕ) (told : Bool) (text : List ℕ) → text ≡ front ++ (((line ++ more_text told) ++ beside label) ++ codes "\n") → ¬ (HasDoubt text) → told ≡ true
-all_told front line label true text is sure = refl
-all_told front line label false text is sure =
-    absurd (sure (inr (inr (inr (inr (inl (front ++ line, label, [], is ∙ ends front line (codes " or more") (beside label) (codes "\n"))))))))
-
 is_settled : (w : Winner) → is_told w ≡ true → w ≢ winners.Unsettled
-is_settled winners.Won told = λ e. cc e
-is_settled winners.Lost told = λ e. cc e
 is_settled winners.Unsettled told = absurd (false≢true told)
+is_settled w told = λ e. cc e
 
 are_settled : (parts : List PartView) → list_all (λ p. is_told p.winner) parts ≡ true → AreSettled parts
 are_settled [] told = tt
@@ -83,15 +76,33 @@ module _ (names : List (List ℕ)) (identifier : ℕ) (label : List ℕ) (won lo
 
 -- ---- one page
 
+-- of the four kinds of answer each rules out the others
+module _ (Left Even_wins Odd_wins : List Bool → Type 0) (both : (set : List Bool) → Even_wins set → Odd_wins set → ⊥) where
+  abbrev Each : (List Bool → Type 0) → Type 0
+  Each Wins = (set : List Bool) → Left set → Wins set
+
+  abbrev Some : (List Bool → Type 0) → Type 0
+  Some Wins = (set : List Bool) × Left set × Wins set
+
+  abbrev Kinds : (Mixed Cut : Type 0) (text won lost empty short : List ℕ) → Type 0
+  Kinds Mixed Cut text won lost empty short =
+      (((set : List Bool) × Left set) × Each Even_wins × (text ≡ won)) ⊎ (((set : List Bool) × Left set) × Each Odd_wins × (text ≡ lost))
+      ⊎ Mixed ⊎ (((set : List Bool) → Left set → ⊥) × (text ≡ empty)) ⊎ (Cut × (text ≡ short))
+
+  of_kinds : {P Q R S : Type 0} (one other won lost empty short : List ℕ) → ¬ (one ≡ short) → ¬ (other ≡ short) → (P → Some Even_wins × Some Odd_wins) → (R → Some Even_wins × Some Odd_wins) →
+      (P → R → one ≡ other) → Kinds P Q one won lost empty short → Kinds R S other won lost empty short → one ≡ other
+  of_kinds one other won lost empty short sure also mixed same_mixed same a b = grind arith
+
 module _ (scene : Scene) (limits others : Limits) (vertex : ℕ) (decisions : List Decision) where
   module _ (parts : List PartView) (counts : List Count) (text : List ℕ) (is : text ≡ winners_text scene.names (identifier_of scene vertex) (label_in scene vertex) parts counts) (sure : ¬ (HasDoubt text)) where
     pub told_settled : AreSettled parts
     told_settled =
         let id : ℕ = identifier_of scene vertex in
+        let lines : List ℕ = part_lines scene.names id (label_in scene vertex) parts counts in
+        let line : List ℕ = ((codes "winners" ++ blank_number id) ++ blank_number (count_by (λ p. is_won p.winner) parts)) ++ blank_number (count_by (λ p. is_lost p.winner) parts) in
+        let told : Bool = list_all (λ p. is_told p.winner) parts in
         are_settled parts
-        (all_told (part_lines scene.names id (label_in scene vertex) parts counts)
-        (((codes "winners" ++ blank_number id) ++ blank_number (count_by (λ p. is_won p.winner) parts)) ++ blank_number (count_by (λ p. is_lost p.winner) parts)) (label_in scene vertex)
-        (list_all (λ p. is_told p.winner) parts) text is sure)
+        (are_all text sure (lines ++ line) (label_in scene vertex) [] told (is ∙ ends lines line (more_text told) (beside (label_in scene vertex)) (codes "\n")))
 
     -- each number is exact
     told_exact : (looks : ℕ) → AreAmounts scene looks (choices decisions) parts counts → AllByRecursion IsExact counts
@@ -110,10 +121,6 @@ module _ (scene : Scene) (limits others : Limits) (vertex : ℕ) (decisions : Li
       (told_exact a.0 a.1 one a.4 sure own a.3) (told_exact b.0 b.1 other b.4 also its b.3) in
       a.4 ∙ ap₂ (winners_text scene.names (identifier_of scene vertex) (label_in scene vertex)) parts counts ∙ sym b.4
 
-  -- both players don't win one product
-  both_win : (set : List Bool) → WinsProduct scene.game Even vertex set → WinsProduct scene.game Odd vertex set → ⊥
-  both_win set s t = not_both (product_game (truth set) scene.game) s.0 t.0 vertex s.1 t.1
-
   mixed_one : (one other : List ℕ) → TellsMixed scene limits vertex decisions one → TellsMixed scene others vertex decisions other → ¬ (HasDoubt one) → ¬ (HasDoubt other) → one ≡ other
   mixed_one one other a b sure also =
       let w : a.2 ≡ true = won_first scene.names (identifier_of scene vertex) (label_in scene vertex) a.0 a.1 a.2 a.3 one a.6 sure in
@@ -130,24 +137,8 @@ module _ (scene : Scene) (limits others : Limits) (vertex : ℕ) (decisions : Li
       ∙ sym b.6
 
   pub tells_decided_one : (one other : List ℕ) → TellsDecided scene limits vertex decisions one → TellsDecided scene others vertex decisions other → ¬ (HasDoubt one) → ¬ (HasDoubt other) → one ≡ other
-  tells_decided_one one other (inl a) (inl b) sure also = a.2 ∙ sym b.2
-  tells_decided_one one other (inl a) (inr (inl b)) sure also = absurd (both_win a.0.0 (a.1 a.0.0 a.0.1) (b.1 a.0.0 a.0.1))
-  tells_decided_one one other (inl a) (inr (inr (inl b))) sure also = absurd (both_win b.1 (a.1 b.1 b.5.remaining) b.5.meets)
-  tells_decided_one one other (inl a) (inr (inr (inr (inl b)))) sure also = absurd (b.0 a.0.0 a.0.1)
-  tells_decided_one one other (inl a) (inr (inr (inr (inr b)))) sure also = absurd (also (inr (inr (inl b.1))))
-  tells_decided_one one other (inr (inl a)) (inl b) sure also = absurd (both_win a.0.0 (b.1 a.0.0 a.0.1) (a.1 a.0.0 a.0.1))
-  tells_decided_one one other (inr (inl a)) (inr (inl b)) sure also = a.2 ∙ sym b.2
-  tells_decided_one one other (inr (inl a)) (inr (inr (inl b))) sure also = absurd (both_win b.0 b.4.meets (a.1 b.0 b.4.remaining))
-  tells_decided_one one other (inr (inl a)) (inr (inr (inr (inl b)))) sure also = absurd (b.0 a.0.0 a.0.1)
-  tells_decided_one one other (inr (inl a)) (inr (inr (inr (inr b)))) sure also = absurd (also (inr (inr (inl b.1))))
-  tells_decided_one one other (inr (inr (inl a))) (inl b) sure also = absurd (both_win a.1 (b.1 a.1 a.5.remaining) a.5.meets)
-  tells_decided_one one other (inr (inr (inl a))) (inr (inl b)) sure also = absurd (both_win a.0 a.4.meets (b.1 a.0 a.4.remaining))
-  tells_decided_one one other (inr (inr (inl a))) (inr (inr (inl b))) sure also = mixed_one one other a b sure also
-  tells_decided_one one other (inr (inr (inl a))) (inr (inr (inr (inl b)))) sure also = absurd (b.0 a.0 a.4.remaining)
-  tells_decided_one one other (inr (inr (inl a))) (inr (inr (inr (inr b)))) sure also = absurd (also (inr (inr (inl b.1))))
-  tells_decided_one one other (inr (inr (inr (inl a)))) (inl b) sure also = absurd (a.0 b.0.0 b.0.1)
-  tells_decided_one one other (inr (inr (inr (inl a)))) (inr (inl b)) sure also = absurd (a.0 b.0.0 b.0.1)
-  tells_decided_one one other (inr (inr (inr (inl a)))) (inr (inr (inl b))) sure also = absurd (a.0 b.0 b.4.remaining)
-  tells_decided_one one other (inr (inr (inr (inl a)))) (inr (inr (inr (inl b)))) sure also = a.1 ∙ sym b.1
-  tells_decided_one one other (inr (inr (inr (inl a)))) (inr (inr (inr (inr b)))) sure also = absurd (also (inr (inr (inl b.1))))
-  tells_decided_one one other (inr (inr (inr (inr a)))) b sure also = absurd (sure (inr (inr (inl a.1))))
+  tells_decided_one one other a b sure also =
+      of_kinds (IsRemaining scene.lines (choices decisions)) (WinsProduct scene.game Even vertex) (WinsProduct scene.game Odd vertex)
+      (both_win scene (choices decisions) vertex) one other _ _ _ _ (not_open one sure) (not_open other also)
+      (λ m. ((m.0, m.4.remaining, m.4.meets), (m.1, m.5.remaining, m.5.meets))) (λ m. ((m.0, m.4.remaining, m.4.meets), (m.1, m.5.remaining, m.5.meets)))
+      (λ x y. mixed_one one other x y sure also) a b

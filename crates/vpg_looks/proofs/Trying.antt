@@ -1,11 +1,12 @@
 -- Trying each decision of a page alone, and each step of it.
-use Rattle.std.proofs.Common.{◌≡◌, ◌≢◌, ℕ, zero, suc, ◌+◌, ◌<◌, ◌≤◌, Bool, List, [], ◌∷◌, ◌++◌, length, map, get_or, refl, sym, ap, ap₂, ◌∙◌, subst, append-nil, add-one, arith}
-use Rattle.std.specs.Prelude.{All}
+use Rattle.std.proofs.Common.{◌≡◌, ℕ, suc, ◌+◌, ◌<◌, ◌≤◌, Bool, List, [], ◌∷◌, ◌++◌, length, map, get_or, sym, ap, ap₂, ◌∙◌, subst, add-one, arith}
+use Rattle.std.specs.Prelude.{All, take}
+use Rattle.std.proofs.lemmas.List.Elements.{All-from_recursion}
 use Rattle.std.specs.List.{AllByRecursion}
 use Rattle.std.proofs.Math.Seq.{take-length, take-suc}
 use Rattle.std.proofs.lemmas.List.{length-map, length-take-le, map-append}
 use Rattle.vpg_diagram.specs.DiagramText.{NamedDiagram, IsNamedDiagram}
-use Rattle.vpg_diagram.specs.FeatureDiagram.{Line, feature_count}
+use Rattle.vpg_diagram.specs.FeatureDiagram.{feature_count}
 use Rattle.vpg_diagram.specs.declared.clause.Literal.{Literal}
 use Rattle.vpg_game.specs.Game.{NamedGame, graph_of}
 use Rattle.vpg_sides.specs.declared.which.Which.TheVariants.{Hopeful}
@@ -13,20 +14,15 @@ use Rattle.vpg_partial.specs.TableLaws.{AreAmong, AreChoicesOf}
 use Rattle.vpg_partial.specs.declared.decision.Decision.{Decision}
 use Rattle.vpg_texts.specs.Scene.{Scene, scene_of}
 use Rattle.vpg_why.specs.Explained.{choices}
-use Rattle.vpg_why.specs.Found.{IsSought}
 use Rattle.vpg_why.specs.Repaired.{KeepsOldest, ends, keeps, gives_up}
-use Rattle.vpg_why.specs.Suffices.{IsSettled, SufficeIn}
+use Rattle.vpg_why.specs.Suffices.{SufficeIn}
 use Rattle.vpg_why.proofs.Listing.{among_named}
 use Rattle.vpg_why.proofs.Monotone.{more_choices_suffice}
 use Rattle.vpg_why.specs.declared.question.Question.{Question}
 use Rattle.vpg_why.specs.declared.question.Aim.TheVariants as aims
 use Rattle.vpg_why.specs.declared.question.Limits.{Limits}
 use Rattle.vpg_why.specs.declared.question.Question.TheVariants as asks
-use Rattle.vpg_why.specs.declared.searching.Example.{Example}
-use Rattle.vpg_why.specs.declared.searching.Found.{Found}
-use Rattle.vpg_why.specs.declared.searching.Found.TheVariants as founds
-use Rattle.vpg_looks.specs.Repairs.{AreTried, HasWinner, HaveEffects, IsEffect, IsLostBy, without}
-use Rattle.vpg_looks.specs.Room.{RoundsSettle, SearchEnds}
+use Rattle.vpg_looks.specs.Repairs.{AreTried, HaveEffects, IsEffect, IsLostBy, without}
 use Rattle.vpg_looks.specs.declared.retracting.Effect.{Effect}
 use Rattle.vpg_looks.specs.declared.retracting.Effect.TheVariants as effects
 use Rattle.vpg_looks.specs.declared.retracting.Tried.{Tried}
@@ -38,20 +34,18 @@ given_named Suffices P ends named = tt
 given_named Suffices P (keeps a) named = given_named Suffices P a named.1
 given_named Suffices P (gives_up so a) named = (named.0, given_named Suffices P a named.1)
 
--- what was tried names features that have names
-below : (n m : ℕ) (tried : List Tried) (decisions : List Decision) → n ≡ m → map (λ t. t.decision) tried ≡ decisions → AllByRecursion (λ c. c.feature < m) (choices decisions) →
-    All (λ t. t.decision.feature < n) tried
-below n m [] ds is same named k d less = absurd (omega (arith, less))
-below n m (t ∷ tried) [] is same named k d less = absurd (cc same)
-below n m (t ∷ tried) (e ∷ ds) is same named zero d less =
-    subst (λ (f : ℕ). f < n) (ap (λ (x : Decision). x.feature) (sym (first same))) (subst (λ (x : ℕ). e.feature < x) (sym is) named.0)
-  where
-    first : t.decision ∷ map (λ u. u.decision) tried ≡ e ∷ ds → t.decision ≡ e
-    first s = cc s
-below n m (t ∷ tried) (e ∷ ds) is same named (suc k) d less = below n m tried ds is (rest same) named.1 k d (omega (arith, less))
-  where
-    rest : t.decision ∷ map (λ u. u.decision) tried ≡ e ∷ ds → map (λ u. u.decision) tried ≡ ds
-    rest s = cc s
+-- so is what was tried
+of_decisions : (n : ℕ) (tried : List Tried) → AllByRecursion (λ c. c.feature < n) (choices (map (λ t. t.decision) tried)) → AllByRecursion (λ t. t.decision.feature < n) tried
+of_decisions n [] named = tt
+of_decisions n (t ∷ tried) named = (named.0, of_decisions n tried named.1)
+
+-- it names features that have names
+pub tried_below : (diagram : NamedDiagram) → IsNamedDiagram diagram → (decisions : List Decision) → AreChoicesOf diagram.lines (choices decisions) → (tried : List Tried) →
+    map (λ t. t.decision) tried ≡ take (length decisions) decisions → All (λ t. t.decision.feature < length diagram.names) tried
+tried_below diagram is decisions named tried each =
+    rw is.each_named
+    (All-from_recursion (λ (t : Tried). t.decision.feature < feature_count diagram.lines) tried
+    (of_decisions (feature_count diagram.lines) tried (rw (each, take-length decisions) named)))
 
 module _ (scene : Scene) (limits : Limits) (vertex : ℕ) (was_hopeless : Bool) (decisions : List Decision) where
   abbrev Are : ℕ → List Tried → Type 0
@@ -59,9 +53,6 @@ module _ (scene : Scene) (limits : Limits) (vertex : ℕ) (was_hopeless : Bool) 
 
   abbrev Is : ℕ → Effect → Type 0
   Is place effect = IsEffect scene limits vertex was_hopeless (choices (without place decisions)) effect
-
-  pub none_tried : Are 0 []
-  none_tried = record { each = refl; effects = tt }
 
   effects_more : (place : ℕ) (tried : List Tried) (t : Tried) → HaveEffects scene limits vertex was_hopeless decisions place tried → Is (place + length tried) t.effect →
       HaveEffects scene limits vertex was_hopeless decisions place (tried ++ t ∷ [])
@@ -84,40 +75,6 @@ module _ (scene : Scene) (limits : Limits) (vertex : ℕ) (was_hopeless : Bool) 
   -- all of them were
   pub all_tried : (n : ℕ) (tried : List Tried) → length decisions ≤ n → n ≤ length decisions → Are n tried → Are (length decisions) tried
   all_tried n tried most least so = let same : n ≡ length decisions = omega (arith, most, least) in subst (λ (m : ℕ). Are m tried) same so
-
-  pub each_tried : (tried : List Tried) → Are (length decisions) tried → map (λ t. t.decision) tried ≡ decisions
-  each_tried tried so = so.each ∙ take-length decisions
-
-  pub tried_named : (lines : List Line) (n : ℕ) (tried : List Tried) → n ≡ feature_count lines → AreChoicesOf lines (choices decisions) → Are (length decisions) tried → All (λ t. t.decision.feature < n) tried
-  tried_named lines n tried is named so = below n (feature_count lines) tried decisions is (each_tried tried so) named
-
--- ---- the effect of one retraction, by what a search finds
-
-module _ (game : NamedGame) (diagram : NamedDiagram) (limits : Limits) (vertex : ℕ) (was_hopeless : Bool) (chosen : List Literal) where
-  abbrev Found_is : Found → Type 0
-  Found_is found = IsSought game diagram (aims.Won Hopeful vertex) chosen found
-
-  abbrev Ends : Type 0
-  Ends = SearchEnds (scene_of [] game diagram) limits (aims.Won Hopeful vertex) chosen
-
-  abbrev Settled : Type 0
-  Settled = IsSettled game diagram limits (asks.Lost (aims.Won Hopeful vertex)) chosen
-
-  pub room_of : Ends → Settled
-  room_of s = (s.0, s.1)
-
-  -- the table of these choices is settled too
-  pub verdict_room : Ends → RoundsSettle (scene_of [] game diagram) limits.rounds Hopeful chosen
-  verdict_room s = subst (λ (cs : List Literal). RoundsSettle (scene_of [] game diagram) limits.rounds Hopeful cs) (append-nil chosen) (s.0 [])
-
-  pub found_winner : (found : Found) (e : Example) → found ≡ founds.Product e → Found_is found → HasWinner (scene_of [] game diagram) vertex chosen
-  found_winner found e is so = let p = subst Found_is is so in (e.features.items, p.0, p.1)
-
-  pub found_lost : (found : Found) → found ≡ founds.Nothing → Found_is found → IsLostBy (scene_of [] game diagram) vertex chosen
-  found_lost found is so = subst Found_is is so
-
-  pub found_short : (found : Found) → found ≡ founds.Unsettled → (Settled → found ≢ founds.Unsettled) → Ends → ⊥
-  found_short found is settled s = settled (room_of s) is
 
 -- ---- more decisions than a reason
 

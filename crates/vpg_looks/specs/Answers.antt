@@ -35,7 +35,7 @@ use Rattle.vpg_looks.specs.Texts.{marked_text, verdict_line, other_line, lost_he
 use Rattle.vpg_looks.specs.Numbers.{AreAmounts, IsAmount, looks_each}
 use Rattle.vpg_looks.specs.Offers.{AreOffers}
 use Rattle.vpg_looks.specs.Repairs.{AreTried, HasWinner, IsLostBy, is_shown, is_winning}
-use Rattle.vpg_looks.specs.Room.{BothSearchesEnd, EachSearchEnds, RoundsSettleEach, SearchEnds}
+use Rattle.vpg_looks.specs.Room.{BothSearchesEnd, EachSearchEnds, RoundsSettleEach, SearchEnds, bare}
 use Rattle.vpg_looks.specs.Winners.{AreWinners, IsExample}
 
 -- these choices alone are the question's reason, in the scene's game and diagram
@@ -150,7 +150,7 @@ TellsLost scene limits aim decisions text =
 abbrev pub TellsOffers : Scene → Limits → (vertex : ℕ) → List Decision → (text : List ℕ) → Type 0
 TellsOffers scene limits vertex decisions text =
     (known : List Tri) × (listed : List Offered) × IsKnownTable scene.lines (choices decisions) known ×
-    AreOffers scene limits vertex decisions known (length known) listed
+    AreOffers (bare scene) limits vertex decisions known (length known) listed
     × (text ≡ offers_text scene.names listed)
 
 -- ---- what is forced, or needed
@@ -195,7 +195,7 @@ TellsSeveral scene limits vertex decisions tried text =
 abbrev pub TellsRetractions : Scene → Limits → (vertex : ℕ) → (was_hopeless : Bool) → List Decision →
     (text : List ℕ) → Type 0
 TellsRetractions scene limits vertex was_hopeless decisions text =
-    ((tried : List Tried) × AreTried scene limits vertex was_hopeless decisions (length decisions) tried ×
+    ((tried : List Tried) × AreTried (bare scene) limits vertex was_hopeless decisions (length decisions) tried ×
     ((HasSingle tried × (text ≡ singles_text scene.names tried (all_shown tried)))
     ⊎ (¬ (HasSingle tried) × TellsSeveral scene limits vertex decisions tried text)))
     ⊎ (IsLostBy scene vertex [] × (text ≡ none_line))
@@ -263,7 +263,7 @@ TellsTraced (Some behaviour) scene limits vertex decisions hopeful dual text =
 -- a part, with the number of products that agree with the choices and with its literals
 abbrev pub TellsPartLine : Scene → (looks vertex : ℕ) → List Literal → PartView → (text : List ℕ) → Type 0
 TellsPartLine scene looks vertex choices part text =
-    (count : Count) × IsAmount scene looks (choices ++ part.literals) count
+    (count : Count) × IsAmount scene.lines looks (choices ++ part.literals) count
     × (text ≡ part_line scene.names (identifier_of scene vertex) (label_in scene vertex) part count)
 
 abbrev pub TellsPartLines : Scene → (looks vertex : ℕ) → List Literal → List PartView → (text : List ℕ) → Type 0
@@ -305,7 +305,7 @@ TellsDecided scene limits vertex decisions text =
 -- the number of products left, or a lower bound if a limit was met
 abbrev pub TellsNumber : Scene → Limits → List Decision → (text : List ℕ) → Type 0
 TellsNumber scene limits decisions text =
-    (count : Count) × IsAmount scene limits.trials (choices decisions) count × (text ≡ number_line count)
+    (count : Count) × IsAmount scene.lines limits.trials (choices decisions) count × (text ≡ number_line count)
 
 -- ---- texts
 

@@ -15,7 +15,7 @@ use Rattle.vpg_winners.specs.Decided.{HasRemaining, NoneRemains}
 use Rattle.vpg_looks.specs.declared.left.Left.{Left}
 use Rattle.vpg_looks.specs.declared.left.Left.TheVariants as lefts
 use Rattle.vpg_looks.specs.Asserted.{failing}
-use Rattle.vpg_looks.specs.Room.{SearchEnds}
+use Rattle.vpg_looks.specs.Room.{SearchEnds, bare}
 
 -- some product agrees with the choices, or none does; or the limits leave no room to find out
 abbrev pub IsLeft : Scene → Limits → List Literal → Left → Type 0
@@ -43,7 +43,7 @@ left_mark lefts.Unsettled = codes " unsettled"
 -- The counts of a page. The last line tells if no product is left, or if the limits leave no room to find one.
 abbrev pub IsCountAnswer : Scene → Limits → List Decision → (hopeful dual : List ℕ) → Answer → Type 0
 IsCountAnswer scene limits decisions hopeful dual answer =
-    (left : Left) × (IsLeft scene limits (choices decisions) left
+    (left : Left) × (IsLeft (bare scene) limits (choices decisions) left
     × IsDone (IsCounted scene decisions hopeful dual (left_mark left)) answer)
 
 -- ---- limits

@@ -1,6 +1,7 @@
 -- How many products there are, by answers. This project's own.
 use Rattle.std.specs.Prelude.{ℕ, ◌+◌, ◌/◌, ◌^◌, ◌≤◌, ⊤, List, [], ◌∷◌, ◌++◌}
 use Rattle.vpg_guards.specs.declared.tri.Tri.{Tri}
+use Rattle.vpg_diagram.specs.FeatureDiagram.{Line}
 use Rattle.vpg_diagram.specs.declared.clause.Literal.{Literal}
 use Rattle.vpg_number.specs.Counted.{IsCount, IsExact, unknown_features}
 use Rattle.vpg_number.specs.declared.counted.Count.{Count}
@@ -9,21 +10,21 @@ use Rattle.vpg_texts.specs.Scene.{Scene}
 use Rattle.vpg_winners.specs.Joined.{PartView}
 
 -- so many looks suffice for each case of the features that the choices leave unknown
-abbrev pub CountEnds : Scene → (looks : ℕ) → List Literal → Type 0
-CountEnds scene looks choices =
-    (known : List Tri) × IsKnownTable scene.lines choices known × (2 ^ (unknown_features known + 1) ≤ looks + 1)
+abbrev pub CountEnds : List Line → (looks : ℕ) → List Literal → Type 0
+CountEnds lines looks choices =
+    (known : List Tri) × IsKnownTable lines choices known × (2 ^ (unknown_features known + 1) ≤ looks + 1)
 
 -- The number of products that agree with the choices, or one that is not greater. It is the number if the looks
 -- suffice.
-pub record IsAmount (scene : Scene) (looks : ℕ) (choices : List Literal) (count : Count) : Type 0 where
-  pub number : IsCount scene.lines choices count
-  pub settled : CountEnds scene looks choices → IsExact count
+pub record IsAmount (lines : List Line) (looks : ℕ) (choices : List Literal) (count : Count) : Type 0 where
+  pub number : IsCount lines choices count
+  pub settled : CountEnds lines looks choices → IsExact count
 
 -- for each part the number of products that agree with the choices and with the part's literals
 abbrev pub AreAmounts : Scene → (looks : ℕ) → List Literal → List PartView → List Count → Type 0
 AreAmounts scene looks choices [] [] = ⊤
 AreAmounts scene looks choices (part ∷ parts) (count ∷ counts) =
-    IsAmount scene looks (choices ++ part.literals) count × AreAmounts scene looks choices parts counts
+    IsAmount scene.lines looks (choices ++ part.literals) count × AreAmounts scene looks choices parts counts
 AreAmounts scene looks choices [] (count ∷ counts) = ⊥
 AreAmounts scene looks choices (part ∷ parts) [] = ⊥
 

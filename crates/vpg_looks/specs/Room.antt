@@ -1,5 +1,5 @@
 -- When limits leave room for an exact answer. This project's own.
-use Rattle.std.specs.Prelude.{ℕ, ◌+◌, ◌≤◌, ⊤, List, ◌++◌, length, replicate}
+use Rattle.std.specs.Prelude.{ℕ, ◌+◌, ◌≤◌, ⊤, List, [], ◌++◌, length, replicate}
 use Rattle.vpg_guards.specs.declared.tri.Tri.{Tri}
 use Rattle.vpg_guards.specs.Known.{kleene}
 use Rattle.vpg_diagram.specs.declared.clause.Literal.{Literal}
@@ -14,6 +14,10 @@ use Rattle.vpg_why.specs.declared.question.Aim.{Aim}
 use Rattle.vpg_why.specs.declared.question.Aim.TheVariants as aims
 use Rattle.vpg_why.specs.declared.question.Limits.{Limits}
 use Rattle.vpg_winners.specs.Winners.{most_looks}
+
+-- the scene without names of vertices beside lines: searches, and their limits, are the same with them
+abbrev pub bare : Scene → Scene
+bare scene = record scene { labels = [] }
 
 -- under what these choices make known, this many rounds of lifts from zeros leave a progress table
 abbrev pub RoundsSettle : Scene → (rounds : ℕ) → Which → List Literal → Type 0

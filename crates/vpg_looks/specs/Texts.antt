@@ -9,12 +9,20 @@ use Rattle.vpg_partial.specs.declared.decision.Decision.{Decision}
 use Rattle.vpg_script.specs.Answer.{Answer, refused}
 use Rattle.vpg_texts.specs.Labels.{label_of, beside, beside_both}
 use Rattle.vpg_texts.specs.Text.{blank_number, blank_name, choice_text, choices_text, name_if}
+use Rattle.vpg_why.specs.declared.forcing.Demand.{Demand}
+use Rattle.vpg_why.specs.declared.forcing.Demand.TheVariants as demands
 use Rattle.vpg_why.specs.declared.question.Shown.{Shown}
 use Rattle.vpg_why.specs.declared.question.Shown.TheVariants as shown
+use Rattle.vpg_why.specs.declared.searching.Found.{Found}
+use Rattle.vpg_why.specs.declared.searching.Found.TheVariants as founds
+use Rattle.vpg_why.specs.declared.telling.WhyLost.{WhyLost}
+use Rattle.vpg_why.specs.declared.telling.WhyLost.TheVariants as whys
 use Rattle.vpg_number.specs.Digits.{numeral_of}
 use Rattle.vpg_number.specs.declared.counted.Count.{Count}
 use Rattle.vpg_number.specs.declared.counted.Count.TheVariants.{Exactly, AtLeast}
 use Rattle.vpg_winners.specs.Joined.{PartView}
+use Rattle.vpg_winners.specs.declared.deciding.Decided.{Decided}
+use Rattle.vpg_winners.specs.declared.deciding.Decided.TheVariants as decides
 use Rattle.vpg_winners.specs.declared.parts.Winner.{Winner}
 use Rattle.vpg_winners.specs.declared.parts.Winner.TheVariants as winners
 use Rattle.vpg_looks.specs.declared.offers.Fact.{Fact}
@@ -101,6 +109,18 @@ none_line = codes "none\n"
 abbrev pub unsettled_line : List ℕ
 unsettled_line = codes "unsettled\n"
 
+-- a product that was found, or that there is none
+abbrev pub found_text : List (List ℕ) → Found → List ℕ
+found_text names (founds.Product found) = product_line names found.features.items found.first
+found_text names founds.Nothing = none_line
+found_text names founds.Unsettled = unsettled_line
+
+-- why no product was found, or one that was, with the fact before the reason
+abbrev pub why_text : (head label : List ℕ) → List (List ℕ) → WhyLost → List ℕ
+why_text head label names (whys.Because found) = lost_line head label names found.decisions.items found.exact
+why_text head label names (whys.Unless example) = product_line names example.features.items example.first
+why_text head label names whys.Unsettled = unsettled_line
+
 -- ---- one more decision
 
 abbrev pub conflict_line : List (List ℕ) → Literal → List Decision → List ℕ
@@ -155,6 +175,12 @@ total_line word lines exact = word ++ blank_number lines ++ more_text exact ++ 1
 abbrev pub forced_text : (word : List ℕ) → List (List ℕ) → List Literal → Bool → List ℕ
 forced_text word names listed exact =
     flat_map (choice_line word names) listed ++ total_line word (length listed) exact
+
+-- what is needed, after a word, or that no product needs it
+abbrev pub demand_text : (word : List ℕ) → List (List ℕ) → Demand → List ℕ
+demand_text word names (demands.These found) = forced_text word names found.literals.items found.exact
+demand_text word names demands.Nothing = none_line
+demand_text word names demands.Unsettled = unsettled_line
 
 -- ---- repairs
 
@@ -296,3 +322,12 @@ abbrev pub mixed_text : List (List ℕ) → (identifier : ℕ) → (label : List
     (lost : List Bool) → (second : Bool) → List ℕ
 mixed_text names identifier label won first lost second =
     mixed_head identifier label ++ product_line names won first ++ product_line names lost second
+
+-- who wins at a vertex, as it was found
+abbrev pub decided_text : List (List ℕ) → (identifier : ℕ) → (label : List ℕ) → Decided → List ℕ
+decided_text names identifier label decides.Won = fact_line Dual identifier label
+decided_text names identifier label decides.Lost = fact_line Hopeful identifier label
+decided_text names identifier label (decides.Mixed won lost) =
+    mixed_text names identifier label won.features.items won.first lost.features.items lost.first
+decided_text names identifier label decides.Empty = empty_line
+decided_text names identifier label decides.Unsettled = unsettled_line

@@ -1,6 +1,6 @@
 //! Whether a vertex has an exact verdict.
 ghost use Rattle.std.specs.Prelude.{ℕ, ◌≡◌, ◌<◌, IfOk, List, length};
-ghost use Rattle.vpg_looks.specs.Asserted.{TellsExact, exact_answer, exact_word, failing, is_same};
+ghost use Rattle.vpg_looks.specs.Asserted.{TellsExact, answer_by, exact_answer, exact_word, failing, is_same};
 ghost use Rattle.vpg_script.specs.Answer.{Gives, IsGiven};
 ghost use Rattle.vpg_texts.specs.Scene.{scene_of};
 ghost use Rattle.vpg_texts.specs.Sights.{holding};
@@ -65,6 +65,22 @@ fn compared(
     }
 }
 
+/// Appends whether an assertion holds, by who wins at the vertex.
+fn answered(asserted: ExactVerdict, found: &Decided, out: &mut Vec<u8>) -> Result<Tone, AllocError>
+    ensures { IfOk result (λ tone. IsGiven (answer_by asserted found.now) tone out.old.items out.new.items) }
+{
+    match found {
+        Decided::Won => compared(asserted, ExactVerdict::Won, out),
+        Decided::Lost => compared(asserted, ExactVerdict::Lost, out),
+        Decided::Mixed {
+            won: _won,
+            lost: _lost,
+        } => compared(asserted, ExactVerdict::Mixed, out),
+        Decided::Empty => failing(b"empty", out),
+        Decided::Unsettled => failing(b"unsettled", out),
+    }
+}
+
 /// Appends whether the vertex has the exact verdict that is asserted, and returns the answer's tone. If no product is
 /// left, or if a limit was met, it has none. The answer is the same with names of vertices.
 pub fn exact(
@@ -83,14 +99,5 @@ pub fn exact(
     // The invariant of every order, for the proof.
     let _order = order.game();
     let found = decide(alloc, order, vertex, limits)?;
-    match found {
-        Decided::Won => compared(asserted, ExactVerdict::Won, out),
-        Decided::Lost => compared(asserted, ExactVerdict::Lost, out),
-        Decided::Mixed {
-            won: _won,
-            lost: _lost,
-        } => compared(asserted, ExactVerdict::Mixed, out),
-        Decided::Empty => failing(b"empty", out),
-        Decided::Unsettled => failing(b"unsettled", out),
-    }
+    answered(asserted, &found, out)
 }

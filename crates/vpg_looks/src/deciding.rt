@@ -1,7 +1,7 @@
 //! Who wins at a vertex in the products left.
 ghost use Rattle.std.specs.Prelude.{◌≡◌, ◌<◌, ◌++◌, IfOk, OnOk, length};
 ghost use Rattle.vpg_looks.specs.Answers.{TellsDecided};
-ghost use Rattle.vpg_looks.specs.Texts.{empty_line, fact_line, mixed_head, mixed_text};
+ghost use Rattle.vpg_looks.specs.Texts.{decided_text, fact_line, mixed_head, mixed_text};
 ghost use Rattle.vpg_script.specs.Answer.{Gives, IsDone};
 ghost use Rattle.vpg_texts.specs.Scene.{scene_of};
 
@@ -23,13 +23,6 @@ fn fact(which: Which, identifier: u32, label: &[u8], out: &mut Vec<u8>) -> Resul
 {
     lines::lost_head(which, identifier, out)?;
     lines::end(label, out)
-}
-
-/// Appends that no product is left.
-fn empty(out: &mut Vec<u8>) -> Result<(), AllocError>
-    ensures { OnOk result (out.new.items ≡ out.old.items ++ empty_line) }
-{
-    out.extend_from_slice(b"empty\n")
 }
 
 fn mixed_head(identifier: u32, label: &[u8], out: &mut Vec<u8>) -> Result<(), AllocError>
@@ -58,6 +51,25 @@ fn mixed(
     lines::product(names, &lost.features, lost.first, out)
 }
 
+/// Appends who wins at the vertex, as it was found.
+fn tell(
+    names: &Names,
+    identifier: u32,
+    label: &[u8],
+    found: &Decided,
+    out: &mut Vec<u8>,
+) -> Result<(), AllocError>
+    ensures { OnOk result (out.new.items ≡ out.old.items ++ decided_text names.now identifier label.now found.now) }
+{
+    match found {
+        Decided::Won => fact(Which::Dual, identifier, label, out),
+        Decided::Lost => fact(Which::Hopeful, identifier, label, out),
+        Decided::Mixed { won, lost } => mixed(names, identifier, label, won, lost, out),
+        Decided::Empty => out.extend_from_slice(b"empty\n"),
+        Decided::Unsettled => lines::unsettled(out),
+    }
+}
+
 /// Appends who wins at the vertex in the products left, with a product of each kind if both players win some. Returns
 /// the answer's tone.
 pub fn decided(
@@ -75,13 +87,6 @@ pub fn decided(
 {
     let names = names(order);
     let identifier = identifier(order, vertex);
-    let label = labels.name(vertex);
     let found = decide(alloc, order, vertex, limits)?;
-    match found {
-        Decided::Won => done(fact(Which::Dual, identifier, label, out)),
-        Decided::Lost => done(fact(Which::Hopeful, identifier, label, out)),
-        Decided::Mixed { won, lost } => done(mixed(names, identifier, label, &won, &lost, out)),
-        Decided::Empty => done(empty(out)),
-        Decided::Unsettled => done(lines::unsettled(out)),
-    }
+    done(tell(names, identifier, labels.name(vertex), &found, out))
 }

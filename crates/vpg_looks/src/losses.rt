@@ -1,9 +1,10 @@
 //! Why no product left meets an aim: why a vertex is lost, or won, in each of them, or why none is left.
 ghost use Rattle.std.specs.Prelude.{◌≡◌, ◌<◌, ◌++◌, All, IfOk, OnOk, length};
 ghost use Rattle.vpg_looks.specs.Answers.{TellsLost, lost_for, lost_label};
-ghost use Rattle.vpg_looks.specs.Texts.{lost_line};
+ghost use Rattle.vpg_looks.specs.Texts.{lost_line, why_text};
 ghost use Rattle.vpg_script.specs.Answer.{Gives, IsDone};
 ghost use Rattle.vpg_texts.specs.Scene.{scene_of};
+ghost use Rattle.vpg_why.specs.Found.{IsWhyLost};
 ghost use Rattle.vpg_why.specs.Suffices.{IsAim};
 
 use crate::lines;
@@ -44,6 +45,37 @@ fn tell(
     }
 }
 
+/// Appends the decisions that leave no product that meets the aim, or a product that does, as it was found.
+fn tell_why(
+    order: &Order,
+    labels: &VertexNames,
+    aim: Aim,
+    found: &WhyLost,
+    out: &mut Vec<u8>,
+) -> Result<(), AllocError>
+    requires aim { IsAim order.now.game aim }
+    requires why { IsWhyLost order.now.game order.now.diagram aim order.now.decisions found.now }
+    ensures { OnOk result (out.new.items ≡ out.old.items ++
+        why_text (lost_for (scene_of labels.now.names order.now.game order.now.diagram) aim)
+        (lost_label (scene_of labels.now.names order.now.game order.now.diagram) aim) order.now.diagram.names
+        found.now) }
+{
+    let names = names(order);
+    match found {
+        WhyLost::Because(found) => tell(
+            order,
+            labels,
+            names,
+            aim,
+            &found.decisions,
+            found.exact,
+            out,
+        ),
+        WhyLost::Unless(example) => lines::product(names, &example.features, example.first, out),
+        WhyLost::Unsettled => lines::unsettled(out),
+    }
+}
+
 /// Appends the decisions that leave no product that meets the aim: one in which Even wins from the vertex, for the
 /// hopeful table, or Odd, for the dual; or any. Or appends a product left that meets it. Returns the answer's tone.
 pub fn loss(
@@ -59,25 +91,6 @@ pub fn loss(
         (IsDone (TellsLost (scene_of labels.now.names order.now.game order.now.diagram) limits aim
         order.now.decisions)) tone out.old.items out.new.items) }
 {
-    let names = names(order);
-    match why_lost(alloc, order, aim, limits)? {
-        WhyLost::Because(found) => {
-            done(tell(
-                order,
-                labels,
-                names,
-                aim,
-                &found.decisions,
-                found.exact,
-                out,
-            ))
-        }
-        WhyLost::Unless(example) => done(lines::product(
-            names,
-            &example.features,
-            example.first,
-            out,
-        )),
-        WhyLost::Unsettled => done(lines::unsettled(out)),
-    }
+    let found = why_lost(alloc, order, aim, limits)?;
+    done(tell_why(order, labels, aim, &found, out))
 }

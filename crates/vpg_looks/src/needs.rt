@@ -1,9 +1,11 @@
 //! The features that all products left have or lack that meet an aim: that are won at a vertex, or just any.
 ghost use Rattle.std.specs.Prelude.{[], ◌≡◌, ◌<◌, ◌++◌, All, IfOk, OnOk, flat_map, length};
 ghost use Rattle.vpg_looks.specs.Answers.{TellsForced, forced_word};
-ghost use Rattle.vpg_looks.specs.Texts.{choice_line, forced_text};
+ghost use Rattle.vpg_looks.specs.Texts.{choice_line, demand_text, forced_text};
 ghost use Rattle.vpg_script.specs.Answer.{Gives, IsDone};
 ghost use Rattle.vpg_texts.specs.Scene.{scene_of};
+ghost use Rattle.vpg_why.specs.Explained.{choices};
+ghost use Rattle.vpg_why.specs.Found.{AreFoundNeeds};
 ghost use Rattle.vpg_why.specs.Suffices.{IsAim};
 
 use crate::lines;
@@ -51,6 +53,20 @@ fn tell(
     lines::total(word, listed.len(), exact, out)
 }
 
+/// Appends what is needed, as it was found.
+fn tell_demand(order: &Order, aim: Aim, found: &Demand, out: &mut Vec<u8>) -> Result<(), AllocError>
+    requires { AreFoundNeeds order.now.game order.now.diagram aim (choices order.now.decisions) found.now }
+    ensures { OnOk result (out.new.items ≡
+        out.old.items ++ demand_text (forced_word aim) order.now.diagram.names found.now) }
+{
+    let names = names(order);
+    match found {
+        Demand::These(found) => tell(word_of(aim), names, &found.literals, found.exact, out),
+        Demand::Nothing => lines::none(out),
+        Demand::Unsettled => lines::unsettled(out),
+    }
+}
+
 /// Appends the features that all products left have or lack that meet the aim, without the known ones; or that there is
 /// no such product. Returns the answer's tone.
 pub fn forced(
@@ -65,10 +81,6 @@ pub fn forced(
         (IsDone (TellsForced (scene_of [] order.now.game order.now.diagram) limits aim order.now.decisions)) tone
         out.old.items out.new.items) }
 {
-    let names = names(order);
-    match needs(alloc, order, aim, limits)? {
-        Demand::These(found) => done(tell(word_of(aim), names, &found.literals, found.exact, out)),
-        Demand::Nothing => done(lines::none(out)),
-        Demand::Unsettled => done(lines::unsettled(out)),
-    }
+    let found = needs(alloc, order, aim, limits)?;
+    done(tell_demand(order, aim, &found, out))
 }

@@ -1,6 +1,6 @@
 //! Which of the products left are won at a vertex.
 ghost use Rattle.std.specs.List.{list_all};
-ghost use Rattle.std.specs.Prelude.{[], ◌≡◌, ◌<◌, ◌++◌, All, IfOk, OnOk, count_by, length};
+ghost use Rattle.std.specs.Prelude.{◌≡◌, ◌<◌, ◌++◌, All, IfOk, OnOk, count_by, length};
 ghost use Rattle.vpg_looks.specs.Answers.{Appends, TellsPartLine, TellsPartLines, TellsWinners};
 ghost use Rattle.vpg_looks.specs.Numbers.{IsAmount, looks_each};
 ghost use Rattle.vpg_looks.specs.Texts.{is_lost, is_told, is_won, part_label, part_line, winner_word, winners_line};
@@ -118,7 +118,7 @@ fn own_number(alloc: Global, part: &Part) -> Result<Option<Natural>, AllocError>
 fn amount(alloc: Global, order: &Order, part: &Part, looks: u64) -> Result<Count, AllocError>
     requires named { AreChoicesOf order.now.diagram.lines part.now.literals.items }
     requires number { HasItsNumber order.now.diagram.lines (choices order.now.decisions) part.now }
-    ensures { IfOk result (IsAmount (scene_of [] order.now.game order.now.diagram) looks
+    ensures { IfOk result (IsAmount order.now.diagram.lines looks
         (choices order.now.decisions ++ part.now.literals.items)) }
 {
     let found = own_number(alloc, part)?;
@@ -256,8 +256,8 @@ fn totals(
     out: &mut Vec<u8>,
 ) -> Result<(), AllocError>
     ensures { OnOk result (out.new.items ≡ out.old.items ++ winners_line identifier label.now
-        (count_by (λ p. is_won p.winner) parts.now) (count_by (λ p. is_lost p.winner) parts.now)
-        (list_all (λ p. is_told p.winner) parts.now)) }
+        (count_by (λ p. is_won p.winner) (views parts.now)) (count_by (λ p. is_lost p.winner) (views parts.now))
+        (list_all (λ p. is_told p.winner) (views parts.now))) }
 {
     let told = are_told(parts);
     total(

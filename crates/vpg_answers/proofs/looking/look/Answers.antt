@@ -1,10 +1,9 @@
-use Rattle.std.proofs.Common.{[], sym, ap}
+use Rattle.std.proofs.Common.{sym, ap}
 use Rattle.std.specs.Arc.{arc_value}
 use Rattle.vpg_texts.specs.Scene.{Scene, scene_of}
 use Rattle.vpg_looks.specs.Meanings.{sight_of}
 use Rattle.vpg_answers.specs.Told.{TellsOfFeature}
 use Rattle.vpg_answers.specs.Topics.{OfPage, OfVertices, OfClaims, OfFeature, topic_shown}
-use Rattle.vpg_looks.proofs.Naming.{claims_here}
 use Rattle.vpg_answers.proofs.Told.{gives_here, lines_here, told_as}
 use Rattle.vpg_answers.proofs.looking.look.Goals as goal
 
@@ -33,8 +32,7 @@ returns-in-OfClaims c = λ behaviour.
     let diagram = arc_value c.args.diagram.now in
     told_as (scene_of c.args.labels.now.names game diagram) (sight_of page) c.requires.games.is_diagram.diagram c.requires.named behaviour c.args.limits c.claimed.result (OfClaims c.in-OfClaims.vertex c.in-OfClaims.claimed.items) (topic_shown c.args.topic.now) (ap topic_shown (sym c.in-OfClaims.is))
     c.args.out.now.items _
-    (claims_here c.args.labels.now.names game diagram c.args.limits c.in-OfClaims.vertex _ c.in-OfClaims.claimed.items c.deref-in-OfClaims.ensures.value page.decisions page.hopeful page.dual c.claimed.result c.args.out.now.items
-    c.claimed.new.out.items (c.claimed.ensures []))
+    (rw c.deref-in-OfClaims.ensures.value at (c.claimed.ensures c.args.labels.now.names))
 
 pub returns-in-OfFeature : goal.returns-in-OfFeature
 returns-in-OfFeature c = λ behaviour.

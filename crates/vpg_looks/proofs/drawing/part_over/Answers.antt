@@ -1,12 +1,12 @@
 use Rattle.std.proofs.lemmas.Grind.{common_steps}
-use Rattle.std.proofs.Common.{Bool, List, ◌∙◌, sym, subst, arith}
-use Rattle.vpg_guards.specs.declared.tri.Tri.{Tri}
-use Rattle.vpg_game.specs.Game.{graph_of}
+use Rattle.std.proofs.Common.{◌≡◌, ◌∙◌, arith, refl}
 use Rattle.vpg_game.proofs.Graphs.{same_count}
-use Rattle.vpg_why.specs.Reachable.{AreReachable}
-use Rattle.vpg_texts.proofs.Pictured.{verdict_each}
+use Rattle.vpg_texts.specs.Picture.{named_game}
+use Rattle.vpg_texts.specs.Scene.{scene_of}
+use Rattle.vpg_texts.proofs.Pictured.{named_again, verdict_each}
 use Rattle.vpg_texts.proofs.Shown.{named_below}
-use Rattle.vpg_looks.proofs.Pictures.{draws_part}
+use Rattle.vpg_looks.specs.Parts.{IsPartDrawn}
+use Rattle.vpg_looks.proofs.Told.{appends}
 use Rattle.vpg_looks.proofs.drawing.part_over.Goals as goal
 
 pub draw_part-requires-clause-decisions : goal.draw_part-requires-clause-decisions
@@ -22,12 +22,18 @@ draw_part-requires-clause-marks c =
 
 pub returns : goal.returns
 returns c =
-    draws_part c.args.labels.now.names c.args.game.now c.args.diagram.now c.args.decisions.now c.args.games.now c.requires.games c.requires.features c.args.hopeful.now c.args.dual.now c.args.vertex c.args.mover c.args.moves.now
-    c.draw_part.result c.args.out.now.items c.draw_part.new.out.items c.names.result.now c.known-2.result.now c.deref.result.now c.deref-2.result.now
-    c.names.ensures.names c.known-2.ensures (c.deref.ensures.value ∙ c.in_ok-verdicts.ensures)
-    (subst (λ (bs : List Bool). AreReachable (graph_of c.args.game.now) c.args.games.now.known c.args.mover c.args.moves.now c.args.vertex bs) (sym c.deref-2.ensures.value)
-    (subst (λ (k : List Tri). AreReachable (graph_of c.args.game.now) k c.args.mover c.args.moves.now c.args.vertex c.in_ok-marks.marks.items) c.known.ensures c.in_ok-marks.ensures))
-    c.draw_part.ensures.drawn
+    let page = scene_of c.args.labels.now.names c.args.game.now c.args.diagram.now in
+    let game : c.args.game.now ≡ named_game page = λ i. record { vertices = named_again c.args.game.now.vertices i; features = c.requires.features i } in
+    appends (IsPartDrawn page c.args.vertex c.args.decisions.now c.args.hopeful.now c.args.dual.now c.args.mover c.args.moves.now) _
+    (record {
+      known = c.args.games.now.known;
+      is_known = c.requires.games.known;
+      marks = c.in_ok-marks.marks.items;
+      reachable = rw c.known.ensures at c.in_ok-marks.ensures;
+      drawn = refl;
+    })
+    c.draw_part.result c.args.out.now.items c.draw_part.new.out.items
+    (rw (game, c.names.ensures.names, c.known-2.ensures, c.deref.ensures.value ∙ c.in_ok-verdicts.ensures, c.deref-2.ensures.value) at c.draw_part.ensures.drawn)
 
 pub draw_part-requires-clause-features : goal.draw_part-requires-clause-features
 draw_part-requires-clause-features c = grind (arith, common_steps)

@@ -1,11 +1,7 @@
-use Rattle.std.proofs.Common.{ap, ◌∙◌}
-use Rattle.vpg_texts.proofs.Shown.{on_ok}
-use Rattle.vpg_why.specs.Explained.{choices}
-use Rattle.vpg_looks.proofs.Parting.{amount_is, told_number}
+use Rattle.std.proofs.Common.{refl}
 use Rattle.vpg_texts.specs.Scene.{scene_of}
 use Rattle.vpg_looks.specs.Answers.{TellsNumber}
-use Rattle.vpg_looks.proofs.Naming.{number_named}
-use Rattle.vpg_looks.proofs.Told.{told_done}
+use Rattle.vpg_looks.proofs.Told.{told_text}
 use Rattle.vpg_looks.proofs.numbers.left.Goals as goal
 
 pub number-requires : goal.number-requires
@@ -14,9 +10,8 @@ number-requires c = rw (c.deref.ensures, c.diagram.ensures.diagram, c.decisions.
 pub returns : goal.returns
 returns c = λ names.
     let order = c.args.order.now in
-    let amount = amount_is order c.deref.result.now c.args.limits.trials c.decisions.result.now (choices order.decisions) c.in_ok-count.count
-    (c.deref.ensures ∙ c.diagram.ensures.diagram) (ap choices c.decisions.ensures.decisions) c.in_ok-count.ensures.number c.in_ok-count.ensures.settled in
-    told_done (TellsNumber (scene_of names order.game order.diagram) c.args.limits order.decisions) c.line.result c.done.result c.done.ensures c.args.out.now.items c.line.new.out.items
-    (on_ok c.line.result _ _
-    (λ appended. number_named names order.game order.diagram c.args.limits order.decisions c.args.out.now.items c.line.new.out.items
-    (told_number order c.args.limits c.in_ok-count.count c.args.out.now.items c.line.new.out.items amount appended)) c.line.ensures)
+    let number = rw (c.deref.ensures, c.diagram.ensures.diagram, c.decisions.ensures.decisions) at c.in_ok-count.ensures.number in
+    let settled = rw (c.deref.ensures, c.diagram.ensures.diagram, c.decisions.ensures.decisions) at c.in_ok-count.ensures.settled in
+    told_text (TellsNumber (scene_of names order.game order.diagram) c.args.limits order.decisions) _
+    (c.in_ok-count.count, record { number = number; settled = λ ends. settled ends.0 ends.1 ends.2 }, refl)
+    c.line.result c.done.result c.done.ensures c.args.out.now.items c.line.new.out.items c.line.ensures

@@ -1,29 +1,32 @@
-use Rattle.vpg_texts.proofs.Shown.{on_ok}
-use Rattle.vpg_why.specs.Explained.{choices}
-use Rattle.vpg_why.specs.Suffices.{EachIsSettled}
-use Rattle.vpg_why.specs.declared.question.Question.TheVariants as asks
-use Rattle.vpg_looks.proofs.Telling.{listed_below, told_verdict, told_other, none_is_not, some_is, found_explains, found_settled}
+use Rattle.std.proofs.Common.{inl, inr, refl}
+use Rattle.std.proofs.lemmas.Bool.{false≢true}
+use Rattle.vpg_measure.specs.Orders.{order_table}
+use Rattle.vpg_texts.specs.Scene.{scene_of}
+use Rattle.vpg_looks.specs.Answers.{TellsVerdict}
+use Rattle.vpg_looks.proofs.Telling.{listed_below}
+use Rattle.vpg_looks.proofs.Told.{appends}
 use Rattle.vpg_looks.proofs.reasons.verdict.Goals as goal
 
 pub verdict-requires : goal.verdict-requires
 verdict-requires c =
-    let order = c.args.order.now in
-    let explains = found_explains order (asks.Verdict c.args.which c.args.vertex) c.in_ok-found.field-0 c.in-Some.found c.deref.result.now c.in-Some.is c.deref.ensures.value c.in_ok-found.ensures.explains in
-    listed_below order c.names-names.ensures.order c.names-names.result.now c.names-names.ensures.names c.deref.result.now explains.among
+    let explains = rw c.in-Some.is at c.in_ok-found.ensures.explains in
+    rw (c.deref.ensures.value, c.names-names.ensures.names)
+    (listed_below c.args.order.now c.names-names.ensures.order c.in-Some.found.decisions.items explains.among)
 
 pub returns-in-Some : goal.returns-in-Some
 returns-in-Some c =
     let order = c.args.order.now in
-    let explains = found_explains order (asks.Verdict c.args.which c.args.vertex) c.in_ok-found.field-0 c.in-Some.found c.deref.result.now c.in-Some.is c.deref.ensures.value c.in_ok-found.ensures.explains in
-    let high = some_is c.in_ok-found.field-0 c.in-Some.found _ c.in-Some.is c.in_ok-found.ensures.told in
-    let settled = found_settled c.in_ok-found.field-0 c.in-Some.found (EachIsSettled order.game order.diagram c.args.limits (asks.Verdict c.args.which c.args.vertex) (choices order.decisions)) c.in-Some.is c.in_ok-found.ensures.settled in
-    on_ok c.verdict.result _ _
-    (λ appended. told_verdict c.args.labels.now.names order c.names-names.result.now c.names-names.ensures.names c.args.which c.args.vertex c.identifier-identifier.result c.identifier-identifier.ensures c.name-label.result.now c.name-label.ensures
-    c.args.out.now.items c.verdict.new.out.items c.args.limits c.deref.result.now c.in-Some.found.exact settled high explains appended) c.verdict.ensures
+    let found = c.in-Some.found in
+    let known = c.in_ok-found.ensures in
+    appends (TellsVerdict (scene_of c.args.labels.now.names order.game order.diagram) c.args.limits c.args.which c.args.vertex order.decisions (order_table c.args.which order)) _
+    (inl (known.told.0 (rw c.in-Some.is refl), (found.decisions.items, found.exact, rw c.in-Some.is at known.explains, refl, rw c.in-Some.is at known.settled)))
+    c.verdict.result c.args.out.now.items c.verdict.new.out.items
+    (rw (c.names-names.ensures.names, c.identifier-identifier.ensures, c.name-label.ensures, c.deref.ensures.value) at c.verdict.ensures)
 
 pub returns-in-None : goal.returns-in-None
 returns-in-None c =
-    let low = none_is_not c.in_ok-found.field-0 _ c.in-None.is c.in_ok-found.ensures.told in
-    on_ok c.other.result _ _
-    (λ appended. told_other c.args.labels.now.names c.args.order.now c.names-names.result.now c.names-names.ensures.names c.args.which c.args.vertex c.identifier-identifier.result c.identifier-identifier.ensures c.name-label.result.now c.name-label.ensures
-    c.args.out.now.items c.other.new.out.items c.args.limits low appended) c.other.ensures
+    let order = c.args.order.now in
+    let told = rw c.in-None.is at c.in_ok-found.ensures.told in
+    appends (TellsVerdict (scene_of c.args.labels.now.names order.game order.diagram) c.args.limits c.args.which c.args.vertex order.decisions (order_table c.args.which order)) _
+    (inr (λ high. false≢true (told.1 high), refl)) c.other.result c.args.out.now.items c.other.new.out.items
+    (rw (c.identifier-identifier.ensures, c.name-label.ensures) at c.other.ensures)
