@@ -1,6 +1,6 @@
 -- Decisions on features, and the lines of the features of which something is known.
-use Rattle.std.proofs.Common.{◌≡◌, ℕ, ◌+◌, Bool, true, false, cond, ◌||◌, List, [], ◌∷◌, ◌++◌, map, flat_map, refl, sym, ap, ◌∙◌, add-one, append-nil}
-use Rattle.std.specs.Prelude.{slice_index_or}
+use Rattle.std.proofs.Common.{◌≡◌, ℕ, ◌+◌, Bool, true, false, cond, ◌||◌, List, [], ◌∷◌, ◌++◌, map, flat_map, refl, sym, ap, ◌∙◌, add-one, append-nil, append_assoc}
+use Rattle.std.specs.Prelude.{codes, slice_index_or}
 use Rattle.std.specs.List.{list_any}
 use Rattle.std.proofs.lemmas.Grind.{flat_map-append}
 use Rattle.std.proofs.lemmas.List.{flat_map_more}
@@ -11,7 +11,7 @@ use Rattle.vpg_diagram.specs.declared.clause.Literal.{Literal}
 use Rattle.vpg_partial.specs.Known.{literal_of}
 use Rattle.vpg_partial.specs.declared.decision.Decision.{Decision}
 use Rattle.vpg_configuration.specs.Deciding.{Selection, Selected, Unselected, Undefined}
-use Rattle.vpg_configuration.specs.Documents.{Setting, setting_line}
+use Rattle.vpg_configuration.specs.Documents.{Setting, setting_line, document_text}
 use Rattle.vpg_configuration.specs.Exports.{is_value, features_known, is_decision, decided_by}
 
 any_of : (test : Literal → Bool) (ds : List Decision) → list_any (λ d. test (literal_of d)) ds ≡ list_any test (map literal_of ds)
@@ -58,8 +58,14 @@ module _ (line : ℕ → List ℕ) (known : List Tri) (value : Tri) (f : ℕ) (b
   no_line e is = is ∙ was ∙ ap (λ (fs : List ℕ). before ++ flat_map line fs) (sym (next false e ∙ append-nil (features_known known value f)))
 
 -- the lines of a document in its parts
-pub three_parts : (setting : ℕ → Setting) (a b c : List ℕ) → flat_map setting_line (map setting (a ++ b ++ c)) ≡
-    flat_map (λ f. setting_line (setting f)) a ++ flat_map (λ f. setting_line (setting f)) b ++ flat_map (λ f. setting_line (setting f)) c
+three_parts : (setting : ℕ → Setting) (a b c : List ℕ) → flat_map setting_line (map setting (a ++ (b ++ c))) ≡
+    flat_map (λ f. setting_line (setting f)) a ++ (flat_map (λ f. setting_line (setting f)) b ++ flat_map (λ f. setting_line (setting f)) c)
 three_parts setting a b c =
     let line : ℕ → List ℕ = λ f. setting_line (setting f) in
-    flat_map-map setting_line setting (a ++ b ++ c) ∙ flat_map-append line (a ++ b) c ∙ ap (λ (t : List ℕ). t ++ flat_map line c) (flat_map-append line a b)
+    flat_map-map setting_line setting (a ++ (b ++ c)) ∙ flat_map-append line a (b ++ c) ∙ ap (λ (t : List ℕ). flat_map line a ++ t) (flat_map-append line b c)
+
+-- a text that grows by the parts of a document
+pub document_grows : (setting : ℕ → Setting) (a b c o : List ℕ) {x1 x2 x3 x4 x5 : List ℕ} → x1 ≡ o ++ codes "<?xml version=\"1.0\" encoding=\"UTF-8\" standalone=\"no\"?>\n<configuration>\n" →
+    x2 ≡ x1 ++ flat_map (λ f. setting_line (setting f)) a → x3 ≡ x2 ++ flat_map (λ f. setting_line (setting f)) b → x4 ≡ x3 ++ flat_map (λ f. setting_line (setting f)) c →
+    x5 ≡ x4 ++ codes "</configuration>\n" → x5 ≡ o ++ document_text (map setting (a ++ b ++ c))
+document_grows setting a b c o e1 e2 e3 e4 e5 = simp (e5, e4, e3, e2, e1, three_parts setting, append_assoc)

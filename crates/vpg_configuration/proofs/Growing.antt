@@ -1,6 +1,5 @@
 -- A text that grows by a piece for each element of a list.
-use Rattle.std.proofs.Common.{◌≡◌, ℕ, ◌+◌, ◌<◌, ◌≤◌, List, ◌++◌, length, map, take, get_or, flat_map, sym, ap, ◌∙◌, append_assoc, Result, Ok, Err, OnOk}
-use Rattle.std.specs.Prelude.{is_ok, if◌then◌else◌}
+use Rattle.std.proofs.Common.{◌≡◌, ℕ, ◌+◌, ◌<◌, ◌≤◌, List, ◌++◌, length, map, take, get_or, flat_map, sym, ap, ◌∙◌}
 use Rattle.std.proofs.lemmas.List.{flat_map_more, take_more, take_all}
 use Rattle.std.proofs.lemmas.List.Folds.{flat_map-map}
 
@@ -21,16 +20,3 @@ grown_mapped f v xs i d a b c l e g =
 pub grown_all_mapped : {X Y : Type 0} (f : Y → List ℕ) (v : X → Y) (xs : List X) (i : ℕ) (a b : List ℕ) → length xs ≤ i → b ≡ a ++ flat_map f (map v (take i xs)) →
     b ≡ a ++ flat_map f (map v xs)
 grown_all_mapped f v xs i a b l e = e ∙ ap (λ t. a ++ flat_map f (map v t)) (take_all i xs l)
-
--- a text that grows by one more piece
-pub more : (o s x y t : List ℕ) → x ≡ o ++ s → y ≡ x ++ t → y ≡ o ++ (s ++ t)
-more o s x y t e f = f ∙ (ap (λ (z : List ℕ). z ++ t) e ∙ append_assoc o s t)
-
--- the piece under another name
-pub as_word : (x y u t : List ℕ) → y ≡ x ++ u → u ≡ t → y ≡ x ++ t
-as_word x y u t f e = f ∙ ap (λ (z : List ℕ). x ++ z) e
-
--- what was written last, if it was
-pub granted : {T E : Type 0} (r : Result T E) (c x y : List ℕ) → c ≡ (if is_ok r then x else y) → OnOk r (c ≡ x)
-granted (Ok v) c x y e = e
-granted (Err v) c x y e = tt

@@ -150,17 +150,7 @@ abbrev from_automatic : Setting → List ℕ → List ℕ
 from_automatic s x = codes " automatic=\"" ++ (selection_word s.automatic ++ 34 ∷ from_manual s x)
 
 line_is : (s : Setting) (x : List ℕ) → setting_line s ++ x ≡ codes "\t<feature" ++ from_automatic s x
-line_is s x =
-    let a : List ℕ = selection_word s.automatic in
-    let b : List ℕ = codes "\" manual=\"" in
-    let c : List ℕ = selection_word s.manual in
-    let d : List ℕ = codes "\" name=\"" in
-    let e : List ℕ = codes "\"/>\n" in
-    ap (λ (t : List ℕ). codes "\t<feature automatic=\"" ++ t)
-    (append_assoc ((((a ++ b) ++ c) ++ d) ++ s.name) e x
-    ∙ (append_assoc (((a ++ b) ++ c) ++ d) s.name (e ++ x)
-    ∙ (append_assoc ((a ++ b) ++ c) d (s.name ++ (e ++ x))
-    ∙ (append_assoc (a ++ b) c (d ++ (s.name ++ (e ++ x))) ∙ append_assoc a b (c ++ (d ++ (s.name ++ (e ++ x))))))))
+line_is s x = simp append_assoc
 
 abbrev tagged : List ℕ → List Attribute → Tag
 tagged name attributes = record { name = name; attributes = attributes }
@@ -219,14 +209,10 @@ said_tag at0 at1 at2 automatic manual name = tagged (codes "feature")
 element_says : (at at0 at1 at2 : ℕ) (automatic manual : Selection) (name : List ℕ) → is_name name ≡ true →
     feature_line (element at (said_tag at0 at1 at2 automatic manual name) (Some 0) []) ≡ Ok (decision_line (Some manual) name)
 element_says at at0 at1 at2 Selected Selected name e = if_true (is_name name) _ _ e
-element_says at at0 at1 at2 Selected Unselected name e = if_true (is_name name) _ _ e
-element_says at at0 at1 at2 Selected Undefined name e = if_true (is_name name) _ _ e
 element_says at at0 at1 at2 Unselected Selected name e = if_true (is_name name) _ _ e
-element_says at at0 at1 at2 Unselected Unselected name e = if_true (is_name name) _ _ e
-element_says at at0 at1 at2 Unselected Undefined name e = if_true (is_name name) _ _ e
 element_says at at0 at1 at2 Undefined Selected name e = if_true (is_name name) _ _ e
-element_says at at0 at1 at2 Undefined Unselected name e = if_true (is_name name) _ _ e
-element_says at at0 at1 at2 Undefined Undefined name e = if_true (is_name name) _ _ e
+element_says at at0 at1 at2 _ Unselected name e = if_true (is_name name) _ _ e
+element_says at at0 at1 at2 _ _ name e = if_true (is_name name) _ _ e
 
 -- ---- tokens up to the end
 

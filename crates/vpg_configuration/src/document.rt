@@ -31,7 +31,8 @@ fn put_selections(
     out.extend_from_slice(word_of(manual))?;
     out.extend_from_slice(b"\" name=\"")?;
     out.extend_from_slice(name)?;
-    out.extend_from_slice(b"\"/>\n")
+    out.extend_from_slice(b"\"/>\n")?;
+    Ok(())
 }
 
 /// Appends the line of a feature of which this is known and a person selected that.

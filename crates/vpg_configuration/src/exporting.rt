@@ -126,7 +126,8 @@ fn put_document(
     put_lines(form, names, known, decisions, Tri::Yes, out)?;
     put_lines(form, names, known, decisions, Tri::No, out)?;
     put_lines(form, names, known, decisions, Tri::Unknown, out)?;
-    out.extend_from_slice(b"</configuration>\n")
+    out.extend_from_slice(b"</configuration>\n")?;
+    Ok(())
 }
 
 /// Returns the configuration of a page, whose diagram has features with these names: of its decisions, and of what they

@@ -1,19 +1,12 @@
 -- What is told of a diagram that contradicts itself.
-use Rattle.std.proofs.Common.{◌≡◌, ℕ, [], Some, slice_get, subst, inl, inr}
+use Rattle.std.proofs.Common.{◌≡◌, ℕ, [], Some, slice_get, subst}
 use Rattle.std.specs.String.{string_bytes}
-use Rattle.vpg_diagram.specs.Clauses.{clauses_of, counts_of}
 use Rattle.vpg_diagram.specs.DiagramText.{NamedDiagram}
-use Rattle.vpg_partial.specs.Known.{NamesConflict}
 use Rattle.vpg_partial.specs.KnownLaws.{HasConflictOf}
 use Rattle.vpg_family.specs.Pictures.{TellsContradiction}
 use Rattle.vpg_family.specs.Families.{TellsConflict}
 use Rattle.vpg_family.specs.declared.fault.Fault.{Fault}
 use Rattle.vpg_family.specs.declared.fault.Fault.TheVariants as told
-
--- without decisions a conflict is that of the diagram alone, and the root names it
-pub conflict_alone : (diagram : NamedDiagram) (f : ℕ) → NamesConflict (clauses_of diagram.lines) (counts_of diagram.lines) [] f → HasConflictOf diagram.lines [] × (f ≡ 0)
-conflict_alone diagram f (inl h) = h
-conflict_alone diagram f (inr h) = absurd h.3
 
 pub contradiction : (diagram : NamedDiagram) (root : ℕ) (fault : Fault) → HasConflictOf diagram.lines [] → root ≡ 0 → TellsConflict diagram.names root fault → TellsContradiction diagram fault
 contradiction diagram root (told.Conflict name) conflict zero h = (conflict, subst (λ (f : ℕ). slice_get diagram.names f ≡ Some (string_bytes name)) zero h)

@@ -1,4 +1,3 @@
-pub mod Called
 pub mod Choices
 pub mod Contradictions
 pub mod Counting

@@ -1,5 +1,5 @@
 -- Families whose game is made from a system and its requirements.
-use Rattle.std.proofs.Common.{◌≡◌, ℕ, List, [], ◌∷◌, map, Option, Some, refl, sym, ap, subst, ◌∙◌}
+use Rattle.std.proofs.Common.{◌≡◌, ℕ, List, [], ◌∷◌, map, Option, Some, refl, sym, ap, ◌∙◌}
 use Rattle.std.specs.Prelude.{slice_get, option_map}
 use Rattle.std.proofs.lemmas.Option.{slice_get-map}
 use Rattle.vpg_diagram.specs.DiagramText.{NamedDiagram, IsTextOf}
@@ -7,7 +7,7 @@ use Rattle.vpg_game.specs.Game.{NamedGame}
 use Rattle.vpg_formula.specs.Requirements.{AreRequirements, names_of}
 use Rattle.vpg_formula.specs.EntryCode.{entries_of}
 use Rattle.vpg_formula.specs.declared.requirement.Entry as code
-use Rattle.vpg_family.specs.Families.{entry_names, IsNameOfEntry, SpellsFamily, IsModelFault, IsModelled, IsModelledBy, AreTextsOf, IsFamilyOf, IsUnread}
+use Rattle.vpg_family.specs.Families.{entry_names, IsNameOfEntry, SpellsFamily, IsModelFault, IsModelled, AreTextsOf, IsFamilyOf, IsUnread}
 use Rattle.vpg_checking.specs.Behaviours.{Behaviour}
 use Rattle.vpg_family.specs.Made.{IsMade, AreTextsMadeOf, IsFamilyMadeOf}
 use Rattle.vpg_family.specs.declared.fault.Fault.{Fault}
@@ -25,35 +25,26 @@ unread_model diagram_text game_text system_text requirements_text diagram (told.
 unread_model diagram_text game_text system_text requirements_text diagram told.Memory is h = tt
 unread_model diagram_text game_text system_text requirements_text diagram _ is h = absurd h
 
--- a family that is the same is modelled as well
-moved : (diagram d : NamedDiagram) (game g : NamedGame) (names : List (List ℕ)) (vertices : List ℕ) → (d ≡ diagram) × (g ≡ game) → IsModelled diagram game names vertices → IsModelled d g names vertices
-moved diagram d game g names vertices (e, f) h =
-    subst (λ (x : NamedDiagram). IsModelled x g names vertices) (sym e) (subst (λ (x : NamedGame). IsModelled diagram x names vertices) (sym f) h)
-
 -- texts that spell one family alone spell that of their paths
-pub family_of_paths : (files : GamePaths) (diagram_text game_text one other : List ℕ) (names : List (List ℕ)) (vertices : List ℕ) (d : NamedDiagram) (g : NamedGame) → one ≡ diagram_text → other ≡ game_text
-    → ((diagram : NamedDiagram) (game : NamedGame) → SpellsFamily one other diagram game → (d ≡ diagram) × (g ≡ game)) → AreTextsOf files diagram_text game_text names vertices → IsFamilyOf files d g
-family_of_paths (paths.Game path) diagram_text game_text one other names vertices d g e f only h = tt
-family_of_paths (paths.System path) diagram_text game_text one other names vertices d g e f only h = tt
-family_of_paths (paths.Model files) diagram_text game_text one other names vertices d g e f only h =
-    let spelled : SpellsFamily one other h.diagram h.game =
-    subst (λ (t : List ℕ). SpellsFamily t other h.diagram h.game) (sym e) (subst (λ (t : List ℕ). SpellsFamily diagram_text t h.diagram h.game) (sym f) h.spelled)
-    in
-    (names, vertices, moved h.diagram d h.game g names vertices (only h.diagram h.game spelled) h.modelled)
+pub family_of_paths : (files : GamePaths) (diagram_text game_text : List ℕ) (names : List (List ℕ)) (vertices : List ℕ) (d : NamedDiagram) (g : NamedGame)
+    → ((diagram : NamedDiagram) (game : NamedGame) → SpellsFamily diagram_text game_text diagram game → (d ≡ diagram) × (g ≡ game)) → AreTextsOf files diagram_text game_text names vertices → IsFamilyOf files d g
+family_of_paths (paths.Model files) diagram_text game_text names vertices d g only h =
+    let same = only h.diagram h.game h.spelled in
+    (names, vertices, coe 0 1 (k. IsModelled ((sym same.0) k) ((sym same.1) k) names vertices) h.modelled)
+family_of_paths _ diagram_text game_text names vertices d g only h = tt
 
 -- the same texts spell it
 pub spelled_there : (diagram_text game_text one other : List ℕ) (diagram : NamedDiagram) (game : NamedGame) → one ≡ diagram_text → other ≡ game_text → SpellsFamily diagram_text game_text diagram game → SpellsFamily one other diagram game
 spelled_there diagram_text game_text one other diagram game e f h =
-    subst (λ (t : List ℕ). SpellsFamily t other diagram game) (sym e) (subst (λ (t : List ℕ). SpellsFamily diagram_text t diagram game) (sym f) h)
+    coe 0 1 (k. SpellsFamily ((sym e) k) ((sym f) k) diagram game) h
 
 -- a family of texts that spell one family alone was made of what their paths say
 pub made_of_paths : (files : GamePaths) (diagram_text game_text : List ℕ) (d : NamedDiagram) (g : NamedGame) (behaviour : Option Behaviour)
     → ((diagram : NamedDiagram) (game : NamedGame) → SpellsFamily diagram_text game_text diagram game → (d ≡ diagram) × (g ≡ game)) → AreTextsMadeOf files diagram_text game_text behaviour → IsFamilyMadeOf files d g behaviour
-made_of_paths (paths.Game path) diagram_text game_text d g behaviour only h = h
-made_of_paths (paths.System path) diagram_text game_text d g behaviour only h = h
 made_of_paths (paths.Model files) diagram_text game_text d g behaviour only h =
     let same = only h.diagram h.game h.spelled in
-    subst (λ (x : NamedDiagram). IsMade x g behaviour) (sym same.0) (subst (λ (x : NamedGame). IsMade h.diagram x behaviour) (sym same.1) h.made)
+    coe 0 1 (k. IsMade ((sym same.0) k) ((sym same.1) k) behaviour) h.made
+made_of_paths _ diagram_text game_text d g behaviour only h = h
 
 -- ---- the name of an entry
 

@@ -5,7 +5,9 @@ use Rattle.std.specs.Str.{bytes_eq}
 use Rattle.std.proofs.lemmas.List.{take_more, length-map, get_or-map}
 use Rattle.std.proofs.lemmas.List.Elements.{All-nil, All-push}
 use Rattle.std.proofs.lemmas.Option.{slice_get_within, get_or_from_slice_get, slice_get-get_or}
-use Rattle.std.proofs.lemmas.Slice.Eq.{bytes_eq-Decides}
+use Rattle.std.proofs.lemmas.Bool.{or_right}
+use Rattle.std.proofs.lemmas.List.Folds.{list_any-append}
+use Rattle.vpg_features.proofs.Held.{same_bytes, other_bytes}
 use Rattle.vpg_features.specs.Names.{Lacks, AreDistinct}
 use Rattle.vpg_diagram.specs.DiagramText.{NamedDiagram}
 use Rattle.vpg_diagram.specs.FeatureDiagram.{IsProduct}
@@ -15,29 +17,14 @@ use Rattle.vpg_family.specs.Families.{AreKnown, set_of, IsNamedSet, IsUnknown, T
 use Rattle.vpg_family.specs.declared.fault.Fault.{Fault}
 use Rattle.vpg_family.specs.declared.fault.Fault.TheVariants as told
 
-same_bytes : (a b : List ℕ) → a ≡ b → bytes_eq a b ≡ true
-same_bytes a b e = (bytes_eq-Decides a b).1 e
-
-other_bytes : (a b : List ℕ) → (a ≡ b → ⊥) → bytes_eq a b ≡ false
-other_bytes a b ne = go (bytes_eq a b) refl
-  where
-    go : (t : Bool) → bytes_eq a b ≡ t → t ≡ false
-    go true e = absurd (ne ((bytes_eq-Decides a b).0 e))
-    go false e = refl
-
 -- ---- one word more
 
-or_true : (b : Bool) → (b || true) ≡ true
-or_true true = refl
-or_true false = refl
-
-any_same : (p : List ℕ → Bool) (words : List (List ℕ)) (word : List ℕ) → p word ≡ true → list_any p (words ++ word ∷ []) ≡ true
-any_same p [] word e = ap (λ (t : Bool). t || false) e
-any_same p (w ∷ words) word e = ap (λ (t : Bool). p w || t) (any_same p words word e) ∙ or_true (p w)
+or_false : (b : Bool) → (b || false) ≡ b
+or_false true = refl
+or_false false = refl
 
 any_other : (p : List ℕ → Bool) (words : List (List ℕ)) (word : List ℕ) → p word ≡ false → list_any p (words ++ word ∷ []) ≡ list_any p words
-any_other p [] word e = ap (λ (t : Bool). t || false) e
-any_other p (w ∷ words) word e = ap (λ (t : Bool). p w || t) (any_other p words word e)
+any_other p words word e = list_any-append p words (word ∷ []) ∙ ap (λ (t : Bool). list_any p words || (t || false)) e ∙ or_false (list_any p words)
 
 -- a word that is none of the names changes nothing
 set_kept : (names words : List (List ℕ)) (word : List ℕ) → Lacks names word → set_of names words ≡ set_of names (words ++ word ∷ [])
@@ -52,7 +39,9 @@ set_more : (names words : List (List ℕ)) (word : List ℕ) (f : ℕ) → AreDi
 set_more [] words word f distinct e = absurd cc
 set_more (n ∷ names) words word zero distinct e =
     let same : n ≡ word = cc in
-    ap (λ (t : Bool). t ∷ set_of names words) (sym (any_same (bytes_eq n) words word (same_bytes n word same)))
+    let any : list_any (bytes_eq n) (words ++ word ∷ []) ≡ true =
+    list_any-append (bytes_eq n) words (word ∷ []) ∙ or_right (list_any (bytes_eq n) words) (bytes_eq n word || false) (ap (λ (t : Bool). t || false) (same_bytes n word same)) in
+    ap (λ (t : Bool). t ∷ set_of names words) (sym any)
     ∙ ap (λ (ts : List Bool). list_any (bytes_eq n) (words ++ word ∷ []) ∷ ts) (set_kept names words word (subst (Lacks names) same distinct.0))
 set_more (n ∷ names) words word (suc f) distinct e =
     let other = other_bytes n word (λ same. distinct.0 f (e ∙ ap (λ (m : List ℕ). Some m) (sym same))) in

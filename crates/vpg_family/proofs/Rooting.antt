@@ -1,11 +1,10 @@
 -- The lines of requirements and their vertices.
-use Rattle.std.proofs.Common.{◌≡◌, ℕ, suc, ◌+◌, List, ◌++◌, Option, Some, None, map, length, arith, refl, sym, ap, ◌∙◌, append_assoc, Bor}
+use Rattle.std.proofs.Common.{◌≡◌, ℕ, suc, ◌+◌, List, ◌++◌, Option, Some, None, length, arith, refl, sym, ap, ◌∙◌, append_assoc, Bor}
 use Rattle.std.specs.Prelude.{slice_get, option_map}
 use Rattle.std.specs.Slice.{IsItemAt}
 use Rattle.std.proofs.lemmas.Option.{slice_get-map, slice_get_read, slice_get_past}
 use Rattle.vpg_formula.specs.EntryCode.{earlier_of}
 use Rattle.vpg_formula.specs.declared.requirement.Entry as code
-use Rattle.vpg_family.specs.Counts.{root_line, root_lines}
 use Rattle.vpg_family.proofs.Models.{read_names}
 
 -- the name of an entry
@@ -26,14 +25,14 @@ pub vertex_shown : (vs : List ℕ) (n : ℕ) (r : Option (Bor ℕ)) → IsItemAt
 vertex_shown vs n None h = sym (slice_get_past vs n h.3)
 vertex_shown vs n (Some b) h = sym (slice_get_read vs (length vs) n b.now refl h.3.0 h.1)
 
--- one line more
-pub one_more : (es : List code.Entry) (vs : List ℕ) (n : ℕ) (r : Option (Bor code.Entry)) (s : Option (Bor ℕ)) (before now new : List ℕ) → IsItemAt es n r → IsItemAt vs n s → now ≡ before ++ root_lines (earlier_of es) vs n
-    → new ≡ now ++ root_line (option_map (λ (b : Bor code.Entry). b.now.name) r) (option_map (λ (b : Bor ℕ). b.now) s) → new ≡ before ++ root_lines (earlier_of es) vs (n + 1)
-one_more es vs n r s before now new entry vertex is grows =
+-- a list grows by what is made of the entry and the vertex at each place
+pub one_more : {X : Type 0} (made : Option (List ℕ) → Option ℕ → List X) (upto : ℕ → List X) (es : List code.Entry) (vs : List ℕ) (n : ℕ) (r : Option (Bor code.Entry)) (s : Option (Bor ℕ)) (before now new : List X) →
+    upto (suc n) ≡ upto n ++ made (slice_get (earlier_of es) n) (slice_get vs n) → IsItemAt es n r → IsItemAt vs n s → now ≡ before ++ upto n
+    → new ≡ now ++ made (option_map (λ (b : Bor code.Entry). b.now.name) r) (option_map (λ (b : Bor ℕ). b.now) s) → new ≡ before ++ upto (n + 1)
+one_more {X} made upto es vs n r s before now new more entry vertex is grows =
     let next : suc n ≡ n + 1 = omega arith in
     grows
-    ∙ ap (λ (x : Option (List ℕ)). now ++ root_line x (option_map (λ (b : Bor ℕ). b.now) s)) (entry_shown es n r entry)
-    ∙ ap (λ (x : Option ℕ). now ++ root_line (slice_get (earlier_of es) n) x) (vertex_shown vs n s vertex)
-    ∙ ap (λ (l : List ℕ). l ++ root_line (slice_get (earlier_of es) n) (slice_get vs n)) is
-    ∙ append_assoc before (root_lines (earlier_of es) vs n) (root_line (slice_get (earlier_of es) n) (slice_get vs n))
-    ∙ ap (λ (k : ℕ). before ++ root_lines (earlier_of es) vs k) next
+    ∙ (λ k. is k ++ made (entry_shown es n r entry k) (vertex_shown vs n s vertex k))
+    ∙ append_assoc before (upto n) (made (slice_get (earlier_of es) n) (slice_get vs n))
+    ∙ ap (λ (l : List X). before ++ l) (sym more)
+    ∙ ap (λ (k : ℕ). before ++ upto k) next

@@ -1,18 +1,18 @@
 -- Systems that are drawn, and what is told where they are not.
-use Rattle.std.proofs.Common.{◌≡◌, ℕ, Bool, Option, List, [], ◌++◌, map, ap, subst, ◌∙◌}
+use Rattle.std.proofs.Common.{◌≡◌, ℕ, Bool, Option, List, [], ◌++◌, map, ap, ◌∙◌}
 use Rattle.vpg_guards.specs.declared.tri.Tri.{Tri}
 use Rattle.vpg_diagram.specs.declared.clause.Literal.{Literal}
 use Rattle.vpg_diagram.specs.DiagramText.{NamedDiagram, IsTextOf}
 use Rattle.vpg_partial.specs.Known.{literal_of}
 use Rattle.vpg_partial.specs.TableLaws.{IsKnownTable}
 use Rattle.vpg_partial.specs.declared.decision.Decision.{Decision}
-use Rattle.vpg_system.specs.SystemText.{NamedSystem, IsTextOf as IsSystemText}
+use Rattle.vpg_system.specs.SystemText.{NamedSystem}
 use Rattle.vpg_system_draw.specs.Reached.{AreReached}
 use Rattle.vpg_system_draw.specs.SystemDrawing.{system_drawing}
 use Rattle.vpg_system_draw.specs.Traced.{Marking, Trail}
 use Rattle.vpg_family.specs.Families.{IsDiagramFault}
 use Rattle.vpg_family.specs.Pictures.{TellsContradiction}
-use Rattle.vpg_family.specs.Systems.{IsSystemFault, IsSystemDrawn, IsSystemOn, IsSystemUndrawn, IsSystemUnder, marks_on}
+use Rattle.vpg_family.specs.Systems.{IsSystemFault, IsSystemDrawn, IsSystemUndrawn, IsSystemUnder, marks_on}
 use Rattle.vpg_family.specs.declared.fault.Fault.{Fault}
 use Rattle.vpg_family.specs.declared.fault.Fault.TheVariants as told
 
@@ -53,12 +53,4 @@ under diagram drawn choices known seen decisions system trail picture known_is i
   known = known;
   known_is = known_is;
   drawn = coe 0 1 (i. IsSystemDrawn (d i).names (k i) (ds i) system (marks_on system trail) picture) is;
-}
-
-pub on_page : (diagram read : NamedDiagram) (choices : List Literal) (system_text : List ℕ) (system : NamedSystem) (trail : Option Trail) (picture : List ℕ)
-    → IsSystemText read.names system_text system → read ≡ diagram → IsSystemUnder diagram choices system trail picture → IsSystemOn diagram choices system_text trail picture
-on_page diagram read choices system_text system trail picture spelled same under = record {
-  system = system;
-  system_spelled = subst (λ (d : NamedDiagram). IsSystemText d.names system_text system) same spelled;
-  under = under;
 }

@@ -1,6 +1,6 @@
 -- What calls that append leave, and what is told of two texts, by what their parts tell.
-use Rattle.std.proofs.Common.{◌≡◌, ℕ, Bool, true, false, true≢false, List, ◌++◌, Result, Ok, Err, is_ok, is_err, IfErr, OnOk, ap, sym, subst, ◌∙◌, append_assoc, ◌⊎◌, inl, inr}
-use Rattle.std.specs.Prelude.{OnErr, if◌then◌else◌}
+use Rattle.std.proofs.Common.{◌≡◌, ℕ, List, ◌++◌, Result, Ok, Err, is_ok, IfErr, OnOk, ap, sym, subst, ◌∙◌, append_assoc, ◌⊎◌, inl, inr}
+use Rattle.std.specs.Prelude.{if◌then◌else◌}
 use Rattle.vpg_diagram.specs.DiagramText.{NamedDiagram, IsTextOf}
 use Rattle.vpg_game.specs.Game.{NamedGame}
 use Rattle.vpg_family.specs.Families.{IsDiagramFault, IsGameFault, IsFamilyFault, IsModelFault, IsUnread, IsOfModel, IsOfPaths, SpellsFamily}
@@ -65,35 +65,19 @@ module _ (diagram_text game_text system_text requirements_text : List ℕ) where
 
 -- ---- the files that faults are of
 
--- out of memory, or this fault
-pub of_as : (P : Fault → Type 0) (fault other : Fault) → P told.Memory → P other → (fault ≡ told.Memory) ⊎ (fault ≡ other) → P fault
-of_as P fault other memory p (inl e) = subst P (sym e) memory
-of_as P fault other memory p (inr e) = subst P (sym e) p
-
 pub of_diagram : (files : GamePaths) (text : List ℕ) (fault : Fault) → IsDiagramFault text fault → IsOfPaths files fault
 of_diagram (paths.Game path) text (told.Diagram fault) h = tt
+of_diagram _ text (told.Diagram fault) h = tt
 of_diagram (paths.Game path) text told.Memory h = tt
-of_diagram (paths.Game path) text _ h = absurd h
-of_diagram (paths.Model files) text (told.Diagram fault) h = tt
-of_diagram (paths.Model files) text told.Memory h = tt
-of_diagram (paths.Model files) text _ h = absurd h
-of_diagram (paths.System path) text (told.Diagram fault) h = tt
-of_diagram (paths.System path) text told.Memory h = tt
-of_diagram (paths.System path) text _ h = absurd h
+of_diagram _ text told.Memory h = tt
+of_diagram files text _ h = absurd h
 
 pub of_family : (files : GamePaths) (diagram_text game_text : List ℕ) (fault : Fault) → IsFamilyFault diagram_text game_text fault → IsOfPaths files fault
 of_family (paths.Game path) diagram_text game_text (told.Game fault) h = tt
-of_family (paths.Model files) diagram_text game_text (told.Game fault) h = tt
-of_family (paths.System path) diagram_text game_text (told.Game fault) h = tt
+of_family _ diagram_text game_text (told.Game fault) h = tt
 of_family files diagram_text game_text (told.Diagram fault) h = of_diagram files diagram_text (told.Diagram fault) h
 of_family files diagram_text game_text told.Memory h = of_diagram files diagram_text told.Memory h
 of_family files diagram_text game_text _ h = absurd h
-
--- the diagram's file cannot be read, whatever else is named
-pub of_no_diagram : (files : GamePaths) (fault : Fault) → (fault ≡ told.Memory) ⊎ (fault ≡ told.DiagramUnreadable) → IsOfPaths files fault
-of_no_diagram (paths.Game path) fault h = of_as (IsOfPaths (paths.Game path)) fault told.DiagramUnreadable tt tt h
-of_no_diagram (paths.Model files) fault h = of_as (IsOfPaths (paths.Model files)) fault told.DiagramUnreadable tt tt h
-of_no_diagram (paths.System path) fault h = of_as (IsOfPaths (paths.System path)) fault told.DiagramUnreadable tt tt h
 
 pub of_model : (diagram : NamedDiagram) (system_text requirements_text : List ℕ) (fault : Fault) → IsModelFault diagram system_text requirements_text fault → IsOfModel fault
 of_model diagram system_text requirements_text (told.System fault) h = tt
@@ -102,17 +86,3 @@ of_model diagram system_text requirements_text (told.TooManyParts name) h = tt
 of_model diagram system_text requirements_text (told.Model fault) h = tt
 of_model diagram system_text requirements_text told.Memory h = tt
 of_model diagram system_text requirements_text _ h = absurd h
-
--- ---- results that failed or did not
-
-pub none_failed : {A E : Type 0} (P : Type 0) (r : Result A E) → true ≡ is_err r → OnOk r P
-none_failed P (Ok x) e = absurd (true≢false e)
-none_failed P (Err x) e = tt
-
-pub all_failed : {A E : Type 0} (P : Type 0) (r : Result A E) → P → OnErr r P
-all_failed P (Ok x) p = tt
-all_failed P (Err x) p = p
-
-pub one_went : {A E : Type 0} (P : Type 0) (r : Result A E) → false ≡ is_err r → OnErr r P
-one_went P (Ok x) e = tt
-one_went P (Err x) e = absurd (true≢false (sym e))

@@ -3,19 +3,16 @@ use Rattle.std.proofs.Common.{◌≡◌, ℕ, zero, suc, ◌+◌, ◌-◌, ◌<�
 use Rattle.std.proofs.lemmas.List.Filters.{length-filter_both}
 use Rattle.vpg_trail.specs.Page.{Which, Entry, Decided, Lifted, same_table, value_at, assumes, before_decision, after_decision, reset, reset_all, kept_after, retracted}
 use Rattle.vpg_trail.proofs.PageLemmas.{value_at-append}
-use Rattle.vpg_desk.specs.Book.{Family, Book, Kept, Call, Decide, Retract, Reset, Undo, Redo, Keep, Forget, Order, Commit, Settled, Verdict, Page, Reply, Changed, Undone as UndoneIs, Redone as RedoneIs, Answers, IsReply, Refuses, after, next, is_refusal, in_front_of, refuses_undo, refuses_redo, serials_of, undone, undone_to, redone, redone_to}
+use Rattle.vpg_desk.specs.Book.{Family, Book, Kept, Call, Decide, Retract, Reset, Undo, Redo, Keep, Forget, Settled, Reply, Changed, Undone as UndoneIs, Redone as RedoneIs, Answers, IsReply, Refuses, after, next, is_refusal, in_front_of, refuses_undo, refuses_redo, serials_of, undone, undone_to, redone, redone_to}
 use Rattle.vpg_office.specs.Story.{call_of, reply_of}
 use Rattle.vpg_office.specs.Told.{AgreeOnTops, AreAlike, Leads, NearestAgree, only_appends}
 use Rattle.vpg_office.specs.declared.alike.Alike.{Alike}
 use Rattle.vpg_office.specs.declared.asked.Answer.{Answer}
-use Rattle.vpg_office.specs.declared.asked.Answer.TheVariants.{Changed as ChangedTo, Undone, Redone, Spent, Ordered, Added, IsSettled, VerdictIs, PageIs, Refused}
+use Rattle.vpg_office.specs.declared.asked.Answer.TheVariants.{Changed as ChangedTo, Undone, Redone}
 use Rattle.vpg_office.specs.declared.asked.SessionCall.{SessionCall}
 use Rattle.vpg_office.specs.declared.asked.SessionCall.TheVariants as ask
 
 -- ---- rows of pages that agree
-
-pub agree_back : (family : Family) (one other : List Entry) → AgreeOnTops family one other → AgreeOnTops family other one
-agree_back family one other agree = λ which v. sym (agree which v)
 
 -- the pages agree with any other page that agrees
 nearest_moved : (family : Family) (one other : List Entry) (n : ℕ) (pages : List Kept) → AgreeOnTops family one other → NearestAgree family one n pages → NearestAgree family other n pages
@@ -49,7 +46,7 @@ rest family page other m (suc n) kept pages agree less near = nearest_fewer fami
 one_more : (family : Family) (page other : List Entry) (m n : ℕ) (kept : Kept) (pages : List Kept) → AgreeOnTops family page other → m ≤ n + 1 → kept.page ≡ page → NearestAgree family page n pages → NearestAgree family other m (kept ∷ pages)
 one_more family page other m n kept pages agree less is near =
     nearest_fewer family other m (suc n) (kept ∷ pages) (omega (arith, less))
-    (subst (AgreeOnTops family other) (sym is) (agree_back family page other agree), nearest_moved family page other n pages agree near)
+    (subst (AgreeOnTops family other) (sym is) (λ which v. sym (agree which v)), nearest_moved family page other n pages agree near)
 
 -- ---- the book after each reply
 
@@ -85,32 +82,24 @@ redoes b s [] is accepted = absurd (cc accepted)
 redoes b s (nearest ∷ further) is accepted = record { nearest = nearest; further = further; future = is; is = refl }
 
 module _ (family : Family) (b : Book) (session : ℕ) where
-  stays : Keeps family b b
-  stays = record { past = λ page n near. near; future = λ page n near. near }
+  abbrev Led : Call → Reply → Type 0
+  Led call reply = Follows family b reply (next family b session call reply)
 
-  answered : (call : Call) (reply : Reply) → Refuses family b call None → Answers family b call reply → Follows family b reply (next family b session call reply)
-  answered (Decide f v) reply refuses told = subst (λ (r : Reply). Follows family b r (next family b session (Decide f v) r)) (sym told) refl
-  answered (Retract f) reply refuses told = subst (λ (r : Reply). Follows family b r (next family b session (Retract f) r)) (sym told) refl
-  answered Reset reply refuses told = subst (λ (r : Reply). Follows family b r (next family b session Reset r)) (sym told) refl
-  answered (Undo s) reply refuses told =
-      subst (λ (r : Reply). Follows family b r (next family b session (Undo s) r)) (sym told) (undoes b s b.past refl (sym refuses))
-  answered (Redo s) reply refuses told =
-      subst (λ (r : Reply). Follows family b r (next family b session (Redo s) r)) (sym told) (redoes b s b.future refl (sym refuses))
+  answered : (call : Call) (reply : Reply) → Refuses family b call None → Answers family b call reply → Led call reply
+  answered (Decide f v) reply refuses told = subst (Led (Decide f v)) (sym told) refl
+  answered (Retract f) reply refuses told = subst (Led (Retract f)) (sym told) refl
+  answered Reset reply refuses told = subst (Led Reset) (sym told) refl
+  answered (Undo s) reply refuses told = subst (Led (Undo s)) (sym told) (undoes b s b.past refl (sym refuses))
+  answered (Redo s) reply refuses told = subst (Led (Redo s)) (sym told) (redoes b s b.future refl (sym refuses))
   answered (Keep s) reply refuses told =
-      subst (λ (r : Reply). Follows family b r (next family b session (Keep s) r)) (sym told)
-      (record { past = λ page n near. nearest_in_front family page s n b.past near; future = λ page n near. near })
+      subst (Led (Keep s)) (sym told) (record { past = λ page n near. nearest_in_front family page s n b.past near; future = λ page n near. near })
   answered (Forget s) reply refuses told =
-      subst (λ (r : Reply). Follows family b r (next family b session (Forget s) r)) (sym told)
-      (record { past = λ page n near. near; future = λ page n near. nearest_in_front family page s n b.future near })
-  answered Order reply refuses told = subst (λ (r : Reply). Follows family b r (next family b session Order r)) (sym told) stays
-  answered (Commit h) reply refuses told =
-      subst (λ (r : Reply). Follows family b r (next family b session (Commit h) r)) (sym told) (record { past = λ page n near. near; future = λ page n near. near })
-  answered Settled reply refuses told = subst (λ (r : Reply). Follows family b r (next family b session Settled r)) (sym told.1.1) stays
-  answered (Verdict v) reply refuses told = subst (λ (r : Reply). Follows family b r (next family b session (Verdict v) r)) (sym told) stays
-  answered Page reply refuses told = subst (λ (r : Reply). Follows family b r (next family b session Page r)) (sym told) stays
+      subst (Led (Forget s)) (sym told) (record { past = λ page n near. near; future = λ page n near. nearest_in_front family page s n b.future near })
+  answered Settled reply refuses told = subst (Led Settled) (sym told.1.1) (record { past = λ page n near. near; future = λ page n near. near })
+  answered call reply refuses told = subst (Led call) (sym told) (record { past = λ page n near. near; future = λ page n near. near })
 
-  follows : (call : Call) (reply : Reply) → IsReply family b call reply → Follows family b reply (next family b session call reply)
-  follows call reply (Some r, (refuses, told)) = subst (λ (x : Reply). Follows family b x (next family b session call x)) (sym told) stays
+  follows : (call : Call) (reply : Reply) → IsReply family b call reply → Led call reply
+  follows call reply (Some r, (refuses, told)) = subst (Led call) (sym told) (record { past = λ page n near. near; future = λ page n near. near })
   follows call reply (None, (refuses, told)) = answered call reply refuses told
 
 leads_to : (family : Family) (old new : Book) (asked : SessionCall) (answer : Answer) → Leads family old asked answer new → Follows family old (reply_of family old.present answer) new
@@ -152,13 +141,7 @@ module _ (family : Family) (old new : Book) (asked : SessionCall) (answer : Answ
   keeps_else (ChangedTo s) changed undone redone f = absurd (changed s refl)
   keeps_else (Undone s) changed undone redone f = absurd (undone s refl)
   keeps_else (Redone s) changed undone redone f = absurd (redone s refl)
-  keeps_else Spent changed undone redone f = f
-  keeps_else Ordered changed undone redone f = f
-  keeps_else (Added n) changed undone redone f = f
-  keeps_else (IsSettled b) changed undone redone f = f
-  keeps_else (VerdictIs hopeless sure) changed undone redone f = f
-  keeps_else PageIs changed undone redone f = f
-  keeps_else (Refused cause) changed undone redone f = f
+  keeps_else _ changed undone redone f = f
 
   pub kept_alike : ((s : ℕ) → answer ≡ ChangedTo s → ⊥) → ((s : ℕ) → answer ≡ Undone s → ⊥) → ((s : ℕ) → answer ≡ Redone s → ⊥) → AreAlike family new alike
   kept_alike changed undone redone =
@@ -261,15 +244,8 @@ module _ (family : Family) (old new : Book) (answer : Answer) {asked : SessionCa
 
 -- the other calls only append entries
 pub appends_else : (asked : SessionCall) → ((f : ℕ) → asked ≡ ask.Retract f → ⊥) → (asked ≡ ask.Reset → ⊥) → ((s : ℕ) → asked ≡ ask.Undo s → ⊥) → ((s : ℕ) → asked ≡ ask.Redo s → ⊥) → only_appends asked ≡ true
-appends_else (ask.Decide f value) retract resets undo redo = refl
 appends_else (ask.Retract f) retract resets undo redo = absurd (retract f refl)
 appends_else ask.Reset retract resets undo redo = absurd (resets refl)
 appends_else (ask.Undo s) retract resets undo redo = absurd (undo s refl)
 appends_else (ask.Redo s) retract resets undo redo = absurd (redo s refl)
-appends_else (ask.Keep s) retract resets undo redo = refl
-appends_else (ask.Forget s) retract resets undo redo = refl
-appends_else ask.Order retract resets undo redo = refl
-appends_else (ask.Commit harvest) retract resets undo redo = refl
-appends_else ask.Settled retract resets undo redo = refl
-appends_else (ask.Verdict v) retract resets undo redo = refl
-appends_else ask.Page retract resets undo redo = refl
+appends_else _ retract resets undo redo = refl

@@ -1,5 +1,6 @@
 -- What a call of the desk means for the log.
-use Rattle.std.proofs.Common.{Result, Ok, Err, IfOk, IfErr, ◌≡◌, ℕ, ◌+◌, ◌<◌, ◌≤◌, List, [], ◌∷◌, ◌++◌, length, drop, Option, Some, None, IfSome, refl, sym, ap, ◌∙◌, subst, arith, append_assoc, append-nil, length-append, eq-eqb}
+use Rattle.std.proofs.Common.{Result, Ok, Err, IfOk, ◌≡◌, ℕ, ◌+◌, ◌<◌, ◌≤◌, List, [], ◌∷◌, ◌++◌, length, drop, Option, Some, None, IfSome, refl, sym, ap, ◌∙◌, subst, arith, append_assoc, length-append, eq-eqb}
+use Rattle.std.proofs.Math.Seq.{drop-append_seam}
 use Rattle.std.specs.Prelude.{IfNone, OnOk, IsTrue}
 use mathlib.Core.List.{IsPrefix}
 use Rattle.boxcar.specs.Table.{Shelves}
@@ -35,50 +36,15 @@ then_some None P Q so h = tt
 
 -- the desk's own refusal is one call of the log
 one_logged : {L F : Type 0} (refusal : F → Option Refusal) (r : Refusal) (told : Fault L F) → StandsFor refusal r told → logged told ≡ 1
-one_logged refusal r (LogFull f) s = absurd s
-one_logged refusal r (Doubled f) s = absurd s
 one_logged refusal r (DeskRefuses fault) s = refl
-one_logged refusal r Memory s = absurd s
-
-pub ok_all : {T E : Type 0} (r : Result T E) (P : Type 0) → P → OnOk r P
-ok_all (Ok x) P p = p
-ok_all (Err e) P p = tt
-
-pub ok_both : {T E : Type 0} (r : Result T E) (P Q S : T → Type 0) → ((x : T) → P x → Q x → S x) → IfOk r P → IfOk r Q → IfOk r S
-ok_both (Ok x) P Q S so p q = so x p q
-ok_both (Err e) P Q S so p q = tt
-
-pub ok_then : {T E : Type 0} (r : Result T E) (P S : T → Type 0) → ((x : T) → P x → S x) → IfOk r P → IfOk r S
-ok_then (Ok x) P S so p = so x p
-ok_then (Err e) P S so p = tt
-
-pub err_then : {T E : Type 0} (r : Result T E) (P S : E → Type 0) → ((e : E) → P e → S e) → IfErr r P → IfErr r S
-err_then (Ok x) P S so p = tt
-err_then (Err e) P S so p = so e p
-
-pub some_is : {A : Type 0} (o : Option A) (a : A) (P : A → Type 0) → o ≡ Some a → P a → IfSome o P
-some_is {A} o a P is p = subst (λ (x : Option A). IfSome x P) (sym is) p
-
-pub some_unless : {A : Type 0} (o : Option A) (P : A → Type 0) → o ≡ None → IfSome o P
-some_unless {A} o P is = subst (λ (x : Option A). IfSome x P) (sym is) tt
-
-pub none_is : {A : Type 0} (o : Option A) (P : Type 0) → o ≡ None → P → IfNone o P
-none_is {A} o P is p = subst (λ (x : Option A). IfNone x P) (sym is) p
-
-pub none_unless : {A : Type 0} (o : Option A) (a : A) (P : Type 0) → o ≡ Some a → IfNone o P
-none_unless {A} o a P is = subst (λ (x : Option A). IfNone x P) (sym is) tt
+one_logged refusal r _ s = absurd s
 
 -- what comes after a beginning
 rest_of : (front log : List Event) (p : IsPrefix front log) → drop (length front) log ≡ p.0
-rest_of [] log p = sym p.1
-rest_of (x ∷ front) [] p = absurd (cc (p.1))
-rest_of (x ∷ front) (y ∷ log) p = rest_of front log (p.0, cc (p.1))
+rest_of front log p = ap (drop (length front)) (sym p.1) ∙ drop-append_seam front p.0
 
 pub prefix_more : (h log new : List Event) (e : Event) → IsPrefix h log → new ≡ log ++ e ∷ [] → IsPrefix h new
 prefix_more h log new e p is = (p.0 ++ e ∷ [], sym (append_assoc h p.0 (e ∷ [])) ∙ (ap (λ (l : List Event). l ++ e ∷ []) p.1 ∙ sym is))
-
-pub prefix_self : (xs : List Event) → IsPrefix xs xs
-prefix_self xs = ([], append-nil xs)
 
 -- of two beginnings of one list the shorter begins the longer
 pub prefix_shorter : (xs ys zs : List Event) → IsPrefix xs zs → IsPrefix ys zs → length xs ≤ length ys → IsPrefix xs ys
@@ -86,9 +52,8 @@ prefix_shorter [] ys zs p q le = (ys, refl)
 prefix_shorter (x ∷ xs) [] zs p q le = absurd (omega arith)
 prefix_shorter (x ∷ xs) (y ∷ ys) [] p q le = absurd (cc (p.1))
 prefix_shorter (x ∷ xs) (y ∷ ys) (z ∷ zs) p q le =
-    let heads : x ≡ y = cc (p.1, q.1) in
     let rest = prefix_shorter xs ys zs (p.0, cc (p.1)) (q.0, cc (q.1)) (omega arith) in
-    (rest.0, cc (heads, rest.1))
+    (rest.0, cc (p.1, q.1, rest.1))
 
 pub kept_history : (row : Shelves) (game : NamedGame) (diagram : NamedDiagram) (c : Chronicle) (newest : List Event) → IsChronicle row game diagram c newest → IsHistory (family_between game diagram) newest
 kept_history row game diagram c newest kept = subst (IsHistory (family_between game diagram)) (sym kept.newest_is) kept.is_story.history
@@ -223,10 +188,8 @@ page_is state entries (Some r, (refuses, told)) = absurd (cc told)
 -- what the desk's own fault leaves
 leaves_refused : {L F : Type 0} (game : NamedGame) (diagram : NamedDiagram) (limit : ℕ) (refusal : F → Option Refusal) (log front : List Event) (session : ℕ) (asked : SessionCall) (new : List Event) (r : Refusal) (told : Fault L F) → StandsFor refusal r told →
     IsNamed game diagram asked (Refused r) → IsEntered (family_between game diagram) log front session (call_of asked (Refused r)) (book.Refused r) new → Leaves game diagram limit refusal log front session asked new told
-leaves_refused game diagram limit refusal log front session asked new r (LogFull g) s named entered = absurd s
-leaves_refused game diagram limit refusal log front session asked new r (Doubled g) s named entered = absurd s
 leaves_refused game diagram limit refusal log front session asked new r (DeskRefuses fault) s named entered = (r, (s, (named, entered)))
-leaves_refused game diagram limit refusal log front session asked new r Memory s named entered = absurd s
+leaves_refused game diagram limit refusal log front session asked new r _ s named entered = absurd s
 
 -- what the desk's refusal leaves
 pub refused_leaves : {L F : Type 0} {row : Shelves} {game : NamedGame} {diagram : NamedDiagram} {chronicle : Chronicle} {new : List Event} (kept : IsChronicle row game diagram chronicle new)
@@ -244,10 +207,8 @@ refused_leaves {L} {F} {row} {game} {diagram} {chronicle} {new} kept asked sessi
 -- what is left where a call isn't taken in
 pub stops_leave : {L F : Type 0} (game : NamedGame) (diagram : NamedDiagram) (limit : ℕ) (refusal : F → Option Refusal) (log front : List Event) (session : ℕ) (asked : SessionCall) (f : Fault L F) → IsHistory (family_between game diagram) log →
     Stops limit front session log f → Leaves game diagram limit refusal log front session asked front f
-stops_leave game diagram limit refusal log front session asked (LogFull g) h s = (refl, (h, s))
-stops_leave game diagram limit refusal log front session asked (Doubled g) h s = (refl, (h, s))
 stops_leave game diagram limit refusal log front session asked (DeskRefuses fault) h s = absurd s
-stops_leave game diagram limit refusal log front session asked Memory h s = (refl, (h, s))
+stops_leave game diagram limit refusal log front session asked _ h s = (refl, (h, s))
 
 -- what a call that gives nothing tells
 pub leaves_tells : {L F : Type 0} (game : NamedGame) (diagram : NamedDiagram) (limit : ℕ) (refusal : F → Option Refusal) (log front : List Event) (session : ℕ) (asked : SessionCall) (new : List Event) (f : Fault L F) → IsPrefix front log →
@@ -264,21 +225,17 @@ leaves_tells game diagram limit refusal log front session asked new Memory p l =
 -- what the desk's refusal says of the call
 pub leaves_names : {L F : Type 0} (game : NamedGame) (diagram : NamedDiagram) (limit : ℕ) (refusal : F → Option Refusal) (log front : List Event) (session : ℕ) (asked : SessionCall) (new : List Event) (f : Fault L F) →
     Leaves game diagram limit refusal log front session asked new f → RefusedFor refusal (λ r. IsNamed game diagram asked (Refused r)) f
-leaves_names game diagram limit refusal log front session asked new (LogFull g) l = tt
-leaves_names game diagram limit refusal log front session asked new (Doubled g) l = tt
 leaves_names game diagram limit refusal log front session asked new (DeskRefuses fault) (r, (why, (named, entered))) = λ q is.
     let same : Some r ≡ Some q = sym why ∙ is in
     subst (λ (x : Refusal). IsNamed game diagram asked (Refused x)) (cc same) named
-leaves_names game diagram limit refusal log front session asked new Memory l = tt
+leaves_names game diagram limit refusal log front session asked new _ l = tt
 
 -- and of a token's history
 pub leaves_begins : {L F : Type 0} (game : NamedGame) (diagram : NamedDiagram) (limit : ℕ) (refusal : F → Option Refusal) (log front : List Event) (session : ℕ) (asked : SessionCall) (new history : List Event) (f : Fault L F) → IsPrefix history log →
     Leaves game diagram limit refusal log front session asked new f → Begins history new f
-leaves_begins game diagram limit refusal log front session asked new history (LogFull g) p l = tt
-leaves_begins game diagram limit refusal log front session asked new history (Doubled g) p l = tt
 leaves_begins game diagram limit refusal log front session asked new history (DeskRefuses fault) p (r, (why, (named, entered))) =
     prefix_more history log new (event session (call_of asked (Refused r)) (book.Refused r)) p entered.is
-leaves_begins game diagram limit refusal log front session asked new history Memory p l = tt
+leaves_begins game diagram limit refusal log front session asked new history _ p l = tt
 
 -- the desk's refusal of a call that its answer doesn't change
 pub refused_is : (game : NamedGame) (diagram : NamedDiagram) (desk : DeskState) (asked : SessionCall) (call : Call) (why : Option Refusal) →

@@ -39,9 +39,6 @@ entry_send = search (sendable, crosses) depth 20
 pub entry_sync : IsSync Entry.the_row
 entry_sync = search (sendable, crosses) depth 20
 
-pub chronicle_send : IsSend Chronicle.the_row
-chronicle_send = search (told_send, placed_send, sendable, crosses) depth 40
-
 -- as a struct has it that holds it
 chronicle_field : IsSend (Chronicle.the_field).row
 chronicle_field = search (told_send, placed_send, sendable, crosses) depth 40

@@ -3,7 +3,9 @@ use Rattle.std.proofs.Common.{◌≡◌, ℕ, ◌+◌, ◌<◌, ◌==◌, Bool, 
 use Rattle.std.specs.List.{list_any}
 use Rattle.std.specs.Prelude.{IsTrue, IsFalse}
 use Rattle.std.proofs.lemmas.Bool.{or_parts, or_from}
-use Rattle.std.proofs.lemmas.List.{take-append-le}
+use Rattle.std.proofs.Math.Seq.{take-append_seam}
+use Rattle.std.proofs.lemmas.List.{append_cancel_left, take-append-le}
+use Rattle.std.proofs.lemmas.List.Folds.{list_any-append}
 use mathlib.Core.List.{IsPrefix}
 use Rattle.vpg_trail.specs.Page.{Entry as Step}
 use Rattle.vpg_desk.specs.Book.{Family}
@@ -14,7 +16,7 @@ use Rattle.vpg_office.specs.Kept.{gives, AreGiven, IsNoted}
 use Rattle.vpg_office.specs.Story.{reply_of, token_of, is_token}
 use Rattle.vpg_office.specs.Token.{EndsWith}
 use Rattle.vpg_office.specs.declared.asked.Answer.{Answer}
-use Rattle.vpg_office.specs.declared.asked.Answer.TheVariants.{Changed, Undone, Redone, Spent, Ordered, Added, IsSettled, VerdictIs, PageIs, Refused}
+use Rattle.vpg_office.specs.declared.asked.Answer.TheVariants.{Changed, Redone}
 
 or_false : (b : Bool) → (b || false) ≡ b
 or_false true = refl
@@ -23,27 +25,11 @@ or_false false = refl
 -- which replies give a token
 pub gives_is : (s : ℕ) (family : Family) (page : List Step) (a : Answer) → gives s (reply_of family page a) ≡ is_token s (token_of a)
 gives_is s family page (Changed n) = or_false (n == s)
-gives_is s family page (Undone n) = refl
 gives_is s family page (Redone n) = or_false (n == s)
-gives_is s family page Spent = refl
-gives_is s family page Ordered = refl
-gives_is s family page (Added n) = refl
-gives_is s family page (IsSettled b) = refl
-gives_is s family page (VerdictIs h u) = refl
-gives_is s family page PageIs = refl
-gives_is s family page (Refused c) = refl
+gives_is s family page _ = refl
 
 pub any-append : (test : Event → Bool) (xs ys : List Event) → list_any test xs ≡ false → list_any test ys ≡ false → list_any test (xs ++ ys) ≡ false
-any-append test [] ys a b = b
-any-append test (x ∷ xs) ys a b = or_from (test x) _ (or_parts (test x) _ a).0 (any-append test xs ys (or_parts (test x) _ a).1 b)
-
-pub take_front : (xs ys : List Event) → take (length xs) (xs ++ ys) ≡ xs
-take_front [] ys = refl
-take_front (x ∷ xs) ys = ap (λ (l : List Event). x ∷ l) (take_front xs ys)
-
-cancel : (xs ys zs : List Event) → xs ++ ys ≡ xs ++ zs → ys ≡ zs
-cancel [] ys zs e = e
-cancel (x ∷ xs) ys zs e = cancel xs ys zs (cc e)
+any-append test xs ys a b = simp (list_any-append, a, b)
 
 pub given_none : AreGiven [] []
 given_none = λ i low. absurd (omega arith)
@@ -53,7 +39,7 @@ pub given_more : (events : List Event) (e : Event) (given after : List ℕ) (tok
     ((s : ℕ) → gives s e.reply ≡ is_token s token) → AreGiven (events ++ e ∷ []) after
 given_more events e given after token old noted tells = λ i low. ⊎_elim
     (λ (now : IsTrue (is_token (i + 1) token) × (slice_index after i ≡ length events)).
-    let whole : take (slice_index after i) (events ++ e ∷ []) ≡ events = ap (λ n. take n (events ++ e ∷ [])) now.1 ∙ take_front events (e ∷ []) in
+    let whole : take (slice_index after i) (events ++ e ∷ []) ≡ events = ap (λ n. take n (events ++ e ∷ [])) now.1 ∙ take-append_seam events (e ∷ []) in
     (record { last = e; since = []; split = ap (λ (l : List Event). l ++ e ∷ []) (sym whole); passes = tells (i + 1) ∙ now.0; none_since = refl }, omega (arith, now.1, length-append events (e ∷ []))))
     (λ (then : IsFalse (is_token (i + 1) token) × (i < length given) × (slice_index after i ≡ slice_index given i)).
     let b = old i then.1 in
@@ -70,17 +56,14 @@ given_more events e given after token old noted tells = λ i low. ⊎_elim
     ))
     (noted i low)
 
-none_undo : (s : ℕ) (events : List Event) → list_any (λ e. gives s e.reply) events ≡ false → list_any (λ e. gives_undo s e.reply) events ≡ false
-none_undo s [] n = refl
-none_undo s (e ∷ events) n =
+-- where no reply gives a token, none gives an undo, and none a redo
+none_of : (s : ℕ) (events : List Event) → list_any (λ e. gives s e.reply) events ≡ false → (list_any (λ e. gives_undo s e.reply) events ≡ false) × (list_any (λ e. gives_redo s e.reply) events ≡ false)
+none_of s [] n = (refl, refl)
+none_of s (e ∷ events) n =
     let parts = or_parts (gives s e.reply) (list_any (λ x. gives s x.reply) events) n in
-    or_from (gives_undo s e.reply) _ (or_parts (gives_undo s e.reply) (gives_redo s e.reply) parts.0).0 (none_undo s events parts.1)
-
-none_redo : (s : ℕ) (events : List Event) → list_any (λ e. gives s e.reply) events ≡ false → list_any (λ e. gives_redo s e.reply) events ≡ false
-none_redo s [] n = refl
-none_redo s (e ∷ events) n =
-    let parts = or_parts (gives s e.reply) (list_any (λ x. gives s x.reply) events) n in
-    or_from (gives_redo s e.reply) _ (or_parts (gives_undo s e.reply) (gives_redo s e.reply) parts.0).1 (none_redo s events parts.1)
+    let here = or_parts (gives_undo s e.reply) (gives_redo s e.reply) parts.0 in
+    let later = none_of s events parts.1 in
+    (or_from (gives_undo s e.reply) _ here.0 later.0, or_from (gives_redo s e.reply) _ here.1 later.1)
 
 -- a history that ends with the last call that gave a token of the serial
 module _ (events history : List Event) (s n : ℕ) (b : IsBeforeLast (gives s) (take n events) events) (at : n + 1 ≡ length history) (p : IsPrefix history events)
@@ -92,19 +75,19 @@ module _ (events history : List Event) (s n : ℕ) (b : IsBeforeLast (gives s) (
   whole = sym p.1 ∙ ap (λ (l : List Event). l ++ p.0) is ∙ append_assoc before (own ∷ []) p.0
 
   front : take n events ≡ before
-  front = ap (λ m. take m events) place ∙ ap (take (length before)) whole ∙ take_front before (own ∷ p.0)
+  front = ap (λ m. take m events) place ∙ ap (take (length before)) whole ∙ take-append_seam before (own ∷ p.0)
 
   none_later : list_any (λ e. gives s e.reply) p.0 ≡ false
   none_later = subst (λ (l : List Event). list_any (λ e. gives s e.reply) l ≡ false) (sym rest) b.none_since
     where
       tails : own ∷ p.0 ≡ b.last ∷ b.since
-      tails = cancel before (own ∷ p.0) (b.last ∷ b.since) (sym whole ∙ b.split ∙ ap (λ (l : List Event). l ++ b.last ∷ b.since) front)
+      tails = append_cancel_left before (own ∷ p.0) (b.last ∷ b.since) (sym whole ∙ b.split ∙ ap (λ (l : List Event). l ++ b.last ∷ b.since) front)
 
       rest : p.0 ≡ b.since
       rest = cc tails
 
   own_front : before_last history ≡ before
-  own_front = ap before_last is ∙ ap (λ m. take m (before ++ own ∷ [])) (omega (arith, length-append before (own ∷ []))) ∙ take_front before (own ∷ [])
+  own_front = ap before_last is ∙ ap (λ m. take m (before ++ own ∷ [])) (omega (arith, length-append before (own ∷ []))) ∙ take-append_seam before (own ∷ [])
 
 pub undo_goes_to_own : (family : Family) (events history : List Event) (session s n : ℕ) → IsBeforeLast (gives s) (take n events) events → n + 1 ≡ length history → IsPrefix history events →
     EndsWith (λ reply. IsTrue (gives_undo s reply)) history → IsLegal family (events ++ undo_of session s ∷ []) → GoesBackTo family (events ++ undo_of session s ∷ []) history
@@ -112,7 +95,7 @@ undo_goes_to_own family events history session s n b at p ends legal =
     let split : events ≡ ends.before ++ ends.own ∷ p.0 = whole events history s n b at p ends.before ends.own ends.is in
     ap (λ (l : List Event). page_after family (l ++ undo_of session s ∷ [])) split
     ∙ undo_goes_back family ends.before p.0 ends.own session s (subst (λ (l : List Event). IsLegal family (l ++ undo_of session s ∷ [])) split legal) ends.gave
-    (none_undo s p.0 (none_later events history s n b at p ends.before ends.own ends.is))
+    (none_of s p.0 (none_later events history s n b at p ends.before ends.own ends.is)).0
     ∙ ap (page_after family) (sym (own_front events history s n b at p ends.before ends.own ends.is))
 
 pub redo_goes_to_own : (family : Family) (events history : List Event) (session s n : ℕ) → IsBeforeLast (gives s) (take n events) events → n + 1 ≡ length history → IsPrefix history events →
@@ -121,5 +104,5 @@ redo_goes_to_own family events history session s n b at p ends legal =
     let split : events ≡ ends.before ++ ends.own ∷ p.0 = whole events history s n b at p ends.before ends.own ends.is in
     ap (λ (l : List Event). page_after family (l ++ redo_of session s ∷ [])) split
     ∙ redo_goes_back family ends.before p.0 ends.own session s (subst (λ (l : List Event). IsLegal family (l ++ redo_of session s ∷ [])) split legal) ends.gave
-    (none_redo s p.0 (none_later events history s n b at p ends.before ends.own ends.is))
+    (none_of s p.0 (none_later events history s n b at p ends.before ends.own ends.is)).1
     ∙ ap (page_after family) (sym (own_front events history s n b at p ends.before ends.own ends.is))

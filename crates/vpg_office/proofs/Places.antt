@@ -2,7 +2,8 @@
 use Rattle.std.proofs.Common.{◌≡◌, ◌≢◌, ◌⊎◌, Option, Some, ℕ, zero, suc, ◌+◌, ◌-◌, ◌<◌, ◌≤◌, ◌==◌, cond, List, [], ◌∷◌, ◌++◌, length, take, drop, get_or, refl, sym, ap, ◌∙◌, subst, ⊎_elim, inl, inr, arith, length-append, add-one}
 use Rattle.std.proofs.lemmas.Bool.{cases_lt}
 use Rattle.std.proofs.lemmas.Bool.Decides.{nat_tests}
-use Rattle.std.proofs.lemmas.List.{take-append-le, length-map}
+use Rattle.std.proofs.Math.Seq.{take-append_seam}
+use Rattle.std.proofs.lemmas.List.{take-append-le, take_more, length-map}
 use mathlib.Core.Option.{some, some-injective, some-ne-none}
 use mathlib.Core.List.{IsPrefix}
 use lib.ListN.{get_elem?, take-append-drop}
@@ -11,6 +12,7 @@ use Rattle.vpg_diagram.specs.DiagramText.{NamedDiagram}
 use Rattle.vpg_game.specs.Game.{NamedGame}
 use Rattle.vpg_desk.specs.Book.{Family, opened}
 use Rattle.vpg_desk.specs.History.{Event}
+use Rattle.vpg_desk.proofs.Places.{at_below}
 use Rattle.vpg_office.specs.Fronts.{family_between}
 use Rattle.vpg_office.specs.Kept.{IsElsewhere, IsEntryOf, IsInRow, IsLacking, IsShownAt, ShowsEach, IsFront, IsChronicle, line, lines_of, story, story_to}
 use Rattle.vpg_office.specs.Story.{Line, line_of, lines_by, events_of, IsStory}
@@ -22,15 +24,9 @@ use Rattle.vpg_office.proofs.Stories.{events-length, events-take, same_last, sto
 use Rattle.vpg_office.specs.declared.asked.Entry.{Entry}
 use Rattle.vpg_office.specs.declared.asked.LoggedCall.{LoggedCall}
 
-one : (n m : ℕ) → n ≡ m → cond {A = ℕ} (n == m) 1 0 ≡ 1
-one n m e = grind (arith, nat_tests)
-
-other : (n m : ℕ) → n ≢ m → cond {A = ℕ} (n == m) 1 0 ≡ 0
-other n m e = grind (arith, nat_tests)
-
 pub lines_at : (s : ℕ) (ts : List LoggedCall) (i : ℕ) (d : LoggedCall) → i < length ts → (get_or ts i d).session ≡ s → 0 < lines_by s (lines_of ts)
 lines_at s [] i d low is = absurd (omega arith)
-lines_at s (t ∷ ts) zero d low is = let h = one t.session s is in omega arith
+lines_at s (t ∷ ts) zero d low is = grind (arith, nat_tests)
 lines_at s (t ∷ ts) (suc i) d low is = let h = lines_at s ts i d (omega arith) is in omega arith
 
 pub lines_more : (s : ℕ) (ts : List LoggedCall) (i : ℕ) (d : LoggedCall) → i < length ts → (get_or ts i d).session ≢ s → lines_by s (lines_of (take i ts)) ≡ 0 → lines_by s (lines_of (take (i + 1) ts)) ≡ 0
@@ -38,31 +34,17 @@ lines_more s ts i d low is none = ap (λ n. lines_by s (lines_of (take n ts))) (
   where
     by : (ts : List LoggedCall) (i : ℕ) → i < length ts → (get_or ts i d).session ≢ s → lines_by s (lines_of (take i ts)) ≡ 0 → lines_by s (lines_of (take (suc i) ts)) ≡ 0
     by [] i low is none = refl
-    by (t ∷ ts) zero low is none = let h = other t.session s is in omega arith
+    by (t ∷ ts) zero low is none = grind (arith, nat_tests)
     by (t ∷ ts) (suc i) low is none = let h = by ts i (omega arith) is (omega arith) in omega arith
-
-pub drop-map : (n : ℕ) (ts : List LoggedCall) → lines_of (drop n ts) ≡ drop n (lines_of ts)
-drop-map zero ts = refl
-drop-map (suc n) [] = refl
-drop-map (suc n) (t ∷ ts) = drop-map n ts
 
 pub shows_none : (row : Shelves) → ShowsEach row [] []
 shows_none row = record { same = refl; each = λ i p l e. absurd (some-ne-none p (sym e)) }
-
-pub at_place : {A : Type 0} (xs : List A) (i : ℕ) (v : A) → get_elem? xs i ≡ some v → suc i ≤ length xs
-at_place [] i v e = absurd (some-ne-none v (sym e))
-at_place (x ∷ xs) zero v e = omega arith
-at_place (x ∷ xs) (suc i) v e = let h = at_place xs i v e in omega arith
 
 pub at_end : {A : Type 0} (xs : List A) (a : A) (i : ℕ) (b : A) → get_elem? (xs ++ a ∷ []) i ≡ some b → (get_elem? xs i ≡ some b) ⊎ ((i ≡ length xs) × (a ≡ b))
 at_end [] a zero b e = inr (refl, some-injective a b e)
 at_end [] a (suc i) b e = absurd (some-ne-none b (sym e))
 at_end (x ∷ xs) a zero b e = inl e
 at_end (x ∷ xs) a (suc i) b e = ⊎_elim (λ h. inl h) (λ h. inr (ap suc h.0, h.1)) (at_end xs a i b e)
-
-take_end : (lines : List Line) (l : Line) → take (length lines) (lines ++ l ∷ []) ≡ lines
-take_end [] l = refl
-take_end (x ∷ lines) l = ap (λ (k : List Line). x ∷ k) (take_end lines l)
 
 -- one more place, whose entry has the log before it
 pub shows_more : (row : Shelves) (places : List (Where Entry)) (lines : List Line) (p : Where Entry) (l : Line) → ShowsEach row places lines → Shows row p → IsEntryOf lines l.session l.asked p.value →
@@ -71,7 +53,7 @@ shows_more row places lines p l h shows is = record {
   same = omega (arith, h.same, length-append places (p ∷ []), length-append lines (l ∷ []));
   each = λ i q m at_q at_m. ⊎_elim
       (λ (old : get_elem? places i ≡ some q).
-      let low = at_place places i q old in
+      let low = at_below places i q old in
       ⊎_elim
       (λ (was : get_elem? lines i ≡ some m).
       let o = h.each i q m old was in
@@ -81,12 +63,12 @@ shows_more row places lines p l h shows is = record {
       (λ (new : (i ≡ length places) × (p ≡ q)).
       let here : i ≡ length lines = new.0 ∙ h.same in
       ⊎_elim
-      (λ (was : get_elem? lines i ≡ some m). absurd (omega (arith, at_place lines i m was, here)))
+      (λ (was : get_elem? lines i ≡ some m). absurd (omega (arith, at_below lines i m was, here)))
       (λ (now : (i ≡ length lines) × (l ≡ m)). (
         subst (λ (r : Where Entry). Shows row r) new.1 shows,
         subst (λ (r : Where Entry). IsEntryOf (take i (lines ++ l ∷ [])) m.session m.asked r.value) new.1
             (subst (λ (x : Line). IsEntryOf (take i (lines ++ l ∷ [])) x.session x.asked p.value) now.1
-            (subst (λ (ls : List Line). IsEntryOf ls l.session l.asked p.value) (sym (ap (λ n. take n (lines ++ l ∷ [])) here ∙ take_end lines l)) is)),
+            (subst (λ (ls : List Line). IsEntryOf ls l.session l.asked p.value) (sym (ap (λ n. take n (lines ++ l ∷ [])) here ∙ take-append_seam lines (l ∷ []))) is)),
       ))
       (at_end lines l i m at_m))
       (at_end places p i q at_q);
@@ -97,20 +79,12 @@ get_at [] i d h = absurd (omega arith)
 get_at (x ∷ xs) zero d h = refl
 get_at (x ∷ xs) (suc i) d h = get_at xs i d (omega arith)
 
-take_next : (lines : List Line) (i : ℕ) (d : Line) → i < length lines → take (i + 1) lines ≡ take i lines ++ get_or lines i d ∷ []
-take_next lines i d low = ap (λ n. take n lines) (add-one i) ∙ by lines i low
-  where
-    by : (lines : List Line) (i : ℕ) → i < length lines → take (suc i) lines ≡ take i lines ++ get_or lines i d ∷ []
-    by [] i low = absurd (omega arith)
-    by (l ∷ lines) zero low = refl
-    by (l ∷ lines) (suc i) low = ap (λ (k : List Line). l ∷ k) (by lines i (omega arith))
-
 -- the token at a place of the log: the calls up to it are those before its entry, and one of its entry's session and asking
 pub at_log : (row : Shelves) (places : List (Where Entry)) (lines : List Line) (i : ℕ) (p : Where Entry) (d : Line) → ShowsEach row places lines → i < length places → p ≡ get_or places i p →
     (l : Line) × (Shows row p × IsEntryOf (take i lines) l.session l.asked p.value × (take (i + 1) lines ≡ take i lines ++ l ∷ []))
 at_log row places lines i p d h low is =
     let e = h.each i p (get_or lines i d) (get_at places i p low ∙ ap some (sym is)) (get_at lines i d (omega (arith, h.same))) in
-    (get_or lines i d, (e.0, e.1, take_next lines i d (omega (arith, h.same))))
+    (get_or lines i d, (e.0, e.1, take_more lines i d (omega (arith, h.same))))
 
 pub prefix_take : (n : ℕ) (events : List Event) → IsPrefix (take n events) events
 prefix_take n events = (drop n events, take-append-drop n events)
@@ -130,7 +104,7 @@ other_there places front count place mine long low is other q at same =
 -- the log has no place there
 pub none_there : (places : List (Where Entry)) (front : List Event) (count : ℕ) (place : Where Entry) → length front ≡ count → length places < count →
     (q : Where Entry) → get_elem? places (length front - 1) ≡ some q → ¬ (q.index ≡ place.index)
-none_there places front count place long high q at same = omega (arith, at_place places (length front - 1) q at, long, high)
+none_there places front count place long high q at same = omega (arith, at_below places (length front - 1) q at, long, high)
 
 pub some_story : (e : Entry) (answer : Answer) → 0 < length (story e answer)
 some_story e answer = omega (arith, length-append (lines_of e.before.value.items) (line e.session e.asked.value answer ∷ []))

@@ -1,9 +1,8 @@
 -- Entries that raise no value to the top change no verdict, and neither does a call after which the pages agree.
-use Rattle.std.proofs.Common.{◌≡◌, ◌⊎◌, ℕ, zero, suc, ◌+◌, ◌<◌, ◌≤◌, ◌==◌, nat_le, max, cond, Bool, true, false, ◌&&◌, ◌||◌, List, [], ◌∷◌, ◌++◌, length, map, take, drop, get_or, None, Some, refl, sym, ap, ◌∙◌, inl, inr, arith, ne_eqb, append-nil, length-append}
+use Rattle.std.proofs.Common.{◌≡◌, ◌⊎◌, ℕ, ◌+◌, ◌<◌, ◌≤◌, ◌==◌, nat_le, max, cond, Bool, true, false, ◌&&◌, ◌||◌, List, [], ◌∷◌, ◌++◌, length, map, take, drop, get_or, None, Some, refl, sym, ap, ◌∙◌, inl, inr, arith, ne_eqb, append-nil, length-append}
 use Rattle.std.specs.List.{list_any}
 use Rattle.std.proofs.Math.Seq.{drop-append_seam}
-use Rattle.std.proofs.Math.Bool.{or-true}
-use Rattle.std.proofs.lemmas.Bool.{cases_lt, false≢true, leb-false}
+use Rattle.std.proofs.lemmas.Bool.{cases_lt, false≢true, leb-false, or_parts}
 use Rattle.std.proofs.lemmas.List.{drop-map}
 use Rattle.std.proofs.lemmas.List.Folds.{list_any_more}
 use Rattle.vpg_diagram.specs.DiagramText.{NamedDiagram}
@@ -28,11 +27,6 @@ use Rattle.vpg_office.specs.declared.asked.SessionCall.TheVariants as ask
 
 -- ---- one of many
 
-pub any_found : {X : Type 0} (test : X → Bool) (xs : List X) (i : ℕ) (x : X) → i < length xs → x ≡ get_or xs i x → test x ≡ true → list_any test xs ≡ true
-any_found test [] i x less is passes = absurd (omega arith)
-any_found test (y ∷ ys) zero x less is passes = ap (λ (b : Bool). b || list_any test ys) (ap test (sym is) ∙ passes)
-any_found test (y ∷ ys) (suc i) x less is passes = ap (λ (b : Bool). test y || b) (any_found test ys i x (omega arith) is passes) ∙ or-true (test y)
-
 pub any_not_yet : {X : Type 0} (test : X → Bool) (xs : List X) (i : ℕ) (x : X) → i < length xs → x ≡ get_or xs i x → list_any test (take i xs) ≡ false → test x ≡ false → list_any test (take (i + 1) xs) ≡ false
 any_not_yet test xs i x less is none fails = list_any_more test xs i x less ∙ ap (λ (b : Bool). b || test (get_or xs i x)) none ∙ ap test (sym is) ∙ fails
 
@@ -42,30 +36,20 @@ any_map test (e ∷ entries) = ap (λ (b : Bool). test (entry_of e) || b) (any_m
 
 -- ---- values
 
-neither : (a b : Bool) → (a || b) ≡ false → (a ≡ false) × (b ≡ false)
-neither false b e = (refl, e)
-neither true b e = absurd (false≢true (sym e))
-
 picked : (family : Family) (which table : Which) (b : Bool) (new rest : ℕ) → new < family.top table → (rest ≡ 0) ⊎ (rest < family.top which) →
     (max (cond (same_table which table && b) new 0) rest ≡ 0) ⊎ (max (cond (same_table which table && b) new 0) rest < family.top which)
-picked family Hopeful Hopeful true new rest less (inl none) = inr (omega (arith, less, none))
-picked family Hopeful Hopeful true new rest less (inr few) = inr (omega (arith, less, few))
-picked family Hopeful Hopeful false new rest less (inl none) = inl (omega (arith, none))
-picked family Hopeful Hopeful false new rest less (inr few) = inr (omega (arith, few))
-picked family Hopeful Dual b new rest less (inl none) = inl (omega (arith, none))
-picked family Hopeful Dual b new rest less (inr few) = inr (omega (arith, few))
-picked family Dual Hopeful b new rest less (inl none) = inl (omega (arith, none))
-picked family Dual Hopeful b new rest less (inr few) = inr (omega (arith, few))
-picked family Dual Dual true new rest less (inl none) = inr (omega (arith, less, none))
-picked family Dual Dual true new rest less (inr few) = inr (omega (arith, less, few))
-picked family Dual Dual false new rest less (inl none) = inl (omega (arith, none))
-picked family Dual Dual false new rest less (inr few) = inr (omega (arith, few))
+picked family Hopeful Hopeful true new rest less few = grind arith
+picked family Hopeful Hopeful false new rest less few = grind arith
+picked family Dual Dual true new rest less few = grind arith
+picked family Dual Dual false new rest less few = grind arith
+picked family Hopeful Dual b new rest less few = grind arith
+picked family Dual Hopeful b new rest less few = grind arith
 
 below_top : (family : Family) (which : Which) (v : ℕ) (entries : List Entry) → list_any (raises_to_top family) entries ≡ false → (value_at which v entries ≡ 0) ⊎ (value_at which v entries < family.top which)
 below_top family which v [] quiet = inl refl
 below_top family which v (Decided d ∷ entries) quiet = below_top family which v entries quiet
 below_top family which v (Lifted l ∷ entries) quiet =
-    let both = neither (nat_le (family.top l.table) l.new) (list_any (raises_to_top family) entries) quiet in
+    let both = or_parts (nat_le (family.top l.table) l.new) (list_any (raises_to_top family) entries) quiet in
     picked family which l.table (v == l.vertex) l.new (value_at which v entries) (leb-false (family.top l.table) l.new both.0) (below_top family which v entries both.1)
 
 same_verdict : (x y top : ℕ) → (y ≡ 0) ⊎ (y < top) → (max x y == top) ≡ (x == top)
@@ -97,13 +81,8 @@ puts family book session (ask.Retract f) answer is = absurd (false≢true is)
 puts family book session ask.Reset answer is = absurd (false≢true is)
 puts family book session (ask.Undo s) answer is = absurd (false≢true is)
 puts family book session (ask.Redo s) answer is = absurd (false≢true is)
-puts family book session (ask.Keep s) answer is = ([], sym (append-nil book.present))
-puts family book session (ask.Forget s) answer is = ([], sym (append-nil book.present))
-puts family book session ask.Order answer is = ([], sym (append-nil book.present))
 puts family book session (ask.Commit harvest) answer is = (raises_of family (handed_in (is_ours answer) harvest.value) book.present, refl)
-puts family book session ask.Settled answer is = ([], sym (append-nil book.present))
-puts family book session (ask.Verdict v) answer is = ([], sym (append-nil book.present))
-puts family book session ask.Page answer is = ([], sym (append-nil book.present))
+puts family book session _ answer is = ([], sym (append-nil book.present))
 
 appended : (family : Family) (book : Book) (session : ℕ) (asked : SessionCall) (answer : Answer) (reply : Reply) → only_appends asked ≡ true → (tail : List Entry) × ((next family book session (call_of asked answer) reply).present ≡ book.present ++ tail)
 appended family book session asked answer reply is = go (is_refusal reply)

@@ -1,17 +1,18 @@
 -- The serials of tokens: each that was given is noted.
-use Rattle.std.proofs.Common.{◌≡◌, ◌≢◌, ◌⊎◌, ℕ, zero, suc, ◌+◌, ◌-◌, ◌<◌, ◌≤◌, max, Bool, false, true≢false, List, [], ◌∷◌, ◌++◌, length, take, slice_index, Option, Some, None, IfSome, refl, sym, ap, ◌∙◌, subst, arith, inl, inr, ne_eqb, length-append}
+use Rattle.std.proofs.Common.{◌≡◌, ◌≢◌, ◌⊎◌, ℕ, ◌+◌, ◌-◌, ◌<◌, ◌≤◌, max, Bool, false, true≢false, List, [], ◌∷◌, ◌++◌, length, take, slice_index, Option, Some, None, IfSome, refl, sym, ap, ◌∙◌, subst, arith, inl, inr, ne_eqb, length-append}
 use Rattle.std.specs.List.{list_any}
 use Rattle.std.specs.Prelude.{IsFalse}
 use Rattle.std.proofs.lemmas.Bool.{or_parts, or_from}
+use Rattle.std.proofs.lemmas.List.{length-take-le}
 use Rattle.vpg_trail.specs.Page.{Entry as Step}
-use Rattle.vpg_desk.specs.Book.{Family, Book, Kept, Call, Decide, Retract, Reset, Undo, Redo, Keep, Forget, Order, Commit, Settled, Verdict, Page, Reply, Changed, Undone as UndoneIs, Redone as RedoneIs, Answers, IsReply, Refuses, next, refuses_undo, refuses_redo, serials_of, undone, redone}
+use Rattle.vpg_desk.specs.Book.{Family, Book, Kept, Call, Decide, Retract, Reset, Undo, Redo, Settled, Reply, Changed, Undone as UndoneIs, Redone as RedoneIs, Answers, IsReply, Refuses, next, refuses_undo, refuses_redo, serials_of, undone, redone}
 use Rattle.vpg_desk.specs.History.{Event, IsBeforeLast}
 use Rattle.vpg_desk.proofs.Serials.{IsOrdered, Falls, Rises, newest_of, below_high, undo_newest, redo_nearest}
 use Rattle.vpg_desk.proofs.UndoRedo.{last_is_one}
 use Rattle.vpg_office.specs.Kept.{AreGiven, IsLastGiven, NoneIsLeftOut, gives, noted_after}
 use Rattle.vpg_office.specs.Story.{is_token, reply_of, token_of}
 use Rattle.vpg_office.specs.declared.asked.Answer.{Answer}
-use Rattle.vpg_office.specs.declared.asked.Answer.TheVariants.{Changed as ChangedTo, Undone, Redone, Spent, Ordered, Added, IsSettled, VerdictIs, PageIs, Refused}
+use Rattle.vpg_office.specs.declared.asked.Answer.TheVariants.{Spent}
 use Rattle.vpg_office.proofs.Given.{any-append}
 
 -- the serial of the token that a reply gives
@@ -22,16 +23,8 @@ serial_in (RedoneIs s) = Some s
 serial_in _ = None
 
 pub serial_is : (family : Family) (page : List Step) (a : Answer) → serial_in (reply_of family page a) ≡ token_of a
-serial_is family page (ChangedTo n) = refl
-serial_is family page (Undone n) = refl
-serial_is family page (Redone n) = refl
 serial_is family page Spent = refl
-serial_is family page Ordered = refl
-serial_is family page (Added n) = refl
-serial_is family page (IsSettled b) = refl
-serial_is family page (VerdictIs h u) = refl
-serial_is family page PageIs = refl
-serial_is family page (Refused c) = refl
+serial_is family page _ = refl
 
 newest_fits : (past future : List Kept) (high t : ℕ) → refuses_undo t (serials_of past) ≡ None → Falls past → Rises (newest_of past) future high → (1 ≤ t) × (t < high)
 newest_fits [] future high t e f r = absurd (cc e)
@@ -76,13 +69,8 @@ module _ (family : Family) (b : Book) (session : ℕ) (o : IsOrdered b) where
   answered (Redo t) reply refuses told =
       let h = nearest_fits (newest_of b.past) b.future (b.changes + 1) t (sym refuses) o.rises in
       subst (TokenFits (Redo t)) (sym told) ((h.0, omega (arith, h.1)), redone_changes b b.future ∙ max_low t b.changes (omega (arith, h.1)))
-  answered (Keep s) reply refuses told = subst (TokenFits (Keep s)) (sym told) (tt, refl)
-  answered (Forget s) reply refuses told = subst (TokenFits (Forget s)) (sym told) (tt, refl)
-  answered Order reply refuses told = subst (TokenFits Order) (sym told) (tt, refl)
-  answered (Commit h) reply refuses told = subst (TokenFits (Commit h)) (sym told) (tt, refl)
   answered Settled reply refuses told = subst (TokenFits Settled) (sym told.1.1) (tt, refl)
-  answered (Verdict v) reply refuses told = subst (TokenFits (Verdict v)) (sym told) (tt, refl)
-  answered Page reply refuses told = subst (TokenFits Page) (sym told) (tt, refl)
+  answered call reply refuses told = subst (TokenFits call) (sym told) (tt, refl)
 
   pub token_fits : (call : Call) (reply : Reply) → IsReply family b call reply → TokenFits call reply
   token_fits call reply (Some r, (refuses, told)) = subst (TokenFits call) (sym told) (tt, refl)
@@ -117,11 +105,6 @@ none_gives test before log b none = go before (subst (λ (l : List Event). list_
     go [] h = true≢false (sym b.passes ∙ (or_parts (test b.last.reply) (list_any (λ e. test e.reply) b.since) h).0)
     go (x ∷ xs) h = go xs (or_parts (test x.reply) (list_any (λ e. test e.reply) (xs ++ b.last ∷ b.since)) h).1
 
-take_length : (n : ℕ) (xs : List Event) → n ≤ length xs → length (take n xs) ≡ n
-take_length zero xs low = refl
-take_length (suc n) [] low = absurd (omega arith)
-take_length (suc n) (x ∷ xs) low = ap suc (take_length n xs (omega (arith, low)))
-
 pub never_noted : (log : List Event) (given : List ℕ) (serial : ℕ) (own : List Event) → NoneIsLeftOut log given → (serial ≡ 0) ⊎ (length given < serial) → ¬ (IsLastGiven log serial own)
 never_noted log given serial own none out = λ h. none_gives (gives serial) (take h.place log) log h.last (none serial out)
 
@@ -134,5 +117,5 @@ never_elsewhere log given serial own are some low other = λ h.
     let b = are (serial - 1) low in
     let same : take h.place log ≡ take (slice_index given (serial - 1)) log = last_is_one (gives serial) (take h.place log) (take (slice_index given (serial - 1)) log) log h.last (subst (λ n. IsBeforeLast (gives n) (take (slice_index given (serial - 1)) log) log) next b.0) in
     let long : h.place ≤ length log = omega (arith, h.at, ap length h.beginning.1, length-append own h.beginning.0) in
-    let at : h.place ≡ slice_index given (serial - 1) = sym (take_length h.place log long) ∙ ap length same ∙ take_length (slice_index given (serial - 1)) log (omega (arith, b.1)) in
+    let at : h.place ≡ slice_index given (serial - 1) = sym (length-take-le h.place log long) ∙ ap length same ∙ length-take-le (slice_index given (serial - 1)) log (omega (arith, b.1)) in
     other (omega (arith, at, h.at))

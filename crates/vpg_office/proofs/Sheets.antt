@@ -1,5 +1,6 @@
 -- What is published of an office's log.
 use Rattle.std.proofs.Common.{◌≡◌, ℕ, ◌<◌, Bool, List, [], ◌∷◌, ◌++◌, length, take, refl, sym, ap, ◌∙◌, subst, arith, ⊎_elim}
+use Rattle.std.proofs.Math.Seq.{take-append_seam}
 use Rattle.std.proofs.lemmas.List.{length-map}
 use mathlib.Core.Option.{some, some-ne-none}
 use lib.ListN.{get_elem?}
@@ -13,6 +14,7 @@ use Rattle.vpg_desk.specs.Desk.{family_of}
 use Rattle.vpg_desk.specs.History.{Event, book_after, page_after}
 use Rattle.vpg_desk.specs.Setting.{IsSetting}
 use Rattle.vpg_desk.specs.State.{DeskState, Replies, setting_between, setting_of}
+use Rattle.vpg_desk.proofs.Places.{at_below}
 use Rattle.vpg_desk.proofs.Whole.{reply_means}
 use Rattle.vpg_office.specs.Beginnings.{from_empty}
 use Rattle.vpg_office.specs.Fronts.{IsHistory, family_between}
@@ -20,8 +22,7 @@ use Rattle.vpg_office.specs.Locked.{IsLog}
 use Rattle.vpg_office.specs.Sheets.{AreSaid, EachMeans, IsSheetOf}
 use Rattle.vpg_office.specs.declared.chronicle.Chronicle.{Chronicle}
 use Rattle.vpg_office.proofs.Calling.{log_history}
-use Rattle.vpg_office.proofs.Given.{take_front}
-use Rattle.vpg_office.proofs.Places.{at_end, at_place}
+use Rattle.vpg_office.proofs.Places.{at_end}
 use Rattle.vpg_office.proofs.Stories.{history_take}
 
 pub prefix_none : (f g : List Event) → f ≡ [] → IsPrefix f g
@@ -30,7 +31,7 @@ prefix_none f g none = subst (λ (l : List Event). IsPrefix l g) (sym none) (fro
 -- a beginning of a history is one
 pub history_begins : (family : Family) (f log : List Event) → IsPrefix f log → IsHistory family log → IsHistory family f
 history_begins family f log p h =
-    subst (IsHistory family) (ap (take (length f)) (sym p.1) ∙ take_front f p.0) (history_take family (length f) log h)
+    subst (IsHistory family) (ap (take (length f)) (sym p.1) ∙ take-append_seam f p.0) (history_take family (length f) log h)
 
 pub shown_history : {row : Shelves} {game : NamedGame} {diagram : NamedDiagram} {limit : ℕ} {chronicle : Chronicle} {newest : List Event} {desk : DeskState} {room total left : ℕ} {shown : List Event} →
     IsLog row game diagram limit chronicle newest desk room total left shown → IsHistory (family_between game diagram) shown
@@ -42,7 +43,7 @@ shown_history {row} {game} {diagram} {limit} {chronicle} {newest} {desk} {room} 
 all_mean : (game : NamedGame) (diagram : NamedDiagram) (events : List Event) (verdicts : List Said) → IsSetting (setting_between game diagram) → IsHistory (family_between game diagram) events → length verdicts ≡ length game.vertices →
     AreSaid (family_between game diagram) (book_after (family_between game diagram) opened events) verdicts → EachMeans (setting_between game diagram) (page_after (family_between game diagram) events) verdicts
 all_mean game diagram events verdicts is_setting history size each v said at =
-    let inside : v < length (graph_of game) = omega (arith, at_place verdicts v said at, size, length-map game.vertices unnamed) in
+    let inside : v < length (graph_of game) = omega (arith, at_below verdicts v said at, size, length-map game.vertices unnamed) in
     reply_means (setting_between game diagram) events is_setting history.legal history.lawful v inside said.hopeless said.sure (each v said at)
 
 pub sheet_is : (game : NamedGame) (diagram : NamedDiagram) (state : DeskState) (events : List Event) (settled : Bool) (verdicts : List Said) → IsSetting (setting_between game diagram) → state.game ≡ game → state.diagram ≡ diagram →

@@ -1,4 +1,3 @@
-use Rattle.std.proofs.Common.{refl}
 use Rattle.std.specs.Arc.{arc_value}
 use Rattle.vpg_formula.specs.EntryCode.{earlier_of}
 use Rattle.vpg_models.specs.Forms.{form_of}
@@ -9,8 +8,8 @@ use Rattle.vpg_family.proofs.known.read_known.Goals as goal
 pub returns-in-Ok-read-clause-model : goal.returns-in-Ok-read-clause-model
 returns-in-Ok-read-clause-model g c =
     let texts = c.in-Ok.texts in
-    family_of_paths c.args.paths.game texts.diagram.items texts.game.items texts.diagram.items texts.game.items (earlier_of texts.entries.items) texts.vertices.items
-    (arc_value c.in-Ok-read.known.family.diagram) (arc_value c.in-Ok-read.known.family.game) refl refl c.in-Ok-read.ensures.only c.in-Ok.ensures.model
+    family_of_paths c.args.paths.game texts.diagram.items texts.game.items (earlier_of texts.entries.items) texts.vertices.items
+    (arc_value c.in-Ok-read.known.family.diagram) (arc_value c.in-Ok-read.known.family.game) c.in-Ok-read.ensures.only c.in-Ok.ensures.model
 
 pub returns-in-Ok-read-clause-made : goal.returns-in-Ok-read-clause-made
 returns-in-Ok-read-clause-made g c =

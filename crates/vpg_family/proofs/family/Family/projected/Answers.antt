@@ -1,4 +1,4 @@
-use Rattle.std.proofs.Common.{◌≡◌, ℕ, List, ◌++◌, Bool, Err, sym, ap, subst, ◌∙◌, arith}
+use Rattle.std.proofs.Common.{◌≡◌, ℕ, List, ◌++◌, Bool, Err, sym, ap, subst, ◌∙◌}
 use Rattle.std.specs.Arc.{arc_value}
 use Rattle.std.proofs.lemmas.Result.{err_from_is_err_and}
 use Rattle.vpg_diagram.specs.DiagramText.{NamedDiagram}
@@ -7,7 +7,6 @@ use Rattle.vpg_game.specs.Game.{NamedGame}
 use Rattle.vpg_hope.specs.Plain.{projection, plain_text}
 use Rattle.vpg_family.specs.Families.{IsNamedSet, TellsUnknown}
 use Rattle.vpg_family.proofs.Naming.{texts, unknown_product, no_product, projected}
-use Rattle.std.proofs.lemmas.Grind.{common_steps}
 use Rattle.vpg_family.proofs.family.Family.projected.Goals as goal
 use Rattle.vpg_family.proofs.family.Family.projected.Goals.{After-names, After-features_named}
 
@@ -39,6 +38,3 @@ returns-in-Err-NotAProduct-clause-refused c =
     (λ product. c.in-Err-NotAProduct.ensures.refused.0 (ap (λ f. Err f) c.in-Err-NotAProduct.field-0-is)
     (subst (λ (d : NamedDiagram). IsProduct d.lines c.deref-4.result.now) (sym c.deref-3.ensures)
     (subst (λ (s : List Bool). IsProduct (arc_value c.args.self.diagram).lines s) (sym c.deref-4.ensures.value) product)))
-
-pub project-requires-clause-set : goal.project-requires-clause-set
-project-requires-clause-set c = grind (arith, common_steps)

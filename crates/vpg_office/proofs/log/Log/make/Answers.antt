@@ -4,6 +4,7 @@ use Rattle.vpg_trail.specs.Shown.{entry_of}
 use Rattle.vpg_desk.specs.Book as book
 use Rattle.vpg_desk.specs.Book.{Book, opened, IsReply}
 use Rattle.vpg_desk.specs.History.{book_after}
+use Rattle.vpg_faults.specs.declared.refusal.Refusal.{Refusal}
 use Rattle.vpg_faults.specs.Refusals.{told_by}
 use Rattle.vpg_desk.specs.Lawful.{HandsIn, IsLawful}
 use Rattle.vpg_desk.specs.Desk.{family_of}
@@ -18,32 +19,22 @@ use Rattle.vpg_office.proofs.Calling.{admitted, few_tokens, log_history, log_mad
 use Rattle.vpg_office.proofs.Quiet.{made_leads, no_shorter}
 use Rattle.vpg_office.proofs.log.Log.make.Goals as goal
 
-pub admit-requires-clause-row : goal.admit-requires-clause-row
-admit-requires-clause-row g c = c.requires.row
+pub admit-requires : goal.admit-requires
+admit-requires g c = record {
+  row = c.requires.row;
+  kept = c.self.invariant.replay.kept;
+  seen = seen_here c.self.invariant c.args.front.now c.self.view_is c.requires.seen;
+  limit = c.self.invariant.replay.most;
+}
 
-pub admit-requires-clause-kept : goal.admit-requires-clause-kept
-admit-requires-clause-kept g c = c.self.invariant.replay.kept
-
-pub admit-requires-clause-seen : goal.admit-requires-clause-seen
-admit-requires-clause-seen g c = seen_here c.self.invariant c.args.front.now c.self.view_is c.requires.seen
-
-pub admit-requires-clause-limit : goal.admit-requires-clause-limit
-admit-requires-clause-limit g c = c.self.invariant.replay.most
-
-pub carry_out-requires-clause-of : goal.carry_out-requires-clause-of
-carry_out-requires-clause-of g c = ((λ k. (c.replay.view_is k).game) ∙ c.self.invariant.replay.of_game, (λ k. (c.replay.view_is k).diagram) ∙ c.self.invariant.replay.of_diagram)
-
-pub carry_out-requires-clause-opens : goal.carry_out-requires-clause-opens
-carry_out-requires-clause-opens g c = c.self.invariant.replay.kept.is_story.opens
-
-pub carry_out-requires-clause-counted : goal.carry_out-requires-clause-counted
-carry_out-requires-clause-counted g c = c.self.invariant.counted ∙ (λ k. ((sym c.replay.view_is) k).book.tokens)
-
-pub carry_out-requires-clause-few : goal.carry_out-requires-clause-few
-carry_out-requires-clause-few g c = few_tokens c.self.invariant
-
-pub carry_out-requires-clause-takes : goal.carry_out-requires-clause-takes
-carry_out-requires-clause-takes g c = c.requires.takes
+pub carry_out-requires : goal.carry_out-requires
+carry_out-requires g c = record {
+  of = ((λ k. (c.replay.view_is k).game) ∙ c.self.invariant.replay.of_game, (λ k. (c.replay.view_is k).diagram) ∙ c.self.invariant.replay.of_diagram);
+  opens = c.self.invariant.replay.kept.is_story.opens;
+  counted = c.self.invariant.counted ∙ (λ k. ((sym c.replay.view_is) k).book.tokens);
+  few = few_tokens c.self.invariant;
+  takes = c.requires.takes;
+}
 
 pub follow-requires : goal.follow-requires
 follow-requires g c appends =
@@ -60,51 +51,21 @@ invariant_of-replay g c =
     let made = coe 0 1 (k. IsMade g.L.Terms.game g.L.Terms.diagram c.replay.inside.desk c.args.session ((sym c.requires.asked) k) c.in-Ok-carry_out.done.answer c.carry_out.new.desk) c.in-Ok-carry_out.ensures.made in
     c.follow.ensures g.L.Terms.game g.L.Terms.diagram c.replay.inside.desk c.args.session made (ap length (sym c.entries-before.ensures) ∙ length-map c.entries-before.result.now entry_of) c.replay.invariant
 
-pub enter-requires-clause-kept : goal.enter-requires-clause-kept
-enter-requires-clause-kept g c = c.admit.ensures.kept
-
-pub enter-requires-clause-room : goal.enter-requires-clause-room
-enter-requires-clause-room g c = c.in-Ok.ensures.room
-
-pub enter-requires-clause-place : goal.enter-requires-clause-place
-enter-requires-clause-place g c = c.in-Ok.ensures.place
-
-pub enter-requires-clause-fits : goal.enter-requires-clause-fits
-enter-requires-clause-fits g c = c.in-Ok.ensures.fits
-
-pub enter-requires-clause-few : goal.enter-requires-clause-few
-enter-requires-clause-few g c = omega (arith, c.in-Ok.ensures.fits, c.self.invariant.replay.most, c.self.invariant.replay.few)
-
-pub refuse-fault-requires-clause-kept : goal.refuse-fault-requires-clause-kept
-refuse-fault-requires-clause-kept g c = c.admit.ensures.kept
-
-pub refuse-fault-requires-clause-room : goal.refuse-fault-requires-clause-room
-refuse-fault-requires-clause-room g c = c.in-Ok.ensures.room
-
-pub refuse-fault-requires-clause-place : goal.refuse-fault-requires-clause-place
-refuse-fault-requires-clause-place g c = c.in-Ok.ensures.place
-
-pub refuse-fault-requires-clause-fits : goal.refuse-fault-requires-clause-fits
-refuse-fault-requires-clause-fits g c = c.in-Ok.ensures.fits
-
-pub refuse-fault-requires-clause-few : goal.refuse-fault-requires-clause-few
-refuse-fault-requires-clause-few g c = omega (arith, c.in-Ok.ensures.fits, c.self.invariant.replay.most, c.self.invariant.replay.few)
-
-pub enter-requires-clause-reply : goal.enter-requires-clause-reply
-enter-requires-clause-reply g c =
+pub enter-requires : goal.enter-requires
+enter-requires g c =
     let i = admitted c.self.invariant c.admit.ensures.newest c.admit.ensures.limit c.admit.ensures.left c.admit.ensures.kept in
     let made = coe 0 1 (k. IsMade g.L.Terms.game g.L.Terms.diagram (c.replay.view_is k) c.args.session ((sym c.requires.asked) k) c.in-Ok-carry_out.done.answer c.carry_out.new.desk) c.in-Ok-carry_out.ensures.made in
-    reply_here i c.args.asked c.in-Ok-carry_out.done.answer made.step.step.0
-
-pub enter-requires-clause-hands : goal.enter-requires-clause-hands
-enter-requires-clause-hands g c =
-    let made = coe 0 1 (k. IsMade g.L.Terms.game g.L.Terms.diagram (c.replay.view_is k) c.args.session ((sym c.requires.asked) k) c.in-Ok-carry_out.done.answer c.carry_out.new.desk) c.in-Ok-carry_out.ensures.made in
-    made.hands
-
-pub enter-requires-clause-named : goal.enter-requires-clause-named
-enter-requires-clause-named g c =
-    let made = coe 0 1 (k. IsMade g.L.Terms.game g.L.Terms.diagram (c.replay.view_is k) c.args.session ((sym c.requires.asked) k) c.in-Ok-carry_out.done.answer c.carry_out.new.desk) c.in-Ok-carry_out.ensures.made in
-    made.named
+    record {
+      kept = c.admit.ensures.kept;
+      room = c.in-Ok.ensures.room;
+      place = c.in-Ok.ensures.place;
+      fits = c.in-Ok.ensures.fits;
+      few = omega (arith, c.in-Ok.ensures.fits, c.self.invariant.replay.most, c.self.invariant.replay.few);
+      reply = reply_here i c.args.asked c.in-Ok-carry_out.done.answer made.step.step.0;
+      hands = made.hands;
+      named = made.named;
+      left = more_left c.self.invariant c.admit.ensures.newest c.admit.ensures.left c.in-Ok.ensures.fits;
+    }
 
 pub invariant_of-self-in-Ok-carry_out : goal.invariant_of-self-in-Ok-carry_out
 invariant_of-self-in-Ok-carry_out g c =
@@ -126,22 +87,8 @@ at-requires g c =
       gave = subst (λ (b : Book). g.C.Made.AtFront.Fits c.in-Ok-carry_out.done.given (reply_of F b.present answer)) now c.in-Ok-carry_out.ensures.fits;
     }
 
-pub returns-in-Ok-carry_out-clause-done : goal.returns-in-Ok-carry_out-clause-done
-returns-in-Ok-carry_out-clause-done g c =
-    let F = family_between g.L.Terms.game g.L.Terms.diagram in
-    let log = c.admit.ensures.newest ∙ c.self.view_is in
-    let answer = c.in-Ok-carry_out.done.answer in
-    let now : c.replay.inside.desk.book ≡ book_after F opened c.admit.new.self.newest = (λ k. (c.replay.view_is k).book) ∙ c.self.invariant.replay.book ∙ ap (book_after F opened) (sym c.admit.ensures.newest) in
-    let call_is = ap (λ (a : SessionCall). call_of a answer) c.requires.asked ∙ c.in-Ok-carry_out.ensures.means in
-    let reply_is = ap (λ (b : Book). reply_of F b.present answer) (sym now) ∙ c.in-Ok-carry_out.ensures.replies c.enter.new.front ∙ (λ k. g.C.Call.replies ((sym c.at.ensures) k)) in
-    record {
-      is = c.enter.ensures.front ∙ c.enter.ensures.newest ∙ (λ k. log k ++ event c.args.session (call_is k) (reply_is k) ∷ []);
-      none = coe 0 1 (k. calls_by c.args.session (drop (length c.args.front.now) (log k)) ≡ 0) c.in-Ok.ensures.none;
-      history = c.enter.ensures.history;
-    }
-
-pub returns-in-Ok-carry_out-clause-gives : goal.returns-in-Ok-carry_out-clause-gives
-returns-in-Ok-carry_out-clause-gives g c =
+pub returns-in-Ok-carry_out : goal.returns-in-Ok-carry_out
+returns-in-Ok-carry_out g c =
     let F = family_between g.L.Terms.game g.L.Terms.diagram in
     let log = c.admit.ensures.newest ∙ c.self.view_is in
     let answer = c.in-Ok-carry_out.done.answer in
@@ -149,15 +96,27 @@ returns-in-Ok-carry_out-clause-gives g c =
     let now : c.replay.inside.desk.book ≡ book_after F opened c.admit.new.self.newest = (λ k. (c.replay.view_is k).book) ∙ c.self.invariant.replay.book ∙ ap (book_after F opened) (sym c.admit.ensures.newest) in
     let call_is = ap (λ (a : SessionCall). call_of a answer) c.requires.asked ∙ c.in-Ok-carry_out.ensures.means in
     let reply_is = ap (λ (b : Book). reply_of F b.present answer) (sym now) ∙ c.in-Ok-carry_out.ensures.replies front in
-    coe 0 1 (k. g.C.Call.Gives c.args.call front ((sym c.at.ensures) k))
-    (c.in-Ok-carry_out.ensures.gives front (record {
-      log = c.args.self.now;
-      has = c.requires.own;
-      leaves = (λ k. (c.replay.view_is k).book) ∙ c.self.invariant.replay.book ∙ ap (book_after F opened) c.self.view_is;
-      session = c.args.session;
-      is = c.enter.ensures.front ∙ c.enter.ensures.newest ∙ (λ k. log k ++ event c.args.session (call_is k) (reply_is k) ∷ []);
-      history = c.enter.ensures.history;
-    }))
+    let is = c.enter.ensures.front ∙ c.enter.ensures.newest ∙ (λ k. log k ++ event c.args.session (call_is k) (reply_is k) ∷ []) in
+    record {
+      done = record {
+        is = is ∙ (λ k. c.args.self.now ++ event c.args.session (g.C.Call.means c.args.call) (g.C.Call.replies ((sym c.at.ensures) k)) ∷ []);
+        none = coe 0 1 (k. calls_by c.args.session (drop (length c.args.front.now) (log k)) ≡ 0) c.in-Ok.ensures.none;
+        history = c.enter.ensures.history;
+      };
+      gives = coe 0 1 (k. g.C.Call.Gives c.args.call front ((sym c.at.ensures) k))
+          (c.in-Ok-carry_out.ensures.gives front (record {
+            log = c.args.self.now;
+            has = c.requires.own;
+            leaves = (λ k. (c.replay.view_is k).book) ∙ c.self.invariant.replay.book ∙ ap (book_after F opened) c.self.view_is;
+            session = c.args.session;
+            is = is;
+            history = c.enter.ensures.history;
+          }));
+      leaves = tt;
+      back = tt;
+      counted = c.enter.ensures.made;
+      fault_counted = tt;
+    }
 
 pub returns-in-Err-clause-leaves : goal.returns-in-Err-clause-leaves
 returns-in-Err-clause-leaves g c =
@@ -166,26 +125,25 @@ returns-in-Err-clause-leaves g c =
     coe 0 1 (k. Leaves g.L.Terms.game g.L.Terms.diagram g.L.Terms.limit g.C.Refused.Refuses.refusal_of (log k) c.args.front.now c.args.session (c.requires.asked k) c.args.front.now c.in-Err.fault)
     (stops_leave g.L.Terms.game g.L.Terms.diagram g.L.Terms.limit g.C.Refused.Refuses.refusal_of c.admit.new.self.newest c.args.front.now c.args.session c.args.asked c.in-Err.fault (log_history i) c.in-Err.ensures.err)
 
-pub refuse-fault-requires-clause-reply : goal.refuse-fault-requires-clause-reply
-refuse-fault-requires-clause-reply g c =
-    let i = admitted c.self.invariant c.admit.ensures.newest c.admit.ensures.limit c.admit.ensures.left c.admit.ensures.kept in
-    let refused = coe 0 1 (k. IfSome (told_by g.C.Refused.Refuses.refusal_of c.in-Err-carry_out.back.fault) (IsRefused g.L.Terms.game g.L.Terms.diagram (c.replay.view_is k) ((sym c.requires.asked) k))) c.in-Err-carry_out.ensures.refused in
+pub refuse-fault-requires : goal.refuse-fault-requires
+refuse-fault-requires g c =
     let F = family_between g.L.Terms.game g.L.Terms.diagram in
-    then_some (told_by g.C.Refused.Refuses.refusal_of c.in-Err-carry_out.back.fault) (IsRefused g.L.Terms.game g.L.Terms.diagram c.self.inside.desk c.args.asked)
-    (λ r. IsReply F (book_after F opened c.admit.new.self.newest) (call_of c.args.asked (Refused r)) (book.Refused r))
-    (λ r is. told_here i (call_of c.args.asked (Refused r)) (book.Refused r) is.told) refused
-
-pub refuse-fault-requires-clause-hands : goal.refuse-fault-requires-clause-hands
-refuse-fault-requires-clause-hands g c =
-    let refused = coe 0 1 (k. IfSome (told_by g.C.Refused.Refuses.refusal_of c.in-Err-carry_out.back.fault) (IsRefused g.L.Terms.game g.L.Terms.diagram (c.replay.view_is k) ((sym c.requires.asked) k))) c.in-Err-carry_out.ensures.refused in
-    then_some (told_by g.C.Refused.Refuses.refusal_of c.in-Err-carry_out.back.fault) (IsRefused g.L.Terms.game g.L.Terms.diagram c.self.inside.desk c.args.asked)
-    (λ r. HandsIn (IsLawful (family_between g.L.Terms.game g.L.Terms.diagram)) (call_of c.args.asked (Refused r))) (λ r is. is.hands) refused
-
-pub refuse-fault-requires-clause-named : goal.refuse-fault-requires-clause-named
-refuse-fault-requires-clause-named g c =
-    let refused = coe 0 1 (k. IfSome (told_by g.C.Refused.Refuses.refusal_of c.in-Err-carry_out.back.fault) (IsRefused g.L.Terms.game g.L.Terms.diagram (c.replay.view_is k) ((sym c.requires.asked) k))) c.in-Err-carry_out.ensures.refused in
-    then_some (told_by g.C.Refused.Refuses.refusal_of c.in-Err-carry_out.back.fault) (IsRefused g.L.Terms.game g.L.Terms.diagram c.self.inside.desk c.args.asked)
-    (λ r. IsNamed g.L.Terms.game g.L.Terms.diagram c.args.asked (Refused r)) (λ r is. is.named) refused
+    let why = told_by g.C.Refused.Refuses.refusal_of c.in-Err-carry_out.back.fault in
+    let i = admitted c.self.invariant c.admit.ensures.newest c.admit.ensures.limit c.admit.ensures.left c.admit.ensures.kept in
+    let Refused_here = λ (r : Refusal). IsRefused g.L.Terms.game g.L.Terms.diagram c.self.inside.desk c.args.asked r in
+    let refused = coe 0 1 (k. IfSome why (IsRefused g.L.Terms.game g.L.Terms.diagram (c.replay.view_is k) ((sym c.requires.asked) k))) c.in-Err-carry_out.ensures.refused in
+    record {
+      kept = c.admit.ensures.kept;
+      room = c.in-Ok.ensures.room;
+      place = c.in-Ok.ensures.place;
+      fits = c.in-Ok.ensures.fits;
+      few = omega (arith, c.in-Ok.ensures.fits, c.self.invariant.replay.most, c.self.invariant.replay.few);
+      reply = then_some why Refused_here (λ r. IsReply F (book_after F opened c.admit.new.self.newest) (call_of c.args.asked (Refused r)) (book.Refused r))
+          (λ r is. told_here i (call_of c.args.asked (Refused r)) (book.Refused r) is.told) refused;
+      hands = then_some why Refused_here (λ r. HandsIn (IsLawful F) (call_of c.args.asked (Refused r))) (λ r is. is.hands) refused;
+      named = then_some why Refused_here (λ r. IsNamed g.L.Terms.game g.L.Terms.diagram c.args.asked (Refused r)) (λ r is. is.named) refused;
+      left = more_left c.self.invariant c.admit.ensures.newest c.admit.ensures.left c.in-Ok.ensures.fits;
+    }
 
 pub invariant_of-self-in-Err-carry_out : goal.invariant_of-self-in-Err-carry_out
 invariant_of-self-in-Err-carry_out g c =
@@ -207,9 +165,3 @@ returns-clause-back g c = c.in-Err-carry_out.ensures.back
 
 pub invariant_of-self : goal.invariant_of-self
 invariant_of-self g c = admitted c.self.invariant c.admit.ensures.newest c.admit.ensures.limit c.admit.ensures.left c.admit.ensures.kept
-
-pub enter-requires-clause-left : goal.enter-requires-clause-left
-enter-requires-clause-left g c = more_left c.self.invariant c.admit.ensures.newest c.admit.ensures.left c.in-Ok.ensures.fits
-
-pub refuse-fault-requires-clause-left : goal.refuse-fault-requires-clause-left
-refuse-fault-requires-clause-left g c = more_left c.self.invariant c.admit.ensures.newest c.admit.ensures.left c.in-Ok.ensures.fits
