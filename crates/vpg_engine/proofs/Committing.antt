@@ -8,13 +8,12 @@ use Rattle.vpg_partial.specs.Known.{literal_of}
 use Rattle.vpg_partial.specs.TableLaws.{AreChoicesOf}
 use Rattle.vpg_measure.specs.Orders.{OrderView, HarvestView, IsOrder}
 use Rattle.vpg_trail.specs.Page.{Literal, stands, choices_of}
-use Rattle.vpg_desk.specs.Book.{Harvest, Commit, Added, Refused, first_missing, outdated_at, refuses_commit}
+use Rattle.vpg_desk.specs.Book.{Harvest, Commit, Added, Refused, first_missing, outdated_at}
 use Rattle.vpg_faults.specs.declared.refusal.Refusal.{Refusal}
 use Rattle.vpg_faults.specs.declared.refusal.Refusal.TheVariants.{Outdated}
 use Rattle.vpg_desk.specs.Commit.{handed_in}
 use Rattle.vpg_faults.specs.Refusals.{commit_refusal}
 use Rattle.vpg_faults.specs.declared.fault.CommitFault.{CommitFault}
-use Rattle.vpg_faults.specs.declared.fault.CommitFault.TheVariants as commits
 use Rattle.vpg_desk.specs.State.{DeskState, Replies}
 use Rattle.vpg_script.specs.Answer.{IsGiven, done, refused}
 use Rattle.vpg_script.specs.declared.tone.Tone.{Tone}
@@ -29,7 +28,6 @@ use Rattle.vpg_engine.specs.Held.{harvest_kept, without_harvest}
 use Rattle.vpg_engine.specs.Answers.{NoHarvest, own_text, first_call, room, call_or, numbered}
 use Rattle.vpg_engine.specs.Engine.{EngineState, scene_at, IsFaultWithin, TellsFault, AnswersTo}
 use Rattle.vpg_engine.specs.EngineFields.{IsOwnHarvest, AreOwnHarvests, harvests_of}
-use Rattle.vpg_settle.specs.Sweeping.{IsOfPage}
 use Rattle.vpg_engine.proofs.Asked.{unasked, asked, unanswered}
 use Rattle.vpg_engine.proofs.KeptHarvests.{kept_seen, put_back}
 
@@ -57,7 +55,7 @@ module _ (old : EngineState) (session number : ℕ) (harvests : List (Option Har
         UnlessStray fault (new.held ≡ old.held) → names ≡ new.client.desk.diagram.names → TellsFault names commit_refusal fault tone before after →
         AnswersTo old (record { label = session; command = script.Commit number }) tone before after new
     commit_refused fault names tells held names_are told =
-        unanswered limit limit_is session commit_refusal old new (script.Commit number) (Commit (handed_in true harvest)) fault names before after commit_first tells held names_are told
+        unanswered limit limit_is session [] commit_refusal old new (script.Commit number) (Commit (handed_in true harvest)) fault names before after commit_first tells held names_are told
 
 -- ---- the feature that an outdated harvest names
 
@@ -73,37 +71,25 @@ named_outdated : (found : Option ℕ) (f : ℕ) → outdated_at found ≡ Some (
 named_outdated None f is = absurd (cc is)
 named_outdated (Some g) f is = cc is
 
-pub outdated_named : (desk : DeskState) (harvest : HarvestView) (f : ℕ) (b : Bool) → AreChoicesOf desk.diagram.lines (map literal_of harvest.order.decisions) →
-    Replies desk (Commit (handed_in b harvest)) (Refused (Outdated f)) → f < feature_count desk.diagram.lines
-outdated_named desk harvest f b named (None, (refuses, told)) = absurd (cc told)
-outdated_named desk harvest f b named (Some r, (refuses, told)) = go b (sym refuses ∙ sym (cc told))
-  where
-    go : (t : Bool) → refuses_commit desk.book (handed_in t harvest) ≡ Some (Outdated f) → f < feature_count desk.diagram.lines
-    go true is = missing_named desk.diagram.lines (choices_of desk.book.present) (map literal_of harvest.order.decisions) f named
-        (named_outdated (first_missing (choices_of desk.book.present) (map literal_of harvest.order.decisions)) f is)
-    go false is = absurd (cc is)
-
--- what the client tells of an outdated harvest
-pub outdated_within : (limit : ℕ) (old new : ClientState) (session : ℕ) (harvest : HarvestView) (f : ℕ) (fault : ClientFault CommitFault) → AreChoicesOf old.desk.diagram.lines (map literal_of harvest.order.decisions) →
-    Tells limit commit_refusal old session (Commit (handed_in true harvest)) new fault → fault ≡ faults.Refused (commits.Outdated f) → f < feature_count old.desk.diagram.lines
-outdated_within limit old new session harvest f fault named tells is = go (subst (λ (x : ClientFault CommitFault). Tells limit commit_refusal old session (Commit (handed_in true harvest)) new x) is tells)
-  where
-    go : Tells limit commit_refusal old session (Commit (handed_in true harvest)) new (faults.Refused (commits.Outdated f)) → f < feature_count old.desk.diagram.lines
-    go (r, (same, logged)) =
-        outdated_named old.desk harvest f true named (subst (λ (x : Refusal). Replies old.desk (Commit (handed_in true harvest)) (Refused x)) (refusal_is r same) logged.step.step.0)
-      where
-        refusal_is : (r : Refusal) → Some (Outdated f) ≡ Some r → r ≡ Outdated f
-        refusal_is r e = sym (cc e)
+outdated_named : (desk : DeskState) (harvest : HarvestView) (f : ℕ) → AreChoicesOf desk.diagram.lines (map literal_of harvest.order.decisions) → Replies desk (Commit (handed_in true harvest)) (Refused (Outdated f)) → f < feature_count desk.diagram.lines
+outdated_named desk harvest f named (None, (refuses, told)) = absurd (cc told)
+outdated_named desk harvest f named (Some r, (refuses, told)) =
+    let missing = first_missing (choices_of desk.book.present) (map literal_of harvest.order.decisions) in
+    let is : outdated_at missing ≡ Some (Outdated f) = sym refuses ∙ sym (cc told) in
+    missing_named desk.diagram.lines (choices_of desk.book.present) (map literal_of harvest.order.decisions) f named (named_outdated missing f is)
 
 -- the features that the client's faults name
-pub committed_within : (limit : ℕ) (old new : ClientState) (session : ℕ) (harvest : HarvestView) (fault : ClientFault CommitFault) → AreChoicesOf old.desk.diagram.lines (map literal_of harvest.order.decisions) →
-    Tells limit commit_refusal old session (Commit (handed_in true harvest)) new fault → IsFaultWithin (feature_count old.desk.diagram.lines) commit_refusal fault
-committed_within limit old new session harvest LogFull named tells = tt
-committed_within limit old new session harvest (Refuses IsOther) named tells = tt
-committed_within limit old new session harvest (Refuses (IsOutdated f)) named tells = outdated_within limit old new session harvest f (Refuses (IsOutdated f)) named tells refl
-committed_within limit old new session harvest (Refuses NoRoom) named tells = tt
-committed_within limit old new session harvest Stray named tells = tt
-committed_within limit old new session harvest Memory named tells = tt
+pub committed_within : (limit : ℕ) (old new : ClientState) (session : ℕ) (harvest : HarvestView) (fault : ClientFault CommitFault) → IsOwnHarvest old.desk.game old.desk.diagram harvest →
+    Tells limit commit_refusal old session (Commit (handed_in true harvest)) new fault → IsFaultWithin (length old.desk.diagram.names) commit_refusal fault
+committed_within limit old new session harvest LogFull own tells = tt
+committed_within limit old new session harvest (Refuses IsOther) own tells = tt
+committed_within limit old new session harvest (Refuses (IsOutdated f)) own tells =
+    let is : tells.0 ≡ Outdated f = cc tells.1.0 in
+    subst (λ (n : ℕ). f < n) (sym own.each_named)
+    (outdated_named old.desk harvest f own.named (subst (λ (r : Refusal). Replies old.desk (Commit (handed_in true harvest)) (Refused r)) is tells.1.1.step.step.0))
+committed_within limit old new session harvest (Refuses NoRoom) own tells = tt
+committed_within limit old new session harvest Stray own tells = tt
+committed_within limit old new session harvest Memory own tells = tt
 
 -- ---- the kept harvests are the engine's own
 
@@ -151,12 +137,12 @@ own_returned game diagram harvests number harvest fault value taken new own kept
     go faults.Stray strayed same = subst (λ (hs : List (Option HarvestView)). AreOwnHarvests game diagram hs) (sym (strayed refl ∙ gone)) (own_gone game diagram harvests (number - 1) own)
     go faults.Memory strayed same = subst (λ (hs : List (Option HarvestView)). AreOwnHarvests game diagram hs) (sym same) own
 
-pub own_of_order : (game : NamedGame) (diagram : NamedDiagram) (order : OrderView) (harvest : HarvestView) → order.game ≡ game → order.diagram ≡ diagram → IsOrder order → IsOfPage harvest.order order →
-    IsOwnHarvest game diagram harvest
-own_of_order game diagram order harvest game_is diagram_is is_order page = record {
-  game = page.game ∙ game_is;
-  diagram = page.diagram ∙ diagram_is;
-  named = coe 0 1 (i. AreChoicesOf (diagram_is i).lines (map literal_of (sym page.decisions i))) is_order.named;
+pub own_of_order : (game : NamedGame) (diagram : NamedDiagram) (order : OrderView) (harvest : HarvestView) → order.game ≡ game → order.diagram ≡ diagram → IsOrder order → harvest.order.game ≡ order.game → harvest.order.diagram ≡ order.diagram →
+    harvest.order.decisions ≡ order.decisions → IsOwnHarvest game diagram harvest
+own_of_order game diagram order harvest game_is diagram_is is_order same_game same_diagram same_decisions = record {
+  game = same_game ∙ game_is;
+  diagram = same_diagram ∙ diagram_is;
+  named = coe 0 1 (i. AreChoicesOf (diagram_is i).lines (map literal_of (sym same_decisions i))) is_order.named;
   each_named = subst (λ (d : NamedDiagram). length d.names ≡ feature_count d.lines) diagram_is is_order.diagram.each_named;
 }
 

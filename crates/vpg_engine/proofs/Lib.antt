@@ -10,8 +10,6 @@ pub mod Places
 pub mod Exchanging
 pub mod LiftedOnce
 pub mod Committing
-pub mod Enduring
-pub mod Named
 pub mod Settling
 pub mod Strays
 pub mod Within

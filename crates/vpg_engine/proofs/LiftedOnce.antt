@@ -1,6 +1,6 @@
 -- A harvest that one lift made, as the book sees it.
-use Rattle.std.proofs.Common.{◌≡◌, ℕ, ◌<◌, true, List, Some, length, refl, sym, ap, ◌∙◌, subst}
-use Rattle.std.specs.Prelude.{map, codes}
+use Rattle.std.proofs.Common.{◌≡◌, ℕ, ◌+◌, ◌<◌, true, List, Some, length, refl, sym, ap, ◌∙◌, subst}
+use Rattle.std.specs.Prelude.{map}
 use Rattle.vpg_guards.specs.Formula.{Formula}
 use Rattle.vpg_guards.specs.Known.{kleene}
 use Rattle.vpg_game.specs.Game.{graph_of}
@@ -13,25 +13,19 @@ use Rattle.vpg_measure.specs.Orders.{OrderView, HarvestView, IsOrder, IsSameOrde
 use Rattle.vpg_measure.specs.TwoGames.{IsTableBelow}
 use Rattle.vpg_measure.proofs.OrderLemmas.{IsLawfulTable, own_lawful, raised_lawful}
 use Rattle.vpg_measure.proofs.TwoGames.{arena_length}
-use Rattle.vpg_desk.specs.Book.{Order, Ordered, Commit, Added}
+use Rattle.vpg_desk.specs.Book.{Order, Ordered, Commit}
 use Rattle.vpg_desk.specs.Commit.{IsOrderOf, handed_in}
-use Rattle.vpg_faults.specs.Refusals.{commit_refusal}
-use Rattle.vpg_faults.specs.declared.fault.CommitFault.{CommitFault}
 use Rattle.vpg_desk.specs.Desk.{family_of}
 use Rattle.vpg_desk.specs.Lawful.{harvested}
 use Rattle.vpg_desk.specs.State.{DeskState, setting_between, setting_of}
-use Rattle.vpg_script.specs.Answer.{IsGiven, done}
 use Rattle.vpg_script.specs.declared.tone.Tone.{Tone}
 use Rattle.vpg_engine.specs.Client.{ClientState, IsLogged}
-use Rattle.vpg_engine.specs.Faults.{Tells}
-use Rattle.vpg_engine.specs.declared.fault.ClientFault.{ClientFault}
-use Rattle.vpg_engine.specs.declared.fault.ClientFault.TheVariants.{LogFull}
 use Rattle.vpg_desk.proofs.Lawful.{harvests_are_lawful}
 use Rattle.vpg_script.specs.Script as script
 use Rattle.vpg_texts.specs.Scene.{table_in}
-use Rattle.vpg_engine.specs.Answers.{IsOf, IsLifted, full_log, room, vertex_of, numbered}
+use Rattle.vpg_engine.specs.Answers.{IsOf, IsLifted, Asks, TellsAdded, room, vertex_of}
 use Rattle.vpg_engine.specs.Engine.{EngineState, scene_at, AnswersTo}
-use Rattle.vpg_engine.proofs.Asked.{lifts, lift_full}
+use Rattle.vpg_engine.proofs.Asked.{Goes, lifts}
 use Rattle.vpg_engine.proofs.Settling.{order_setting}
 
 -- the harvest's tables are those that the book sees
@@ -92,17 +86,10 @@ module _ (order : OrderView) (harvest : HarvestView) (is_order : IsOrder order) 
   lifted desk game diagram =
       coe 0 1 (i. IsLifted (setting_between (game i) (diagram i)) table v order.decisions order.hopeful order.dual (handed_in true harvest)) lifted_in
 
-  module _ (limit : ℕ) (limit_is : limit ≡ room) (session : ℕ) (old new : EngineState) (first : ClientState) (named : script.Vertex) (before after : List ℕ) (vertex : vertex_of (scene_at old) named ≡ Some v)
-      (ordered : IsLogged limit old.client session Order (Ordered order.decisions order.hopeful order.dual) first) (ours : IsOrderOf old.client.desk order) (held : new.held ≡ old.held) where
-    -- an order of the desk is lifted once, and its harvest is committed
-    pub lift_answers : {tone : Tone} (added : ℕ) → IsLogged limit first session (Commit (handed_in true harvest)) (Added added) new.client → IsGiven (done (numbered (codes "added") added)) tone before after →
-        AnswersTo old (record { label = session; command = script.Lift table named }) tone before after new
-    lift_answers added commit appended =
-        lifts limit limit_is session old new first 0 order.decisions order.hopeful order.dual (handed_in true harvest) before after ordered table named v vertex (lifted old.client.desk ours.0 ours.1) added commit held appended
-
-    -- the log is full before it is committed
-    pub lifted_full : {tone : Tone} (fault : ClientFault CommitFault) → fault ≡ LogFull → Tells limit commit_refusal first session (Commit (handed_in true harvest)) new.client fault → IsGiven full_log tone before after →
-        AnswersTo old (record { label = session; command = script.Lift table named }) tone before after new
-    lifted_full fault is tells appended =
-        let full = subst (λ (f : ClientFault CommitFault). Tells limit commit_refusal first session (Commit (handed_in true harvest)) new.client f) is tells in
-        lift_full limit limit_is session old new first 0 order.decisions order.hopeful order.dual (handed_in true harvest) before after ordered table named v vertex (lifted old.client.desk ours.0 ours.1) full.0 full.1 held appended
+  -- an order of the desk is lifted once, and its harvest is handed in
+  pub lift_answers : {tone : Tone} (limit : ℕ) → limit ≡ room → (session : ℕ) (old new : EngineState) (first : ClientState) (named : script.Vertex) (before after : List ℕ) → vertex_of (scene_at old) named ≡ Some v →
+      IsLogged limit old.client session Order (Ordered order.decisions order.hopeful order.dual) first → IsOrderOf old.client.desk order →
+      Goes first (Asks (scene_at old) old.held (old.client.calls + 1) session (Commit (handed_in true harvest)) (TellsAdded old.held)) tone before after new →
+      AnswersTo old (record { label = session; command = script.Lift table named }) tone before after new
+  lift_answers limit limit_is session old new first named before after vertex ordered ours goes =
+      lifts limit limit_is session old new first order.decisions order.hopeful order.dual (handed_in true harvest) before after ordered table named v vertex (lifted old.client.desk ours.0 ours.1) goes

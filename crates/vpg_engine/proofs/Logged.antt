@@ -26,7 +26,9 @@ use Rattle.vpg_office.proofs.Stories.{book_more}
 use Rattle.vpg_engine.proofs.Fronts.{none_of, same_front}
 use Rattle.vpg_engine.proofs.Seats.{counted_at, seats_stay}
 use Rattle.vpg_engine.specs.Client.{ClientState, IsLogged, IsFrontOf, IsNumbered, IsBeyond, calls_of, unseated_from, client_in, client_after, nobody}
-use Rattle.vpg_engine.specs.Faults.{RefusedFor, Tells, TellsOf, HasStrayed, Sorts, IsAbsent, UnlessStray, shown_by, shown_after}
+use Rattle.vpg_engine.specs.Faults.{RefusedFor, Tells, TellsOf, HasStrayed, IsAstray, Sorts, IsAbsent, UnlessStray, shown_by, shown_after}
+use Rattle.vpg_engine.specs.declared.fault.Back.{Back}
+use Rattle.vpg_engine.specs.declared.fault.Back.TheVariants as backs
 use Rattle.vpg_engine.specs.declared.fault.ClientFault.{ClientFault}
 use Rattle.vpg_engine.specs.declared.fault.ClientFault.TheVariants.{LogFull, Refused, Stray, Memory}
 
@@ -46,34 +48,54 @@ number_is sessions place session label within here is = ap (λ (c : Caller). c.n
 pub numbered : (sessions : List Caller) (place : ℕ) (session : Caller) (number : ℕ) → place < length sessions → session ≡ slice_index_or sessions place session → session.number ≡ number → IsNumbered sessions place number
 numbered sessions place session number within here is = (within, ap (λ (c : Caller). c.number) (sym (get_or_read sessions place session within here nobody)) ∙ is)
 
-pub not_numbered : (sessions : List Caller) (place : ℕ) (session : Caller) (number : ℕ) → session ≡ slice_index_or sessions place session → ¬ (session.number ≡ number) → ¬ IsNumbered sessions place number
-not_numbered sessions place session number here other = λ is. other (number_is sessions place session number is.0 here is.1)
+-- a call was made, or not
+pub one_kind : {C G : Type 0} (b : Back C G) (given : G) (call : C) → b ≡ backs.Given given → b ≡ backs.Call call → ⊥
+one_kind b given call is other = absurd (cc (is, other))
 
 -- ---- what is said of an answer, of the result that was made of it
 
-unless_stray : {G : Type 0} (told : ClientFault G) {P : Type 0} → P → UnlessStray told P
-unless_stray LogFull p = p
-unless_stray (Refused fault) p = p
-unless_stray Stray p = tt
-unless_stray Memory p = p
+pub unless_stray_any : {G : Type 0} (told : ClientFault G) (P : Type 0) → P → UnlessStray told P
+unless_stray_any LogFull P p = p
+unless_stray_any (Refused fault) P p = p
+unless_stray_any Stray P p = tt
+unless_stray_any Memory P p = p
+
+pub unless_stray : {G : Type 0} (told : ClientFault G) (P Q : Type 0) → UnlessStray told P → (P → Q) → UnlessStray told Q
+unless_stray LogFull P Q p f = f p
+unless_stray (Refused fault) P Q p f = f p
+unless_stray Stray P Q p f = tt
+unless_stray Memory P Q p f = f p
 
 -- what was handed in comes back as it was
 pub given_back : {G X : Type 0} (told : ClientFault G) (value : X) → UnlessStray told (value ≡ value)
-given_back told value = unless_stray told refl
+given_back told value = unless_stray_any told (value ≡ value) refl
 
 -- what is said of an answer that is known
 pub said_of_ok : {T E : Type 0} (answer : Result T E) (made : T) (P : T → Type 0) (Q : E → Type 0) → answer ≡ Ok made → P made → MatchResult answer P Q
 said_of_ok {T} {E} answer made P Q is p = subst (λ (a : Result T E). MatchResult a P Q) (sym is) p
-
-pub said_of_err : {T E : Type 0} (answer : Result T E) (fault : E) (P : T → Type 0) (Q : E → Type 0) → answer ≡ Err fault → Q fault → MatchResult answer P Q
-said_of_err {T} {E} answer fault P Q is q = subst (λ (a : Result T E). MatchResult a P Q) (sym is) q
 
 -- what the answer gives back comes back
 pub comes_back : {U D T E G V X : Type 0} (result : Result U D) (answer : Result T E) (told_of : D → ClientFault G) (value_of : D → X) (Sorted : D → E → Type 0) (wrapped : V → X) (back : E → V) (value : V) (Longer : Type 0) →
     IfErr result (λ d. MatchResult answer (λ _. (told_of d ≡ Stray) × Longer) (λ e. Sorted d e × (value_of d ≡ wrapped (back e)))) → IfErr answer (λ e. back e ≡ value) → IfErr result (λ d. UnlessStray (told_of d) (value_of d ≡ wrapped value))
 comes_back (Ok u) answer told_of value_of Sorted wrapped back value Longer is same = tt
 comes_back (Err d) (Ok t) told_of value_of Sorted wrapped back value Longer is same = subst (λ told. UnlessStray told (value_of d ≡ wrapped value)) (sym is.0) tt
-comes_back (Err d) (Err e) told_of value_of Sorted wrapped back value Longer is same = unless_stray (told_of d) (is.1 ∙ ap wrapped same)
+comes_back (Err d) (Err e) told_of value_of Sorted wrapped back value Longer is same = unless_stray_any (told_of d) (value_of d ≡ wrapped value) (is.1 ∙ ap wrapped same)
+
+-- a stray shows in the log or in the sessions
+pub astray : {A D G : Type 0} (r : Result A D) (told_of : D → ClientFault G) (room : ℕ) (refusal : G → Option Refusal) (Means : Refusal → Type 0) (old : ClientState) (label : ℕ) (new : ClientState) → IfErr r (λ d. TellsOf room refusal Means old label new (told_of d)) →
+    IfErr r (λ d. told_of d ≡ Stray → IsAstray old label new)
+astray (Ok a) told_of room refusal Means old label new tells = tt
+astray {A} {D} {G} (Err d) told_of room refusal Means old label new tells = go (told_of d) tells
+  where
+    shown : HasStrayed old label new → IsAstray old label new
+    shown (inl foreign) = inl foreign
+    shown (inr unseated) = inr unseated.beyond
+
+    go : (told : ClientFault G) → TellsOf room refusal Means old label new told → told ≡ Stray → IsAstray old label new
+    go LogFull tells is = absurd (cc is)
+    go (Refused fault) tells is = absurd (cc is)
+    go Stray tells is = shown tells.1
+    go Memory tells is = absurd (cc is)
 
 -- ---- logs that are longer than the front
 
@@ -317,3 +339,9 @@ module _ (game : NamedGame) (diagram : NamedDiagram) (front : List Event) (befor
   absent_tells room refusal Means (Refused fault) absent = absurd absent
   absent_tells room refusal Means Stray absent = has_none absent
   absent_tells room refusal Means Memory absent = unchanged absent
+
+  pub absent_astray : {G : Type 0} (told : ClientFault G) → IsAbsent label (unseated_from 1 before) (unseated_from 1 after) told → told ≡ Stray → IsAstray old label afterwards
+  absent_astray LogFull absent is = absurd absent
+  absent_astray (Refused fault) absent is = absurd absent
+  absent_astray Stray absent is = inr absent
+  absent_astray Memory absent is = absurd (cc is)

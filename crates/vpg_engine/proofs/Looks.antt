@@ -3,10 +3,12 @@ use Rattle.std.proofs.Common.{◌≡◌, ℕ, ◌+◌, Bool, true, false, List, 
 use Rattle.std.specs.Prelude.{IfOk, if◌then◌else◌}
 use Rattle.vpg_diagram.specs.DiagramText.{NamedDiagram}
 use Rattle.vpg_diagram.specs.FeatureDiagram.{feature_count}
-use Rattle.vpg_game.specs.Game.{NamedGame, graph_of}
+use Rattle.vpg_game.specs.Game.{NamedGame}
 use Rattle.vpg_measure.specs.Orders.{OrderView, IsOrder}
-use Rattle.vpg_trail.specs.Page.{Which, Hopeful, Dual, Decision, Entry, decisions_of, table_of}
-use Rattle.vpg_desk.specs.Book.{Call, Order, Page, Ordered, PageIs, Reply}
+use Rattle.vpg_measure.specs.Games.{GamesView}
+use Rattle.vpg_office.specs.Made.{IsPage}
+use Rattle.vpg_trail.specs.Page.{Decision, Entry}
+use Rattle.vpg_desk.specs.Book.{Book, Call, Order, Page, Ordered, PageIs, Reply}
 use Rattle.vpg_faults.specs.declared.refusal.Refusal.{Refusal}
 use Rattle.vpg_desk.specs.Commit.{IsOrderOf}
 use Rattle.vpg_script.specs.Answer.{Gives, IsGiven, refused}
@@ -14,7 +16,6 @@ use Rattle.vpg_script.specs.declared.tone.Tone.{Tone}
 use Rattle.vpg_engine.specs.Client.{IsLogged}
 use Rattle.vpg_engine.specs.Faults.{Tells}
 use Rattle.vpg_engine.specs.declared.fault.ClientFault.{ClientFault}
-use Rattle.vpg_engine.specs.declared.fault.ClientFault.TheVariants.{LogFull}
 use Rattle.vpg_looks.specs.Meanings.{ordered_sight}
 use Rattle.vpg_answers.specs.Told.{IsTold}
 use Rattle.vpg_answers.specs.Topics.{IsWithin, Topic, TopicHasSystem, found_shown, takes_order, topic_of, topic_shown}
@@ -24,11 +25,10 @@ use Rattle.vpg_checking.specs.Behaviours.{Behaviour}
 use Rattle.vpg_script.specs.Script as script
 use Rattle.vpg_script.specs.Script.{Request}
 use Rattle.vpg_texts.specs.Scene.{scene_of}
-use Rattle.vpg_engine.specs.Answers.{Own, Rest, full_log, own_of, own_text, room, answer_limits}
-use Rattle.vpg_engine.specs.Engine.{EngineState, AnswersIn, scene_with}
-use Rattle.vpg_engine.proofs.Asked.{unasked_by, asked_by, log_full_by}
-use Rattle.vpg_engine.proofs.Enduring.{unless_stray_any}
-use Rattle.vpg_engine.proofs.Paged.{entries_are}
+use Rattle.vpg_engine.specs.Answers.{Own, Rest, own_of, own_text, room, answer_limits}
+use Rattle.vpg_engine.specs.Engine.{EngineState, AnswersIn, TellsFault, scene_with}
+use Rattle.vpg_engine.proofs.Asked.{unasked_by, asked_by, unanswered_by}
+use Rattle.vpg_engine.proofs.Logged.{unless_stray_any}
 use Rattle.vpg_engine.specs.Requests.{Continues, call_or_missing, first_call}
 
 -- what an engine by its fields answers is answered by what contracts see of it
@@ -41,12 +41,6 @@ pub on_told_view : {E : Type 0} (labels : List (List ℕ)) (behaviour : Option B
     ((tone : Tone) → P tone → AnswersIn labels behaviour seen request tone before after new) → IfOk r P → IfOk r (λ tone. AnswersIn labels behaviour old request tone before after new)
 on_told_view labels behaviour (Ok tone) P seen old new request before after same f p = told_on_view {tone = tone} labels behaviour seen old new request before after same (f tone p)
 on_told_view labels behaviour (Err e) P seen old new request before after same f p = tt
-
--- the same, where nothing changes
-pub on_same_told_view : {E : Type 0} (labels : List (List ℕ)) (behaviour : Option Behaviour) (r : Result Tone E) (P : Tone → Type 0) (seen old : EngineState) (request : Request) (before after : List ℕ) → seen ≡ old →
-    ((tone : Tone) → P tone → AnswersIn labels behaviour seen request tone before after seen) → IfOk r P → IfOk r (λ tone. AnswersIn labels behaviour old request tone before after old)
-on_same_told_view labels behaviour (Ok tone) P seen old request before after same f p = subst (λ (e : EngineState). AnswersIn labels behaviour e request tone before after e) same (f tone p)
-on_same_told_view labels behaviour (Err e) P seen old request before after same f p = tt
 
 -- ---- what was found of a look
 
@@ -101,17 +95,11 @@ module _ (labels : List (List ℕ)) (behaviour : Option Behaviour) (old : Engine
     calls : (ordered : Bool) → takes_order topic ≡ ordered → first ≡ Ok (if ordered then Order else Page)
     calls ordered is = ap call_or_missing (here (Ok topic) asks) ∙ ap (λ (b : Bool). Ok (if b then Order else Page)) is
 
-    -- its order finds the log full
-    pub order_full : {F : Type 0} {tone : Tone} (refusal : F → Option Refusal) (fault : ClientFault F) → takes_order topic ≡ true → Tells limit refusal old.client session Order new.client fault → new.held ≡ old.held →
-        (fault ≡ LogFull) × IsGiven full_log tone before after → AnswersIn labels behaviour old (record { label = session; command = script.Looks look }) tone before after new
-    order_full refusal fault ordered tells held told =
-        log_full_by limit limit_is session refusal old new first goes_on Order fault before after (calls true ordered) tells (unless_stray_any fault _ held) told.0 told.1
-
-    -- its page does
-    pub page_full : {F : Type 0} {tone : Tone} (refusal : F → Option Refusal) (fault : ClientFault F) → takes_order topic ≡ false → Tells limit refusal old.client session Page new.client fault → new.held ≡ old.held →
-        (fault ≡ LogFull) × IsGiven full_log tone before after → AnswersIn labels behaviour old (record { label = session; command = script.Looks look }) tone before after new
-    page_full refusal fault ordered tells held told =
-        log_full_by limit limit_is session refusal old new first goes_on Page fault before after (calls false ordered) tells (unless_stray_any fault _ held) told.0 told.1
+    -- its order or its page is not given
+    pub look_refused : {F : Type 0} {tone : Tone} (refusal : F → Option Refusal) (ordered : Bool) (fault : ClientFault F) (names : List (List ℕ)) → takes_order topic ≡ ordered → Tells limit refusal old.client session (if ordered then Order else Page) new.client fault → new.held ≡ old.held →
+        names ≡ new.client.desk.diagram.names → TellsFault names refusal fault tone before after → AnswersIn labels behaviour old (record { label = session; command = script.Looks look }) tone before after new
+    look_refused refusal ordered fault names takes tells held names_are told =
+        unanswered_by limit limit_is session refusal old new first goes_on (if ordered then Order else Page) fault names before after (calls ordered takes) tells (unless_stray_any fault (new.held ≡ old.held) held) names_are told
 
     -- it is answered from an order of the desk
     pub order_answers : {tone : Tone} (order : OrderView) → takes_order topic ≡ true → IsLogged limit old.client session Order (Ordered order.decisions order.hopeful order.dual) new.client → IsOrderOf old.client.desk order → new.held ≡ old.held →
@@ -121,17 +109,11 @@ module _ (labels : List (List ℕ)) (behaviour : Option Behaviour) (old : Engine
         asked_by limit limit_is session old new first goes_on Order (Ordered order.decisions order.hopeful order.dual) answer before after (calls true ordered) logged
         ((topic, (here (Ok topic) asks, coe 0 1 (k. IsTold behaviour (scene_of labels (ours.0 k) (ours.1 k)) answer_limits topic (ordered_sight order.decisions order.hopeful order.dual) answer) answered)), refl, held) given
 
-    -- it is answered from the page, with the game, the diagram, the decisions and the tables as the code has them
-    pub page_answers : {tone : Tone} (own : NamedGame) (shown : NamedDiagram) → own ≡ old.client.desk.game → shown ≡ old.client.desk.diagram → (entries : List Entry) → takes_order topic ≡ false →
-        IsLogged limit old.client session Page (PageIs entries) new.client → new.held ≡ old.held →
-        (decisions : List Decision) → decisions ≡ decisions_of old.client.desk.book.present →
-        (hopeful dual : List ℕ) → hopeful ≡ table_of Hopeful old.client.desk.book.present (length (graph_of old.client.desk.game)) → dual ≡ table_of Dual old.client.desk.book.present (length (graph_of old.client.desk.game)) →
+    -- it is answered from the page, with the game and the diagram as the code has them
+    pub page_answers : {tone : Tone} (own : NamedGame) (shown : NamedDiagram) → own ≡ old.client.desk.game → shown ≡ old.client.desk.diagram → (book : Book) (entries : List Entry) (decisions : List Decision) (hopeful dual : List ℕ) (games : GamesView) →
+        IsPage old.client.desk.game old.client.desk.diagram book entries decisions hopeful dual games → takes_order topic ≡ false → IsLogged limit old.client session Page (PageIs entries) new.client → new.held ≡ old.held →
         Gives (IsTold behaviour (scene_of labels own shown) answer_limits topic (record { entries = entries; decisions = decisions; hopeful = hopeful; dual = dual })) tone before after →
         AnswersIn labels behaviour old (record { label = session; command = script.Looks look }) tone before after new
-    page_answers own shown own_is shown_is entries ordered logged held decisions decisions_are hopeful dual hopeful_is dual_is (answer, (answered, given)) =
-        let present : entries ≡ old.client.desk.book.present = entries_are old.client.desk entries logged.step.step.0 in
-        let table : (which : Which) (values : List ℕ) → values ≡ table_of which old.client.desk.book.present (length (graph_of old.client.desk.game)) → values ≡ table_of which entries (length (graph_of old.client.desk.game)) =
-        λ which values is. is ∙ ap (λ (page : List Entry). table_of which page (length (graph_of old.client.desk.game))) (sym present) in
-        let same : decisions ≡ decisions_of entries = decisions_are ∙ ap decisions_of (sym present) in
+    page_answers own shown own_is shown_is book entries decisions hopeful dual games page ordered logged held (answer, (answered, given)) =
         asked_by limit limit_is session old new first goes_on Page (PageIs entries) answer before after (calls false ordered) logged
-        ((topic, (here (Ok topic) asks, coe 0 1 (k. IsTold behaviour (scene_of labels (own_is k) (shown_is k)) answer_limits topic (record { entries = entries; decisions = same k; hopeful = table Hopeful hopeful hopeful_is k; dual = table Dual dual dual_is k }) answer) answered)), refl, held) given
+        ((topic, (here (Ok topic) asks, coe 0 1 (k. IsTold behaviour (scene_of labels (own_is k) (shown_is k)) answer_limits topic (record { entries = entries; decisions = page.decided k; hopeful = page.hopeful_is k; dual = page.dual_is k }) answer) answered)), refl, held) given

@@ -9,6 +9,9 @@ use Rattle.std.proofs.lemmas.Bool.Decides.{nat_tests}
 use Rattle.vpg_desk.specs.Book.{has_serial}
 use Rattle.vpg_engine.specs.Held.{if_among, without}
 use Rattle.vpg_engine.specs.Engine.{IsPlaceOf}
+use Rattle.vpg_engine.specs.Serials.{serials}
+use Rattle.vpg_engine.proofs.Serials.{serials_length, serials_removed, serial_at}
+use Rattle.vpg_office.specs.Token.{TokenView as Token}
 
 -- ---- a serial that is among them has a place
 
@@ -73,44 +76,27 @@ found_has s (suc i) (n ∷ serials) is = or_right (n == s) (has_serial s serials
 
 -- ---- taking the token there out, and putting it back
 
-removed_at : (s i : ℕ) (serials : List ℕ) → i < length serials → (slice_index_or serials i 0 == s) ≡ true → ((k : ℕ) → k < i → (slice_index_or serials k 0 == s) ≡ false) → remove serials i ≡ without s serials
-removed_at s i [] l is before = absurd (omega (arith, l))
-removed_at s zero (n ∷ serials) l is before = ap (λ (t : Bool). if t then serials else n ∷ without s serials) (sym is)
-removed_at s (suc i) (n ∷ serials) l is before =
-    ap (λ (ns : List ℕ). n ∷ ns) (removed_at s i serials (omega (arith, l)) is (λ k less. before (suc k) (omega (arith, less))))
+removed_at : (s i d : ℕ) (serials : List ℕ) → i < length serials → (slice_index_or serials i d == s) ≡ true → ((k : ℕ) → k < i → (slice_index_or serials k d == s) ≡ false) → remove serials i ≡ without s serials
+removed_at s i d [] l is before = absurd (omega (arith, l))
+removed_at s zero d (n ∷ serials) l is before = ap (λ (t : Bool). if t then serials else n ∷ without s serials) (sym is)
+removed_at s (suc i) d (n ∷ serials) l is before =
+    ap (λ (ns : List ℕ). n ∷ ns) (removed_at s i d serials (omega (arith, l)) is (λ k less. before (suc k) (omega (arith, less))))
     ∙ ap (λ (t : Bool). if t then serials else n ∷ without s serials) (sym (before 0 (omega arith)))
 
--- the token of the serial meant stands there
-pub record Stands (s i : ℕ) (serials : List ℕ) : Type 0 where
-  pub within : i < length serials
-  pub serial : (d : ℕ) → slice_index_or serials i d ≡ s
-  pub removed : remove serials i ≡ without s serials
-  pub shorter : length (without s serials) + 1 ≡ length serials
-  pub put_back : insert (without s serials) i s ≡ serials
+pub put_back_at : {A : Type 0} (xs : List A) (i : ℕ) (x : A) → i < length xs → x ≡ slice_index_or xs i x → insert (remove xs i) i x ≡ xs
+put_back_at [] i x l is = absurd (omega (arith, l))
+put_back_at {A} (y ∷ xs) zero x l is = ap (λ (z : A). z ∷ xs) is
+put_back_at {A} (y ∷ xs) (suc i) x l is = ap (λ (ys : List A). y ∷ ys) (put_back_at xs i x (omega (arith, l)) is)
 
-without_shorter : (s : ℕ) (serials : List ℕ) → has_serial s serials ≡ true → length (without s serials) + 1 ≡ length serials
-without_shorter s [] h = absurd (cc h)
-without_shorter s (n ∷ serials) h = go (n == s) (λ rest. without_shorter s serials rest) h
-  where
-    go : (t : Bool) → (has_serial s serials ≡ true → length (without s serials) + 1 ≡ length serials) → (t || has_serial s serials) ≡ true →
-        length (if t then serials else n ∷ without s serials) + 1 ≡ length (n ∷ serials)
-    go true rest h = omega arith
-    go false rest h = omega (arith, rest h)
+module _ (tokens : List Token) (place : ℕ) where
+  -- the token that is meant stands there
+  pub stands_within : (meant : Option ℕ) → IsPlaceOf meant (serials tokens) (Some place) → place < length tokens
+  stands_within meant (s, (means, is)) = omega (arith, (position-Some (λ (n : ℕ). n == s) (serials tokens) place 0 is).0, serials_length tokens)
 
-put_back_at : (s i : ℕ) (serials : List ℕ) → i < length serials → slice_index_or serials i 0 ≡ s → insert (remove serials i) i s ≡ serials
-put_back_at s i [] l is = absurd (omega (arith, l))
-put_back_at s zero (n ∷ serials) l is = ap (λ (m : ℕ). m ∷ serials) (sym is)
-put_back_at s (suc i) (n ∷ serials) l is = ap (λ (ns : List ℕ). n ∷ ns) (put_back_at s i serials (omega (arith, l)) is)
-
-pub stands : (s i : ℕ) (serials : List ℕ) → position (λ n. n == s) serials ≡ Some i → Stands s i serials
-stands s i serials is =
-    let at = position-Some (λ (n : ℕ). n == s) serials i 0 is in
-    let here : (d : ℕ) → slice_index_or serials i d ≡ s = λ d. eqb-true _ _ (position-Some (λ (n : ℕ). n == s) serials i d is).1 in
-    let gone : remove serials i ≡ without s serials = removed_at s i serials at.0 at.1 at.2 in
-    record {
-      within = at.0;
-      serial = here;
-      removed = gone;
-      shorter = without_shorter s serials (place_has s i serials is);
-      put_back = subst (λ (ns : List ℕ). insert ns i s ≡ serials) gone (put_back_at s i serials at.0 (here 0));
-    }
+  pub taken : (token : Token) (rest : List Token) → token ≡ slice_index_or tokens place token → rest ≡ remove tokens place → (meant : Option ℕ) → IsPlaceOf meant (serials tokens) (Some place) →
+      (meant ≡ Some token.serial) × (serials rest ≡ without token.serial (serials tokens))
+  taken token rest value items meant (s, (means, is)) =
+      let at = position-Some (λ (n : ℕ). n == s) (serials tokens) place token.serial is in
+      let same : s ≡ token.serial = sym (serial_at tokens place token token value token.serial refl ∙ eqb-true _ _ at.1) in
+      let gone : serials rest ≡ without s (serials tokens) = ap serials items ∙ serials_removed tokens place ∙ removed_at s place token.serial (serials tokens) at.0 at.1 at.2 in
+      (means ∙ ap Some same, gone ∙ ap (λ (n : ℕ). without n (serials tokens)) same)

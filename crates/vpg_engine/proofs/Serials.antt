@@ -1,7 +1,7 @@
 -- Tokens by their serials.
 use Rattle.std.proofs.Common.{◌≡◌, ℕ, zero, suc, ◌+◌, List, [], ◌∷◌, ◌++◌, length, Some, None, refl, sym, ap, ap₂, ◌∙◌}
 use Rattle.std.specs.Prelude.{◌==◌, IfOk, Result, Ok, Err, cond, nat_lt, not, position, slice_get, slice_index_or}
-use Rattle.std.specs.List.{position_or_len, remove, insert}
+use Rattle.std.specs.List.{position_or_len, remove}
 use Rattle.vpg_office.specs.Token.{TokenView as Token}
 use Rattle.vpg_engine.specs.Serials.{serials}
 
@@ -24,11 +24,6 @@ serials_removed [] zero = refl
 serials_removed [] (suc i) = refl
 serials_removed (t ∷ tokens) zero = refl
 serials_removed (t ∷ tokens) (suc i) = ap (λ (ns : List ℕ). t.serial ∷ ns) (serials_removed tokens i)
-
-pub serials_inserted : (tokens : List Token) (i : ℕ) (token : Token) → serials (insert tokens i token) ≡ insert (serials tokens) i token.serial
-serials_inserted tokens zero token = refl
-serials_inserted [] (suc i) token = refl
-serials_inserted (t ∷ tokens) (suc i) token = ap (λ (ns : List ℕ). t.serial ∷ ns) (serials_inserted tokens i token)
 
 pub serial_at : (tokens : List Token) (i : ℕ) (token d : Token) → token ≡ slice_index_or tokens i d → (n : ℕ) → n ≡ d.serial → token.serial ≡ slice_index_or (serials tokens) i n
 serial_at [] i token d is n e = ap (λ (t : Token). t.serial) is ∙ sym e

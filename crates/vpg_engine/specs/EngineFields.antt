@@ -45,5 +45,5 @@ pub record IsEngine (limit : ℕ) (of_game : NamedGame) (of_diagram : NamedDiagr
   -- its game and its diagram are those of the office's desk, and have as many features
   pub game : of_game ≡ desk.game
   pub diagram : of_diagram ≡ desk.diagram
-  pub features : desk.game.features ≡ feature_count desk.diagram.lines
-  pub harvests : AreOwnHarvests desk.game desk.diagram kept
+  pub features : of_game.features ≡ feature_count of_diagram.lines
+  pub harvests : AreOwnHarvests of_game of_diagram kept

@@ -1,5 +1,5 @@
 -- The calls that requests make at a desk and the texts of its replies, also of looks at the page.
-use Rattle.std.specs.Prelude.{◌≡◌, ℕ, ◌+◌, Bool, if◌then◌else◌, List, [], length, Option, Result, Ok, Err}
+use Rattle.std.specs.Prelude.{◌≡◌, ℕ, ◌+◌, if◌then◌else◌, List, [], length, Option, Result, Ok, Err}
 use Rattle.vpg_trail.specs.Page.{Hopeful, Dual, Entry, decisions_of, table_of}
 use Rattle.vpg_desk.specs.Book.{Call, Order, Page, Reply, Ordered, PageIs}
 use Rattle.vpg_engine.specs.Answers as commands
@@ -7,7 +7,6 @@ use Rattle.vpg_engine.specs.Answers.{Own, Rest, answer_limits, own_of}
 use Rattle.vpg_engine.specs.Held.{Held}
 use Rattle.vpg_script.specs.Script as script
 use Rattle.vpg_script.specs.Script.{Request}
-use Rattle.vpg_script.specs.Answer.{Answer}
 use Rattle.vpg_texts.specs.Scene.{Scene}
 use Rattle.vpg_checking.specs.Behaviours.{Behaviour}
 use Rattle.vpg_looks.specs.Meanings.{Sight, ordered_sight}

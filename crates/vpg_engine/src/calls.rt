@@ -15,10 +15,13 @@ ghost use Rattle.vpg_desk.specs.Setting.{IsSetting};
 ghost use Rattle.vpg_desk.specs.State.{IsReached, setting_of};
 ghost use Rattle.vpg_faults.specs.Refusals.{commit_refusal, never_refused};
 ghost use Rattle.vpg_office.specs.Fronts.{before_last};
+ghost use Rattle.vpg_office.specs.Made.{IsPage};
 ghost use Rattle.vpg_office.specs.Story.{IsNamed, call_of};
 ghost use Rattle.vpg_office.specs.declared.asked.Answer.TheVariants as told;
 ghost use Rattle.vpg_engine.specs.Client.{IsFrontOf, IsLogged};
-ghost use Rattle.vpg_engine.specs.Faults.{RefusedFor, Tells, TellsOf, UnlessStray};
+ghost use Rattle.vpg_engine.specs.Engine.{IsFaultWithin};
+ghost use Rattle.vpg_engine.specs.EngineFields.{IsOwnHarvest};
+ghost use Rattle.vpg_engine.specs.Faults.{IsAstray, RefusedFor, Tells, TellsOf, UnlessStray};
 
 use crate::answers::answered;
 use crate::client::{Client, seat};
@@ -48,10 +51,13 @@ impl<L: Terms> Client<L> {
             (λ given. (front : List Event) × (IsFrontOf self.old (before_last front) ×
             (IsFrontOf self.new front × C.Gives call front given))) }
         ensures of { (self.old.desk.game ≡ L.game) × (self.old.desk.diagram ≡ L.diagram) }
+        ensures game { self.new.desk.game ≡ self.old.desk.game }
+        ensures diagram { self.new.desk.diagram ≡ self.old.desk.diagram }
         ensures fault { IfErr result
             (λ r. TellsOf L.limit C.Refused.refusal_of
             (λ refusal. IsLogged L.limit self.old label (call_of (C.asks call) (told.Refused refusal))
             (book.Refused refusal) self.new) self.old label self.new r.fault) }
+        ensures astray { IfErr result (λ r. r.fault ≡ ClientFault.Stray → IsAstray self.old label self.new) }
         // A harvest is refused as one of another game exactly if it is one.
         ensures named { IfErr result
             (λ r. RefusedFor C.Refused.refusal_of
@@ -83,7 +89,10 @@ impl<L: Terms> Client<L> {
         ensures ours { IfOk result (λ order. IsOrderOf self.old.desk order) }
         ensures of { IfOk result (λ order. (order.game ≡ L.game) × (order.diagram ≡ L.diagram)) }
         ensures order { IfOk result IsOrder }
+        ensures game { self.new.desk.game ≡ self.old.desk.game }
+        ensures diagram { self.new.desk.diagram ≡ self.old.desk.diagram }
         ensures fault { IfErr result (Tells L.limit never_refused self.old label book.Order self.new) }
+        ensures astray { IfErr result (λ fault. fault ≡ ClientFault.Stray → IsAstray self.old label self.new) }
     {
         match self.call(rt, label, OrderCall { alloc }) {
             Ok(order) => Ok(order),
@@ -104,8 +113,14 @@ impl<L: Terms> Client<L> {
         ensures accepted { IfOk result
             (λ added. IsLogged L.limit self.old label (book.Commit (handed_in true harvest))
             (book.Added added) self.new) }
+        ensures game { self.new.desk.game ≡ self.old.desk.game }
+        ensures diagram { self.new.desk.diagram ≡ self.old.desk.diagram }
         ensures fault { IfErr result
             (λ r. Tells L.limit commit_refusal self.old label (book.Commit (handed_in true harvest)) self.new r.fault) }
+        ensures astray { IfErr result (λ r. r.fault ≡ ClientFault.Stray → IsAstray self.old label self.new) }
+        ensures named { IfErr result
+            (λ r. IsOwnHarvest self.old.desk.game self.old.desk.diagram harvest →
+            IsFaultWithin (length self.old.desk.diagram.names) commit_refusal r.fault) }
         ensures back { IfErr result (λ r. UnlessStray r.fault (r.value ≡ Some harvest)) }
     {
         let _ = &self.front;
@@ -133,6 +148,11 @@ impl<L: Terms> Client<L> {
     ) -> Result<(Page, Arc<PageGames>), ClientFault<Never>>
         ensures accepted { IfOk result
             (λ r. IsLogged L.limit self.old label book.Page (book.PageIs r.0.entries) self.new) }
+        ensures game { self.new.desk.game ≡ self.old.desk.game }
+        ensures diagram { self.new.desk.diagram ≡ self.old.desk.diagram }
+        ensures shown { IfOk result
+            (λ r. IsPage self.old.desk.game self.old.desk.diagram self.old.desk.book r.0.entries r.0.decisions
+            r.0.hopeful r.0.dual (arc_value r.1)) }
         ensures decisions { IfOk result (λ r. r.0.decisions ≡ decisions_of self.old.desk.book.present) }
         ensures hopeful { IfOk result
             (λ r. r.0.hopeful ≡ table_of Hopeful self.old.desk.book.present (length (graph_of self.old.desk.game))) }
@@ -146,6 +166,7 @@ impl<L: Terms> Client<L> {
         ensures setting { OnOk result (IsSetting (setting_of self.old.desk)) }
         ensures reached { OnOk result (IsReached (setting_of self.old.desk) self.old.desk.book) }
         ensures fault { IfErr result (Tells L.limit never_refused self.old label book.Page self.new) }
+        ensures astray { IfErr result (λ fault. fault ≡ ClientFault.Stray → IsAstray self.old label self.new) }
     {
         match self.call(rt, label, PageCall { alloc }) {
             Ok(both) => Ok(both),

@@ -24,7 +24,7 @@ ghost use Rattle.vpg_script.specs.View.{look_shown, vertex_shown};
 use crate::client::{Client, NotEnded};
 use crate::fault::ClientFault;
 use crate::held::{
-    hold, hold_strayed, put_back_unspent, put_back_unswung, redo_place, return_harvest,
+    hold, hold_strayed, put_back_unspent, put_back_unswung, redo_place, return_harvest, take,
     take_harvest, undo_place,
 };
 use crate::lines;
@@ -252,7 +252,7 @@ impl<L: Terms> Engine<L> {
             return lines::refused(b"NoToken", out);
         };
         self.redos.reserve(1)?;
-        let token = self.undos.remove(place);
+        let token = take(&mut self.undos, place);
         match self.client.call(rt, session, UndoCall { alloc, token }) {
             Ok(redo) => hold(&mut self.redos, redo, b"undone", out),
             Err(Returned { fault, value }) => {
@@ -280,7 +280,7 @@ impl<L: Terms> Engine<L> {
             return lines::refused(b"NoToken", out);
         };
         self.undos.reserve(1)?;
-        let token = self.redos.remove(place);
+        let token = take(&mut self.redos, place);
         match self.client.call(rt, session, RedoCall { alloc, token }) {
             Ok(undo) => hold(&mut self.undos, undo, b"redone", out),
             Err(Returned { fault, value }) => {
@@ -305,12 +305,12 @@ impl<L: Terms> Engine<L> {
         let Some(place) = undo_place(&self.undos, Some(serial)) else {
             return lines::refused(b"NoToken", out);
         };
-        let token = self.undos.remove(place);
+        let token = take(&mut self.undos, place);
         match self.client.call(rt, session, KeepCall { token }) {
             Ok(()) => lines::numbered(b"kept", serial, out),
             Err(Returned { fault, value }) => {
                 put_back_unspent(&mut self.undos, place, value);
-                lines::put_unanswered(fault, out)
+                lines::put_fault(self.names(), fault, out)
             }
         }
     }
@@ -330,12 +330,12 @@ impl<L: Terms> Engine<L> {
         let Some(place) = redo_place(&self.redos, Some(serial)) else {
             return lines::refused(b"NoToken", out);
         };
-        let token = self.redos.remove(place);
+        let token = take(&mut self.redos, place);
         match self.client.call(rt, session, ForgetCall { token }) {
             Ok(()) => lines::numbered(b"forgotten", serial, out),
             Err(Returned { fault, value }) => {
                 put_back_unspent(&mut self.redos, place, value);
-                lines::put_unanswered(fault, out)
+                lines::put_fault(self.names(), fault, out)
             }
         }
     }
@@ -361,12 +361,12 @@ impl<L: Terms> Engine<L> {
         };
         let order = match self.client.order(rt, alloc, session) {
             Ok(order) => order,
-            Err(fault) => return lines::put_unanswered(fault, out),
+            Err(fault) => return lines::put_fault(self.names(), fault, out),
         };
         let harvest = Harvest::one(order, table, v);
         let added = match self.client.commit_own(rt, alloc, session, harvest) {
             Ok(added) => added,
-            Err(Returned { fault, value: _ }) => return lines::put_unanswered(fault, out),
+            Err(Returned { fault, value: _ }) => return lines::put_fault(self.names(), fault, out),
         };
         lines::numbered(b"added", added as u64, out)
     }
@@ -389,7 +389,7 @@ impl<L: Terms> Engine<L> {
         self.harvests.reserve(1)?;
         let order = match self.client.order(rt, alloc, session) {
             Ok(order) => order,
-            Err(fault) => return lines::put_unanswered(fault, out),
+            Err(fault) => return lines::put_fault(self.names(), fault, out),
         };
         let ground = &mut self.ground;
         let harvest = swept(rt, alloc, order, SWEEPS, lifters, &OpenGate, ground).harvest;
@@ -440,7 +440,7 @@ impl<L: Terms> Engine<L> {
     {
         let order = match self.client.order(rt, alloc, session) {
             Ok(order) => order,
-            Err(fault) => return lines::put_unanswered(fault, out),
+            Err(fault) => return lines::put_fault(self.names(), fault, out),
         };
         let harvest = swept(
             rt,
@@ -454,11 +454,11 @@ impl<L: Terms> Engine<L> {
         .harvest;
         let added = match self.client.commit_own(rt, alloc, session, harvest) {
             Ok(added) => added,
-            Err(Returned { fault, value: _ }) => return lines::put_unanswered(fault, out),
+            Err(Returned { fault, value: _ }) => return lines::put_fault(self.names(), fault, out),
         };
         let settled = match self.client.call(rt, session, SettledCall) {
             Ok(settled) => settled,
-            Err(Returned { fault, value: _ }) => return lines::put_unanswered(fault, out),
+            Err(Returned { fault, value: _ }) => return lines::put_fault(self.names(), fault, out),
         };
         lines::settled(settled, added, out)
     }
@@ -487,14 +487,14 @@ impl<L: Terms> Engine<L> {
         if takes_order(&topic) {
             let order = match self.client.order(rt, alloc, session) {
                 Ok(order) => order,
-                Err(fault) => return lines::put_unanswered(fault, out),
+                Err(fault) => return lines::put_fault(self.names(), fault, out),
             };
             let tone = answer(alloc, order, labels, behaviour, &topic, LIMITS, out)?;
             return Ok(tone);
         }
         let (page, games) = match self.client.page_with_games(rt, alloc, session) {
             Ok(both) => both,
-            Err(fault) => return lines::put_unanswered(fault, out),
+            Err(fault) => return lines::put_fault(self.names(), fault, out),
         };
         let (game, diagram) = (&self.game, &self.diagram);
         let tone = look(
@@ -518,7 +518,7 @@ impl<L: Terms> Engine<L> {
     {
         let (page, games) = match self.client.page_with_games(rt, alloc, session) {
             Ok(both) => both,
-            Err(fault) => return lines::put_unanswered(fault, out),
+            Err(fault) => return lines::put_fault(self.names(), fault, out),
         };
         let verdicts = verdicts_over(alloc, &games, &page, &self.game)?;
         put_changed(alloc, &self.game, labels, &self.seen, &verdicts, out)?;

@@ -1,11 +1,11 @@
 //! The tokens and harvests that the engine holds.
-ghost use Rattle.std.specs.Prelude.{◌≡◌, ◌+◌, ◌-◌, ◌<◌, ◌≤◌, ◌==◌, ◌++◌, ◌∷◌, [], ℕ, length, max, position, slice_get, slice_index_or, vec_len, vec_capacity, slice_set, Some, None, IfOk, OnOk, IfSome, IfNone, IsOkUnless};
+ghost use Rattle.std.specs.Prelude.{◌≡◌, ◌+◌, ◌-◌, ◌<◌, ◌≤◌, ◌==◌, ◌++◌, ◌∷◌, [], ℕ, length, max, position, slice_get, slice_index_or, vec_len, vec_capacity, slice_set, Option, Some, None, IfOk, OnOk, IfSome, IfNone, IsOkUnless};
 ghost use Rattle.std.specs.List.{reduce, remove, insert};
 ghost use Rattle.vpg_engine.specs.Faults.{UnlessStray};
 ghost use Rattle.vpg_script.specs.Answer.{IsGiven, done};
 ghost use Rattle.vpg_engine.specs.Answers.{numbered};
 ghost use Rattle.vpg_engine.specs.Engine.{IsPlaceOf};
-ghost use Rattle.vpg_engine.specs.Held.{undo_meant, redo_meant, harvest_kept};
+ghost use Rattle.vpg_engine.specs.Held.{undo_meant, redo_meant, harvest_kept, without};
 ghost use Rattle.vpg_engine.specs.Serials.{serials};
 
 use crate::fault::{Back, ClientFault};
@@ -46,6 +46,19 @@ pub(crate) fn redo_place<L: Terms>(redos: &[Redo<L>], serial: Option<u64>) -> Op
         Some(serial) => place_of_serial(redos, serial),
         None => place_of_serial(redos, redos.last()?.serial()),
     }
+}
+
+/// Takes out the token at the place that a command means.
+pub(crate) fn take<L: Terms, T: Kind>(tokens: &mut Vec<Token<L, T>>, place: usize) -> Token<L, T>
+    requires { (meant : Option ℕ) × IsPlaceOf meant (serials tokens.old.items) (Some place) }
+    ensures taken { (meant : Option ℕ) → IsPlaceOf meant (serials tokens.old.items) (Some place) →
+        (meant ≡ Some result.serial) ×
+        (serials tokens.new.items ≡ without result.serial (serials tokens.old.items)) }
+    ensures again { insert tokens.new.items place result ≡ tokens.old.items }
+    ensures place { place ≤ vec_len tokens.new }
+    ensures room { vec_len tokens.new < vec_capacity tokens.new }
+{
+    tokens.remove(place)
 }
 
 /// Holds a token, and writes its serial.

@@ -1,5 +1,5 @@
 //! The lines that answer commands.
-ghost use Rattle.std.specs.Prelude.{◌≡◌, ◌++◌, ◌∷◌, ◌<◌, ℕ, List, length, codes, IfOk, OnOk, IsErrOf, IsOkUnless};
+ghost use Rattle.std.specs.Prelude.{◌≡◌, ◌++◌, ◌∷◌, ◌<◌, ℕ, List, length, codes, IfOk, IsErrOf, IsOkUnless};
 ghost use Rattle.vpg_engine.specs.Answers.{full_log, numbered, own_of, own_text, refusal_text, settled_text};
 ghost use Rattle.vpg_engine.specs.Engine.{IsFaultWithin, IsNamedWithin, TellsFault};
 ghost use Rattle.vpg_script.specs.Answer.{IsGiven, done, refused};
@@ -118,24 +118,6 @@ fn full(out: &mut Vec<u8>) -> Result<Tone, ServeFault>
     ensures memory { IsOkUnless result ServeFault.Memory }
 {
     refused(b"LogFull", out)
-}
-
-/// Writes the answer to a line with a call that the desk never refuses: that the log is full. Other faults, `Memory`
-/// and `Stray`, are returned.
-pub(crate) fn put_unanswered<F: Drop>(
-    fault: ClientFault<F>,
-    out: &mut Vec<u8>,
-) -> Result<Tone, ServeFault>
-    ensures full { OnOk result (fault ≡ ClientFault.LogFull) }
-    ensures told { IfOk result (λ tone. IsGiven full_log tone out.old.items out.new.items) }
-    ensures strayed { IsErrOf result ServeFault.Stray →
-        ¬ (fault ≡ ClientFault.LogFull) × ¬ (fault ≡ ClientFault.Memory) }
-{
-    match fault {
-        ClientFault::LogFull => full(out),
-        ClientFault::Memory => Err(ServeFault::Memory),
-        _ => Err(ServeFault::Stray),
-    }
 }
 
 /// Writes the answer to a line with a call that is not made: the desk's refusal, or that the log is full.

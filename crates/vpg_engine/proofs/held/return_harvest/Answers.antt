@@ -1,5 +1,5 @@
 use Rattle.std.proofs.Common.{refl}
-use Rattle.vpg_engine.proofs.Enduring.{unless_stray_any}
+use Rattle.vpg_engine.proofs.Logged.{unless_stray_any}
 use Rattle.vpg_engine.proofs.held.return_harvest.Goals as goal
 
 pub returns-then-not-matches-clause-back : goal.returns-then-not-matches-clause-back

@@ -10,18 +10,11 @@ use Rattle.vpg_engine.specs.Serials.{serials}
 use Rattle.vpg_engine.specs.EngineFields.{engine_in}
 use Rattle.vpg_engine.proofs.Asked.{unasked_by}
 use Rattle.vpg_engine.proofs.Deciding.{called_none, called_some, change_refused, changes, named_within, on_changed_view, tells_means}
-use Rattle.vpg_engine.proofs.Enduring.{endures, stays, unless_stray}
-use Rattle.vpg_engine.proofs.Strays.{told_stray, on_seen, unstrayed}
+use Rattle.vpg_engine.proofs.Logged.{unless_stray}
 use Rattle.vpg_engine.proofs.engine.Engine.change.Goals as goal
 
 pub call-requires : goal.call-requires
 call-requires g c = record { takes = c.requires.takes c.in-Some.call }
-
-pub invariant_of-self-in-Ok : goal.invariant_of-self-in-Ok
-invariant_of-self-in-Ok g c =
-    let e = c.self.inside in
-    let step = c.in-Ok.ensures.accepted.step in
-    endures g.L.Terms.limit _ _ e.client.desk e.harvests.items c.self.invariant _ e.harvests.items step.game step.diagram c.self.invariant.harvests
 
 pub returns-in-Ok-clause-answer : goal.returns-in-Ok-clause-answer
 returns-in-Ok-clause-answer g c =
@@ -32,24 +25,13 @@ returns-in-Ok-clause-answer g c =
     (λ tone told. changes g.L.Terms.limit g.C.Refused.Refuses.refusal_of (g.C.Call.means c.in-Some.call) c.args.session c.self.invariant.room_is old _ c.args.out.now.items _ (g.C.Call.replies c.in-Ok.undo) c.in-Ok.undo.serial (c.requires.changes c.in-Ok.undo) c.in-Ok.ensures.accepted
     (ap holds (c.hold.ensures.held ∙ ap (λ (tokens : List Token). serials tokens ++ c.in-Ok.undo.serial ∷ []) c.reserve.ensures.items)) told) c.hold.ensures.told
 
-pub returns-in-Ok-clause-strayed : goal.returns-in-Ok-clause-strayed
-returns-in-Ok-clause-strayed g c = λ is. unstrayed c.hold.result _ c.hold.ensures.memory is
-
-pub invariant_of-self-in-Err : goal.invariant_of-self-in-Err
-invariant_of-self-in-Err g c =
-    let e = c.self.inside in
-    let told = tells_means g.L.Terms.limit g.C.Refused.Refuses.refusal_of (g.C.Call.means c.in-Some.call) c.args.session (λ r. call_of (g.C.Call.asks c.in-Some.call) (answer.Refused r)) (c.requires.means c.in-Some.call) e.client _ c.in-Err.field-0.fault c.in-Err.ensures.fault in
-    let same = stays g.L.Terms.limit g.C.Refused.Refuses.refusal_of e.client c.args.session (g.C.Call.means c.in-Some.call) _ _ told in
-    endures g.L.Terms.limit _ _ e.client.desk e.harvests.items c.self.invariant _ e.harvests.items same.0 same.1 c.self.invariant.harvests
-
 pub put_fault-requires : goal.put_fault-requires
 put_fault-requires g c =
     let e = c.self.inside in
     let old = engine_in e.client e.undos.items e.redos.items e.harvests.items e.seen.items in
     let told = tells_means g.L.Terms.limit g.C.Refused.Refuses.refusal_of (g.C.Call.means c.in-Some.call) c.args.session (λ r. call_of (g.C.Call.asks c.in-Some.call) (answer.Refused r)) (c.requires.means c.in-Some.call) e.client _ c.in-Err.field-0.fault c.in-Err.ensures.fault in
-    let same = stays g.L.Terms.limit g.C.Refused.Refuses.refusal_of e.client c.args.session (g.C.Call.means c.in-Some.call) _ _ told in
     named_within g.L.Terms.limit g.C.Refused.Refuses.refusal_of (g.C.Call.means c.in-Some.call) c.args.session old c.args.self.now _ c.in-Err.field-0.fault c.names.result.now c.self.view_is
-    (c.names.ensures ∙ ap (λ (d : NamedDiagram). d.names) same.1) (c.requires.named c.in-Some.call c.in-Some.is) told
+    (c.names.ensures ∙ ap (λ (d : NamedDiagram). d.names) c.call.ensures.diagram) (c.requires.named c.in-Some.call c.in-Some.is) told
 
 pub returns-in-Err-clause-answer : goal.returns-in-Err-clause-answer
 returns-in-Err-clause-answer g c =
@@ -63,19 +45,8 @@ returns-in-Err-clause-answer g c =
     (λ tone written. change_refused g.L.Terms.limit g.C.Refused.Refuses.refusal_of (g.C.Call.means c.in-Some.call) c.args.session c.self.invariant.room_is old _ c.args.out.now.items _ c.in-Err.field-0.fault c.names.result.now told
     stays_held c.names.ensures written) c.put_fault.ensures.told
 
-pub returns-in-Err-clause-strayed : goal.returns-in-Err-clause-strayed
-returns-in-Err-clause-strayed g c = λ is.
-    let e = c.self.inside in
-    let old = engine_in e.client e.undos.items e.redos.items e.harvests.items e.seen.items in
-    let told = tells_means g.L.Terms.limit g.C.Refused.Refuses.refusal_of (g.C.Call.means c.in-Some.call) c.args.session (λ r. call_of (g.C.Call.asks c.in-Some.call) (answer.Refused r)) (c.requires.means c.in-Some.call) e.client _ c.in-Err.field-0.fault c.in-Err.ensures.fault in
-    on_seen old _ c.args.session _ c.self.view_is
-    (told_stray g.L.Terms.limit g.C.Refused.Refuses.refusal_of e.client c.args.session (g.C.Call.means c.in-Some.call) _ c.in-Err.field-0.fault told (c.put_fault.ensures.strayed is))
-
 pub returns-in_default-clause-answer : goal.returns-in_default-clause-answer
 returns-in_default-clause-answer g c =
     let now = c.args.self.now in
     if_ok c.refused.result _ _
     (λ tone told. unasked_by now c.args.session _ (TellsChanged now.held) NoFeature c.args.out.now.items _ (called_none g.C.Call.means c.args.call c.in_default.not-Some) told) c.refused.ensures.told
-
-pub returns-in_default-clause-strayed : goal.returns-in_default-clause-strayed
-returns-in_default-clause-strayed g c = λ is. unstrayed c.refused.result _ c.refused.ensures.memory is

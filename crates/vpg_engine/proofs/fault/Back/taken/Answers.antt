@@ -1,11 +1,6 @@
 use Rattle.std.proofs.Common.{◌≡◌, subst}
-use Rattle.vpg_engine.specs.declared.fault.Back.{Back}
-use Rattle.vpg_engine.specs.declared.fault.Back.TheVariants as back
+use Rattle.vpg_engine.proofs.Logged.{one_kind}
 use Rattle.vpg_engine.proofs.fault.Back.taken.Goals as goal
-
--- a call was made, or not
-one_kind : {C G : Type 0} (b : Back C G) (given : G) (call : C) → b ≡ back.Given given → b ≡ back.Call call → ⊥
-one_kind b given call is other = absurd (cc (is, other))
 
 pub returns-in-Call-clause-back : goal.returns-in-Call-clause-back
 returns-in-Call-clause-back g c = λ call is.
