@@ -1,8 +1,8 @@
 -- The moves of a game that was made of a system and requirements, as moves of pairs of a state and a part.
-use Rattle.std.proofs.Common.{◌≡◌, ℕ, zero, suc, ◌<◌, ◌≤◌, ◌⊎◌, inl, inr, Bool, true, false, List, [], ◌∷◌, length, get_or, map, Contains, refl, sym, ap, ◌∙◌, subst, arith}
-use Rattle.std.specs.Prelude.{filter, ◌==◌, if◌then◌else◌}
+use Rattle.std.proofs.Common.{◌≡◌, ℕ, suc, ◌<◌, ◌≤◌, ◌⊎◌, inl, inr, Bool, true, false, cond, List, [], ◌∷◌, length, get_or, map, Contains, refl, sym, ap, ◌∙◌, subst, arith}
+use Rattle.std.specs.Prelude.{filter, ◌==◌}
 use Rattle.std.specs.List.{AllZip}
-use Rattle.std.proofs.lemmas.Bool.{cases_Bool, cases_lt, eqb-true, or_cases}
+use Rattle.std.proofs.lemmas.Bool.{cases_lt, eqb-true, or_cases}
 use Rattle.std.proofs.lemmas.List.{get_or-map, get_or_past, length-map}
 use Rattle.vpg_sides.specs.declared.player.Player.{Player}
 use Rattle.vpg_sides.specs.declared.player.Player.TheVariants.{Even}
@@ -21,12 +21,11 @@ use Rattle.vpg_sides.specs.declared.which.Which.{Which}
 use Rattle.vpg_sides.specs.declared.which.Which.TheVariants.{Hopeful, Dual}
 use Rattle.vpg_why.specs.Moves.{caution_for}
 use Rattle.vpg_requirement.specs.Building.{IsAlike, IsAlikeGame, IsAlikeVertex, join_edges}
-use Rattle.vpg_requirement.proofs.Steps.{mapped_contains}
 use Rattle.vpg_parts.specs.declared.part.Part.{Part}
 use Rattle.vpg_model.specs.Departures.{Departure, PairMove}
 use Rattle.vpg_model.specs.Pairs.{IsPairEdge, IsPairGame, IsPairRow, pair_at, pair_moves}
 use Rattle.vpg_checking.specs.Texts.{EachSet}
-use Rattle.vpg_trace.proofs.Moving.{filtered}
+use Rattle.vpg_checking.proofs.Lists.{zip_at, zip_length}
 
 abbrev Edge : Type 0
 Edge = GuardedEdge Guard
@@ -40,42 +39,13 @@ no_row = record { owner = Even; priority = 0; edges = [] }
 abbrev edges_at : GuardedGame Guard → ℕ → Edges
 edges_at game v = (get_or game v no_row).edges
 
--- ---- lists side by side
-
-zip_at : {A B : Type 0} (R : A → B → Type 0) (xs : List A) (ys : List B) (c : A) (d : B) (n : ℕ) → n < length ys →
-    AllZip R xs ys → R (get_or xs n c) (get_or ys n d)
-zip_at R [] [] c d n l h = absurd (omega arith)
-zip_at R [] (y ∷ ys) c d n l h = absurd h
-zip_at R (x ∷ xs) [] c d n l h = absurd h
-zip_at R (x ∷ xs) (y ∷ ys) c d zero l h = h.0
-zip_at R (x ∷ xs) (y ∷ ys) c d (suc n) l h = zip_at R xs ys c d n (omega arith) h.1
-
-zip_in : {A B : Type 0} (R : A → B → Type 0) (xs : List A) (ys : List B) (y : B) → AllZip R xs ys → Contains ys y →
-    (x : A) × Contains xs x × R x y
-zip_in R xs [] y h c = absurd (not_in_nil y c)
-zip_in R [] (b ∷ ys) y h c = absurd h
-zip_in {A} R (a ∷ xs) (b ∷ ys) y h c = at (Contains-cases b ys y c) (zip_in R xs ys y h.1)
-  where
-    at : (b ≡ y) ⊎ Contains ys y → (Contains ys y → (x : A) × Contains xs x × R x y) →
-        (x : A) × Contains (a ∷ xs) x × R x y
-    at (inl e) rest = (a, Contains-first a xs, subst (λ z. R a z) e h.0)
-    at (inr d) rest = let (x, there, r) = rest d in (x, Contains-later a xs x there, r)
-
-as_many : {A B : Type 0} (R : A → B → Type 0) (xs : List A) (ys : List B) → AllZip R xs ys → length ys ≡ length xs
-as_many R [] [] h = refl
-as_many R [] (y ∷ ys) h = absurd h
-as_many R (x ∷ xs) [] h = absurd h
-as_many R (x ∷ xs) (y ∷ ys) h = ap suc (as_many R xs ys h.1)
-
 -- ---- edges whose guards have a property
 
 module _ (P : Guard → Type 0) where
-  -- an edge that leads there, whose guard has it
-  pub record Leads (edges : Edges) (w : ℕ) : Type 0 where
-    pub edge : Edge
-    pub there : Contains edges edge
-    pub to : edge.to ≡ w
-    pub has : P edge.guard
+  -- an edge leads there, and its guard has it
+  abbrev pub Leads : Edges → ℕ → Type 0
+  Leads [] w = ⊥
+  Leads (e ∷ edges) w = (P e.guard × (e.to ≡ w)) ⊎ Leads edges w
 
   pub record EdgeAt (game : GuardedGame Guard) (v w : ℕ) : Type 0 where
     pub within : v < length game
@@ -91,131 +61,76 @@ module _ (P : Guard → Type 0) where
 
   -- of edges to the same vertex, one has it where the joined one does
   module _ (either_one : (g h : Guard) → P (either g h) → P g ⊎ P h) where
-    later : (x : Edge) (edges : Edges) (w : ℕ) → Leads edges w → Leads (x ∷ edges) w
-    later x edges w h = record {
-      edge = h.edge;
-      there = Contains-later x edges h.edge h.there;
-      to = h.to;
-      has = h.has;
-    }
-
-    abbrev joined_edge : Edge → Edge → Edge
-    joined_edge f x = record { to = f.to; guard = either f.guard x.guard }
-
-    join_yes : (f x : Edge) (fs : Edges) → (f.to == x.to) ≡ true → join_edge (f ∷ fs) x ≡ joined_edge f x ∷ fs
-    join_yes f x fs t = ap (λ (b : Bool). if b then joined_edge f x ∷ fs else f ∷ join_edge fs x) t
-
-    join_no : (f x : Edge) (fs : Edges) → (f.to == x.to) ≡ false → join_edge (f ∷ fs) x ≡ f ∷ join_edge fs x
-    join_no f x fs t = ap (λ (b : Bool). if b then joined_edge f x ∷ fs else f ∷ join_edge fs x) t
-
-    abbrev Either : Edges → Edge → Edge → Type 0
-    Either edges x e = Leads edges e.to ⊎ ((x.to ≡ e.to) × P x.guard)
-
-    joined_one : (edges : Edges) (x e : Edge) → Contains (join_edge edges x) e → P e.guard → Either edges x e
-    joined_one [] x e c has = at (Contains-cases x [] e c)
+    joined_one : (edges : Edges) (x : Edge) (w : ℕ) → Leads (join_edge edges x) w → Leads edges w ⊎ (P x.guard × (x.to ≡ w))
+    joined_one [] x w (inl h) = inr h
+    joined_one [] x w (inr none) = absurd none
+    joined_one (f ∷ fs) x w h = of (f.to == x.to) refl h (joined_one fs x w)
       where
-        at : (x ≡ e) ⊎ Contains [] e → Either [] x e
-        at (inl q) = inr (ap (λ (g : Edge). g.to) q, subst (λ (g : Edge). P g.guard) (sym q) has)
-        at (inr d) = absurd (not_in_nil e d)
-    joined_one (f ∷ fs) x e c has = at (cases_Bool (f.to == x.to)) (λ d. joined_one fs x e d has)
+        of : (b : Bool) → (f.to == x.to) ≡ b → Leads (cond b (record { to = f.to; guard = either f.guard x.guard } ∷ fs) (f ∷ join_edge fs x)) w →
+            (Leads (join_edge fs x) w → Leads fs w ⊎ (P x.guard × (x.to ≡ w))) → Leads (f ∷ fs) w ⊎ (P x.guard × (x.to ≡ w))
+        of true same (inl (has, to)) rest = elim (either_one f.guard x.guard has) [
+          | inl p ↦ inl (inl (p, to))
+          | inr p ↦ inr (p, sym (eqb-true f.to x.to same) ∙ to)
+        ]
+        of true same (inr h) rest = inl (inr h)
+        of false other (inl h) rest = inl (inl h)
+        of false other (inr h) rest = elim (rest h) [ inl k ↦ inl (inr k) | inr k ↦ inr k ]
+
+    joined_all : (named edges : Edges) (w : ℕ) → Leads (join_edges edges named) w → Leads edges w ⊎ Leads named w
+    joined_all [] edges w h = inl h
+    joined_all (x ∷ named) edges w h = of (joined_all named (join_edge edges x) w h)
       where
-        by_parts : f.to ≡ x.to → f.to ≡ e.to → P f.guard ⊎ P x.guard → Either (f ∷ fs) x e
-        by_parts same to (inl p) = inl (record { edge = f; there = Contains-first f fs; to = to; has = p })
-        by_parts same to (inr p) = inr (sym same ∙ to, p)
-
-        joined : f.to ≡ x.to → (joined_edge f x ≡ e) ⊎ Contains fs e → Either (f ∷ fs) x e
-        joined same (inl q) =
-            by_parts same (ap (λ (g : Edge). g.to) q)
-            (either_one f.guard x.guard (subst (λ (g : Edge). P g.guard) (sym q) has))
-        joined same (inr d) = inl (record { edge = e; there = Contains-later f fs e d; to = refl; has = has })
-
-        rest : Either fs x e → Either (f ∷ fs) x e
-        rest (inl h) = inl (later f fs e.to h)
-        rest (inr h) = inr h
-
-        apart : (Contains (join_edge fs x) e → Either fs x e) → (f ≡ e) ⊎ Contains (join_edge fs x) e →
-            Either (f ∷ fs) x e
-        apart again (inl q) = inl (record {
-          edge = f;
-          there = Contains-first f fs;
-          to = ap (λ (g : Edge). g.to) q;
-          has = subst (λ (g : Edge). P g.guard) (sym q) has;
-        })
-        apart again (inr d) = rest (again d)
-
-        at : ((f.to == x.to) ≡ true) ⊎ ((f.to == x.to) ≡ false) → (Contains (join_edge fs x) e → Either fs x e) →
-            Either (f ∷ fs) x e
-        at (inl t) again =
-            joined (eqb-true f.to x.to t)
-            (Contains-cases (joined_edge f x) fs e (subst (λ (es : Edges). Contains es e) (join_yes f x fs t) c))
-        at (inr t) again =
-            apart again (Contains-cases f (join_edge fs x) e (subst (λ (es : Edges). Contains es e) (join_no f x fs t) c))
-
-    joined_all : (edges named : Edges) (e : Edge) → Contains (join_edges edges named) e → P e.guard →
-        Leads edges e.to ⊎ Leads named e.to
-    joined_all edges [] e c has = inl (record { edge = e; there = c; to = refl; has = has })
-    joined_all edges (x ∷ named) e c has = at (joined_all (join_edge edges x) named e c has)
-      where
-        split : (w : ℕ) (h : Leads (join_edge edges x) w) → Either edges x h.edge → Leads edges w ⊎ Leads (x ∷ named) w
-        split w h (inl k) = inl (record { edge = k.edge; there = k.there; to = k.to ∙ h.to; has = k.has })
-        split w h (inr k) = inr (record { edge = x; there = Contains-first x named; to = k.0 ∙ h.to; has = k.1 })
-
-        at : Leads (join_edge edges x) e.to ⊎ Leads named e.to → Leads edges e.to ⊎ Leads (x ∷ named) e.to
-        at (inl h) = split e.to h (joined_one edges x h.edge h.there h.has)
-        at (inr h) = inr (later x named e.to h)
-
-    named_edge : (named : Edges) (e : Edge) → Contains (join_edges [] named) e → P e.guard → Leads named e.to
-    named_edge named e c has = at (joined_all [] named e c has)
-      where
-        at : Leads [] e.to ⊎ Leads named e.to → Leads named e.to
-        at (inl h) = absurd (not_in_nil h.edge h.there)
-        at (inr h) = h
+        of : Leads (join_edge edges x) w ⊎ Leads named w → Leads edges w ⊎ Leads (x ∷ named) w
+        of (inl h) = elim (joined_one edges x w h) [ inl k ↦ inl k | inr k ↦ inr (inl k) ]
+        of (inr h) = inr (inr h)
 
     -- ---- the move of an edge
 
     module _ (states : List (List Departure)) (sets : List (List Bool)) (parts : List Part)
         (roots pairs : List (ℕ × ℕ)) (vertices : List ℕ) (built : GuardedGame Guard)
         (is : IsPairGame states sets parts roots pairs vertices built) (v w : ℕ) where
+      move_of : (moves : List PairMove) (named : Edges) → AllZip (IsPairEdge pairs) moves named → Leads named w →
+          (move : PairMove) × Contains moves move × P move.guard × (move.to ≡ pair_at pairs w)
+      move_of moves [] each h = absurd h
+      move_of [] (e ∷ named) each h = absurd each
+      move_of (m ∷ moves) (e ∷ named) each (inl (has, to)) =
+          (m, Contains-first m moves, subst P each.0.guard has, sym each.0.target ∙ ap (pair_at pairs) to)
+      move_of (m ∷ moves) (e ∷ named) each (inr h) =
+          let (n, there, has, to) = move_of moves named each.1 h in (n, Contains-later m moves n there, has, to)
+
       of_edge : EdgeAt built v w → MoveBetween states sets parts (pair_at pairs v) (pair_at pairs w)
       of_edge edge =
-          let row = zip_at (IsPairRow states sets parts pairs) pairs built (0, 0) no_row v edge.within is.built in
-          let found = named_edge row.edges.named edge.leads.edge
-          (subst (λ (es : Edges). Contains es edge.leads.edge) row.edges.joined edge.leads.there) edge.leads.has in
-          let (move, there, fits) =
-          zip_in (IsPairEdge pairs) (pair_moves states sets parts (pair_at pairs v)) row.edges.named found.edge
-          row.edges.each found.there in
-          record {
-            move = move;
-            there = there;
-            has = subst P fits.guard found.has;
-            to_is = sym fits.target ∙ ap (pair_at pairs) (found.to ∙ edge.leads.to);
-          }
+          let within : v < length pairs = omega (arith, edge.within, zip_length (IsPairRow states sets parts pairs) pairs built is.built) in
+          let row = zip_at (IsPairRow states sets parts pairs) pairs built v (0, 0) no_row within is.built in
+          let named : Leads row.edges.named w = elim (joined_all row.edges.named [] w (subst (λ (es : Edges). Leads es w) row.edges.joined edge.leads)) [
+            | inl none ↦ absurd none
+            | inr h ↦ h
+          ] in
+          let (move, there, has, to) = move_of (pair_moves states sets parts (pair_at pairs v)) row.edges.named row.edges.each named in
+          record { move = move; there = there; has = has; to_is = to }
 
       -- also if the guards are written otherwise
       module _ (as_true : (g h : Guard) → ((set : List Bool) → truth set h ≡ truth set g) → P h → P g)
           (game : GuardedGame Guard) (alike : IsAlikeGame EachSet built game) where
-        edge_before : EdgeAt game v w → EdgeAt built v w
-        edge_before edge =
-            let vertex = zip_at (IsAlikeVertex EachSet) built game no_row no_row v edge.within alike in
-            let (e, there, same) =
-            zip_in (IsAlike EachSet) (edges_at built v) (edges_at game v) edge.leads.edge vertex.edges
-            edge.leads.there in
-            record {
-              within = omega (arith, edge.within, as_many (IsAlikeVertex EachSet) built game alike);
-              leads = record {
-                edge = e;
-                there = there;
-                to = sym same.to ∙ edge.leads.to;
-                has = as_true e.guard edge.leads.edge.guard (λ set. same.guard set tt) edge.leads.has;
-              };
-            }
+        before : (xs ys : Edges) → AllZip (IsAlike EachSet) xs ys → Leads ys w → Leads xs w
+        before xs [] each h = absurd h
+        before [] (e ∷ ys) each h = absurd each
+        before (d ∷ xs) (e ∷ ys) each (inl (has, to)) =
+            inl (as_true d.guard e.guard (λ set. each.0.guard set tt) has, sym each.0.to ∙ to)
+        before (d ∷ xs) (e ∷ ys) each (inr h) = inr (before xs ys each.1 h)
 
         pub of_alike : EdgeAt game v w → MoveBetween states sets parts (pair_at pairs v) (pair_at pairs w)
-        of_alike edge = of_edge (edge_before edge)
+        of_alike edge =
+            let within : v < length built = omega (arith, edge.within, zip_length (IsAlikeVertex EachSet) built game alike) in
+            let vertex = zip_at (IsAlikeVertex EachSet) built game v no_row no_row within alike in
+            of_edge (record { within = within; leads = before (edges_at built v) (edges_at game v) vertex.edges edge.leads })
 
   -- ---- edges of plain games
 
   module _ (keeps : Player → Guard → Bool) (kept : (player : Player) (g : Guard) → keeps player g ≡ true → P g) where
+    abbrev chosen : Player → Edges → Edges
+    chosen owner edges = filter (λ (edge : Edge). keeps owner edge.guard) edges
+
     abbrev plain : GuardedVertex Guard → Vertex
     plain vertex = record {
       owner = vertex.owner;
@@ -226,18 +141,23 @@ module _ (P : Guard → Type 0) where
     pub in_plain : (game : GuardedGame Guard) (v w : ℕ) → HasEdge (restrict keeps game) v w → EdgeAt game v w
     in_plain game v w c = at (cases_lt v (length game))
       where
-        from_row : (vertex : GuardedVertex Guard) → Contains (plain vertex).successors w → Leads vertex.edges w
-        from_row vertex d =
-            let (e, there, to) =
-            mapped_contains (λ (edge : Edge). edge.to) (filter (λ edge. keeps vertex.owner edge.guard) vertex.edges)
-            w d in
-            let h = filtered (λ (edge : Edge). keeps vertex.owner edge.guard) vertex.edges e there in
-            record { edge = e; there = h.0; to = to; has = kept vertex.owner e.guard h.1 }
+        from_row : (owner : Player) (edges : Edges) →
+            Contains (map (λ (edge : Edge). edge.to) (chosen owner edges)) w → Leads edges w
+        from_row owner [] d = absurd (not_in_nil w d)
+        from_row owner (e ∷ edges) d = of (keeps owner e.guard) refl d (from_row owner edges)
+          where
+            of : (b : Bool) → keeps owner e.guard ≡ b → Contains (map (λ (edge : Edge). edge.to) (cond b (e ∷ chosen owner edges) (chosen owner edges))) w →
+                (Contains (map (λ (edge : Edge). edge.to) (chosen owner edges)) w → Leads edges w) → Leads (e ∷ edges) w
+            of true has d more = elim (Contains-cases e.to (map (λ (edge : Edge). edge.to) (chosen owner edges)) w d) [
+              | inl to ↦ inl (kept owner e.guard has, to)
+              | inr k ↦ inr (more k)
+            ]
+            of false has d more = inr (more d)
 
         at : (v < length game) ⊎ (length game ≤ v) → EdgeAt game v w
         at (inl l) = record {
           within = l;
-          leads = from_row (get_or game v no_row)
+          leads = from_row (get_or game v no_row).owner (edges_at game v)
               (subst (λ (vertex : Vertex). Contains vertex.successors w) (get_or-map plain game v no_row isolated l) c);
         }
         at (inr g) =

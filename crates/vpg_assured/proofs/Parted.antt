@@ -1,8 +1,8 @@
 -- The answers of a run to `winners` part products by requirements.
-use Rattle.std.proofs.Common.{◌≡◌, ℕ, ◌<◌, ◌⊎◌, inl, inr, Bool, List, [], ◌∷◌, Option, Some, None, Ok, Err, length, subst}
+use Rattle.std.proofs.Common.{◌≡◌, ℕ, ◌<◌, ◌⊎◌, inl, inr, Bool, List, Option, Some, length, subst}
 use Rattle.std.specs.Prelude.{slice_index}
-use Rattle.std.specs.List.{AllByRecursion}
 use Rattle.vpg_diagram.specs.DiagramText.{NamedDiagram}
+use Rattle.vpg_diagram.proofs.Lists.{All-implies}
 use Rattle.vpg_game.specs.Game.{NamedGame, graph_of}
 use Rattle.vpg_trail.specs.Page.{Entry, choices_of, decisions_of}
 use Rattle.vpg_desk.specs.Book.{Book}
@@ -13,17 +13,15 @@ use Rattle.vpg_winners.specs.Joined.{PartView}
 use Rattle.vpg_winners.specs.Winners.{IsExactPart, IsWonAs}
 use Rattle.vpg_script.specs.declared.look.VertexLook.TheVariants as vertex_looks
 use Rattle.vpg_script.specs.Script as script
-use Rattle.vpg_script.specs.Script.{Request, Said, said}
 use Rattle.vpg_script.specs.Answer.{Answer, IsDone}
-use Rattle.vpg_script.specs.Output.{Speaks, Answered}
 use Rattle.vpg_texts.specs.Scene.{Scene, scene_of}
 use Rattle.vpg_looks.specs.Answers.{TellsWinners}
 use Rattle.vpg_engine.specs.Answers.{vertex_of, answer_limits}
-use Rattle.vpg_engine.specs.Requests.{Serves}
 use Rattle.vpg_engine.specs.Line.{Between, begun}
 use Rattle.vpg_report.specs.Run.{answering, as_meant}
 use Rattle.vpg_report.specs.Winners.{IsRefusal}
-use Rattle.vpg_assured.specs.Parted.{IsPartTrueOf, PartsProducts, PartsSpeakOfRequirements, parting, winners_of}
+use Rattle.vpg_report.proofs.Histories.{answered_as}
+use Rattle.vpg_assured.specs.Parted.{IsPartTrueOf, PartsProducts, PartsSpeakOfRequirements, parting}
 use Rattle.vpg_assured.proofs.Replied.{IsReplied, served}
 
 module _ (labels : List (List ℕ)) (game : NamedGame) (diagram : NamedDiagram) (system_text requirements_text roots : List ℕ)
@@ -47,16 +45,12 @@ module _ (labels : List (List ℕ)) (game : NamedGame) (diagram : NamedDiagram) 
       λ lost. (made.model.decided n below set).lost.1 (subst (λ (w : Winner). IsWonAs (graph_of game) w root set) lost (exact set remains within)),
     )
 
-    parts_true : (parts : List PartView) → AllByRecursion IsExact parts → AllByRecursion (IsPartTrueOf scene page Holds) parts
-    parts_true [] all = tt
-    parts_true (p ∷ parts) all = (part_true p all.0, parts_true parts all.1)
-
     parts_products : (text : List ℕ) → TellsWinners scene answer_limits root (decisions_of page) text → PartsProducts scene page root Holds text
     parts_products text so = record {
       parts = so.0;
       counts = so.1;
       partition = so.2.partition;
-      true_of = parts_true so.0 so.2.exact;
+      true_of = All-implies IsExact (IsPartTrueOf scene page Holds) so.0 part_true so.2.exact;
       text_is = so.4;
     }
 
@@ -68,30 +62,15 @@ module _ (labels : List (List ℕ)) (game : NamedGame) (diagram : NamedDiagram) 
       let same : a.0 ≡ slice_index roots n = cc (a.1, at) in
       inr (a.4.tells.0, parts_products book.present n below answer.text (subst (λ (v : ℕ). TellsWinners scene answer_limits v (decisions_of book.present) answer.text) same a.4.tells.1))
 
-  -- ---- lines
-
-  module _ (behaviour : Option Behaviour) (lifters : ℕ) (meaning : Request → Request) where
-    line : (old : Between) (s : Said) (answer : Answer) (new : Between) →
-        Speaks (as_meant meaning (answering behaviour scene lifters)) old s answer new →
-        Speaks (as_meant meaning (parting behaviour scene lifters made.system made.entries roots)) old s answer new
-    line old (Ok None) answer new so = so
-    line old (Ok (Some request)) answer new so = (
-      so,
-      λ named n is below at.
-          speaks behaviour old.book named answer n below at
-          (served behaviour labels game diagram vertex_looks.Winners old.book named answer old.held old.calls (meaning request).label so.0.0 new.held so.0.1.1
-          (subst (λ (command : script.Command). Serves behaviour scene old.held old.calls
-          (record { label = (meaning request).label; command = command }) so.0.0 answer new.held) is so.0.1.0)),
-    )
-    line old (Err fault) answer new so = absurd so
-
-    lines_part : (old : Between) (lines : List (List ℕ)) (answers : List Answer) (new : Between) →
-        Answered (as_meant meaning (answering behaviour scene lifters)) old lines answers new →
-        Answered (as_meant meaning (parting behaviour scene lifters made.system made.entries roots)) old lines answers new
-    lines_part old [] answers new so = so
-    lines_part old (l ∷ ls) answers new so =
-        (so.0, so.1, so.2, line old (said l) so.1 so.0 so.3, so.4, lines_part so.0 ls so.2 new so.5)
-
 pub parts_speak_of_requirements : PartsSpeakOfRequirements
 parts_speak_of_requirements meaning behaviour labels game diagram system_text requirements_text roots made lifters lines answers new answered =
-    lines_part labels game diagram system_text requirements_text roots made behaviour lifters meaning begun lines answers new answered
+    let scene : Scene = scene_of labels game diagram in
+    answered_as (as_meant meaning (answering behaviour scene lifters)) (as_meant meaning (parting behaviour scene lifters made.system made.entries roots)) (λ (old : Between). Unit {0})
+    (λ old request answer next here so. (
+      tt,
+      (
+        so,
+        λ named n is below at. speaks labels game diagram system_text requirements_text roots made behaviour old.book named answer n below at
+            (served behaviour labels game diagram vertex_looks.Winners old next lifters (meaning request) named answer is so),
+      ),
+    )) begun lines answers new tt answered

@@ -20,7 +20,7 @@ use Rattle.vpg_system.specs.SystemText as texts
 use Rattle.vpg_requirement.specs.Systems.{Transition}
 use Rattle.vpg_requirement.proofs.Steps.{mapped_contains}
 use Rattle.vpg_parts.specs.declared.part.Part.{Part}
-use Rattle.vpg_parts.specs.declared.part.Part.TheVariants.{True, False, And, Or, SomeStep, EveryStep, Fixpoint, Variable}
+use Rattle.vpg_parts.specs.declared.part.Part.TheVariants.{True, False, And, Or, SomeStep, EveryStep, Fixpoint}
 use Rattle.vpg_parts.specs.Parts.{part_at, resolved_part}
 use Rattle.vpg_parts.specs.Sets.{is_permitted}
 use Rattle.vpg_model.specs.Departures.{Departure, PairMove}
@@ -45,12 +45,7 @@ use Rattle.vpg_assured.proofs.Moved.{Any, MoveBetween, TrueIn}
 is_at : (s k : ℕ) (part : Part) → IsAt s (pair_by s k part)
 is_at s k True = inr (inl refl)
 is_at s k False = inr (inr refl)
-is_at s k (And a b) = inl refl
-is_at s k (Or a b) = inl refl
-is_at s k (SomeStep x a) = inl refl
-is_at s k (EveryStep x a) = inl refl
-is_at s k (Fixpoint kind p b) = inl refl
-is_at s k (Variable m) = inl refl
+is_at s k _ = inl refl
 
 pair_is_at : (parts : List Part) (s k : ℕ) → IsAt s (pair_for parts s k)
 pair_is_at parts s k = is_at s k (part_at parts k)
@@ -158,8 +153,6 @@ module _ (scene : Scene) (page : List Entry) (system : NamedSystem) (known : Lis
 
       no_step : (part : Part) (move : PairMove) → Contains (moves_by states sets parts s part) move → move.to ≡ to →
           InProducts part → taken_at known states sets parts s part to ≡ None → Unreported v w part
-      no_step True move c e has none = absurd (not_in_nil move c)
-      no_step False move c e has none = absurd (not_in_nil move c)
       no_step (And a b) move c e has none =
           inl (λ x y h. h, stays_at_two (pair_for parts s a) (pair_for parts s b) move (pair_is_at parts s a) (pair_is_at parts s b) c e)
       no_step (Or a b) move c e has none =
@@ -170,7 +163,7 @@ module _ (scene : Scene) (page : List Entry) (system : NamedSystem) (known : Lis
           let (m, there, holds, to_is) = has set remains edge in none_left x a none set remains m there holds to_is)
       no_step (Fixpoint kind p b) move c e has none =
           inl (λ x y h. h, stays_at_one (pair_for parts s b) move (pair_is_at parts s b) c e)
-      no_step (Variable m) move c e has none = absurd (not_in_nil move c)
+      no_step _ move c e has none = absurd (not_in_nil move c)
 
   -- ---- a visit
 

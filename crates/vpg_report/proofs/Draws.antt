@@ -1,16 +1,12 @@
 -- Pages that scripts leave, drawn.
 use Rattle.std.proofs.Common.{◌≡◌, inr, ℕ, ◌<◌, List, length, map, Option, Some, None, Result, Ok, sym, ap, subst, ◌∙◌, []}
 use Rattle.std.specs.Prelude.{IfOk, IfSome}
-use Rattle.std.proofs.lemmas.Result.{IfOk-weaker}
 use Rattle.vpg_diagram.specs.DiagramText.{NamedDiagram}
-use Rattle.vpg_game.specs.Game.{NamedGame, graph_of}
+use Rattle.vpg_game.specs.Game.{NamedGame}
 use Rattle.vpg_diagram.specs.FeatureDiagram.{feature_count}
 use Rattle.vpg_measure.specs.Orders.{OrderView, IsOrder}
-use Rattle.vpg_texts.specs.Changed.{verdicts_by}
-use Rattle.vpg_trail.specs.Page.{Decision, literal_of}
-use Rattle.vpg_sides.specs.declared.verdict.Verdict.{Verdict}
+use Rattle.vpg_trail.specs.Page.{literal_of}
 use Rattle.vpg_script.specs.declared.serving.Ending.{Ending}
-use Rattle.vpg_family.specs.Pages.{IsPageDrawn}
 use Rattle.vpg_family.specs.Systems.{IsSystemFault, IsSystemOn}
 use Rattle.vpg_family.specs.declared.drawing.Subject.{Subject}
 use Rattle.vpg_family.specs.declared.known.Context.{Context}
@@ -24,7 +20,7 @@ use Rattle.vpg_script.specs.declared.look.Look.{Look}
 use Rattle.vpg_script.specs.declared.look.VertexLook.{VertexLook}
 use Rattle.vpg_script.specs.declared.look.VertexLook.TheVariants as vertex_looks
 use Rattle.vpg_checking.specs.Behaviours.{Behaviour}
-use Rattle.vpg_trace.specs.Answering.{Page, page_of}
+use Rattle.vpg_trace.specs.Answering.{Page}
 use Rattle.vpg_system_draw.specs.Traced.{Trail}
 use Rattle.vpg_steps.specs.Steps.{FindsPath}
 use Rattle.vpg_texts.specs.Scene.{Scene, scene_of}
@@ -34,9 +30,9 @@ use Rattle.vpg_answers.specs.declared.topic.Missing.{Missing}
 use Rattle.vpg_answers.specs.declared.topic.Topic as code
 use Rattle.vpg_answers.specs.declared.topic.Topic.TheVariants as topics
 use Rattle.vpg_engine.specs.Answers.{answer_limits}
-use Rattle.vpg_report.specs.Draws.{tracing_line, AsksTrace, FindsTrail, IsDrawnAfter, IsDrawnOn, IsSystemDrawnAfter, IsSystemUndrawnAfter, IsTracedAfter, IsTracedOn, LineAsksTrace, RequestAsksTrace}
+use Rattle.vpg_report.specs.Draws.{tracing_line, AsksTrace, FindsTrail, IsDrawnAfter, IsDrawnOn, IsSystemDrawnAfter, IsSystemUndrawnAfter, IsTracedAfter, IsTracedOn, RequestAsksTrace}
 use Rattle.vpg_report.specs.Left.{IsLeft}
-use Rattle.vpg_report.specs.Run.{Called, called_in}
+use Rattle.vpg_report.specs.Run.{called_in}
 
 module _ (diagram : NamedDiagram) (game : NamedGame) (context : Context) (script : List ℕ) (ending : Ending) (order : OrderView) (is : IsLeft diagram game context script ending (Some order)) where
   pub drawn : (subject : Subject) (diagram_text game_text picture : List ℕ) → IsDrawnOn subject order.diagram order.game order.decisions order.hopeful order.dual diagram_text game_text picture →
@@ -59,13 +55,6 @@ module _ (diagram : NamedDiagram) (game : NamedGame) (context : Context) (script
       let of = is.2 in
       (is.0, is.1, coe 0 1 (i. IsTracedOn (called_in (of.game_is i) (of.diagram_is i) context) (of.diagram_is i) (of.decisions_are i) (of.hopeful_is i) (of.dual_is i) system_text (same i) picture) on)
 
--- a page that is drawn with its verdicts
-pub pictured : (subject : Subject) (diagram : NamedDiagram) (game : NamedGame) (decisions : List Decision) (hopeful dual : List ℕ) (verdicts : List Verdict) (diagram_text game_text picture : List ℕ) →
-    IsPageDrawn subject diagram game (map literal_of decisions) verdicts diagram_text game_text picture → verdicts ≡ verdicts_by (graph_of game) hopeful dual →
-    IsDrawnOn subject diagram game decisions hopeful dual diagram_text game_text picture
-pictured subject diagram game decisions hopeful dual verdicts diagram_text game_text picture is same =
-    subst (λ (v : List Verdict). IsPageDrawn subject diagram game (map literal_of decisions) v diagram_text game_text picture) same is
-
 -- ---- lines that ask for a trace
 
 -- a request asks as it is meant, also where the game and the diagram are copies
@@ -74,10 +63,6 @@ pub request_asks : (context : Context) (game other : NamedGame) (diagram seen : 
 request_asks context game other diagram seen names request said vertex g d n s is =
     let same : said ≡ meant context.callings diagram.names request = s ∙ ap (λ (fs : List (List ℕ)). meant context.callings fs request) n in
     coe 0 1 (k. AsksTrace context.behaviour (scene_of [] (g k) (d k)) (same k).command vertex) is
-
--- and a line by its request
-pub line_asks : {E : Type 0} (called : Called) (line : List ℕ) (request : Request) (found : Result ℕ E) → said line ≡ Ok (Some request) → IfOk found (RequestAsksTrace called request) → IfOk found (LineAsksTrace called line)
-line_asks called line request found says asks = IfOk-weaker found (RequestAsksTrace called request) (LineAsksTrace called line) (λ vertex is. (request, (says, is))) asks
 
 -- a command that asks for a trace, by places
 pub trace_asked : (behaviour : Option Behaviour) (scene : Scene) (command : Command) (look : Look) (topic : code.Topic) (what : VertexLook) (vertex : ℕ) (found : Result code.Topic Missing) → command ≡ asking.Look look →
@@ -118,9 +103,3 @@ pub trail_found : (behaviour : Option Behaviour) (made : Behaviour) (page : Page
     FindsTrail behaviour page vertex trail
 trail_found behaviour made page vertex found trail some is finds =
     subst (λ (b : Option Behaviour). FindsTrail b page vertex trail) (sym some) (subst (λ (f : Option Trail). FindsPath page made answer_limits vertex f) is finds)
-
--- the page of an order with the marks of a path
-pub traced : (order : OrderView) (context : Context) (system_text line picture : List ℕ) (vertex : ℕ) (trail : Trail) → LineAsksTrace (called_in order.game order.diagram context) line vertex →
-    FindsTrail context.behaviour (page_of order) vertex trail → IsSystemOn order.diagram (map literal_of order.decisions) system_text (Some trail) picture →
-    IsTracedOn (called_in order.game order.diagram context) order.diagram order.decisions order.hopeful order.dual system_text line picture
-traced order context system_text line picture vertex trail asks finds on = record { vertex = vertex; asked = asks; trail = trail; found = finds; drawn = on }

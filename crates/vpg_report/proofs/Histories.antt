@@ -1,43 +1,40 @@
 -- The calls of answered lines make a history.
-use Rattle.std.proofs.Common.{◌≡◌, ℕ, zero, suc, ◌+◌, ◌-◌, Bool, true, false, List, [], ◌∷◌, ◌++◌, length, Option, Some, None, Result, Ok, Err, refl, sym, ap, ◌∙◌, inl, inr, arith, append_assoc, append-nil, length-append, subst}
-use Rattle.std.specs.Prelude.{IfSome, if◌then◌else◌, slice_set}
+use Rattle.std.proofs.Common.{◌≡◌, ℕ, zero, suc, ◌+◌, ◌-◌, Bool, true, false, List, [], ◌∷◌, ◌++◌, length, Option, Some, None, Result, Ok, Err, refl, sym, ap, ◌∙◌, inl, inr, arith, length-append, subst}
+use Rattle.std.specs.Prelude.{IfOk, IfSome, ◌⊎◌, if◌then◌else◌, codes, slice_set, ⊤}
 use Rattle.std.specs.List.{AllByRecursion}
+use Rattle.vpg_diagram.proofs.Lists.{All-append}
 use Rattle.vpg_features.specs.Names.{index_of}
-use Rattle.vpg_trail.specs.Page.{Which, Entry}
-use Rattle.vpg_desk.specs.Book.{Family, Book, Harvest, next, Call, Decide, Retract, Reset, Undo, Redo, Keep, Forget, Order, Commit, Settled, Page, Reply, Changed, Undone, Redone, Spent, Ordered, Added, IsSettled, VerdictIs, PageIs, Refused}
-use Rattle.vpg_desk.specs.History.{Event, IsLegalFrom, book_after}
+use Rattle.vpg_trail.specs.Page.{Decision, Hopeful, Dual, decisions_of, table_of}
+use Rattle.vpg_desk.specs.Book.{Family, Book, Harvest, next, opened, Call, Decide, Retract, Undo, Redo, Keep, Forget, Order, Commit, Settled, Page, Reply, Changed, Undone, Redone, Spent, Ordered, Added, IsSettled, PageIs, Refused, IsReply}
+use Rattle.vpg_desk.specs.History.{Event, IsLegal, IsLegalFrom, book_after}
 use Rattle.vpg_desk.specs.Desk.{family_of}
 use Rattle.vpg_desk.specs.Lawful.{IsLawful, HandsIn, AllHandIn}
+use Rattle.vpg_desk.proofs.UndoRedo.{book_after-append}
 use Rattle.vpg_script.specs.Script as script
 use Rattle.vpg_script.specs.Script.{Said, Request, said}
 use Rattle.vpg_script.specs.Answer.{Answer}
-use Rattle.vpg_script.specs.Output.{Speaks, Answered}
+use Rattle.vpg_script.specs.Output.{Machine, Speaks, Answered}
 use Rattle.vpg_engine.specs.Held.{Held, undo_meant, redo_meant, harvest_kept, after_change, after_undo, after_redo, after_keep, after_forget, with_harvest, without_harvest, with_seen}
 use Rattle.vpg_texts.specs.Scene.{Scene}
-use Rattle.vpg_engine.specs.Answers.{Own, NoFeature, NoToken, NoHarvest, NoVertex, vertex_of, call_or, full_log, Rest, Ends, Follows, Makes, Asks, TellsSettled, AsksSettled, TellsAdded, Sweeps, Keeps, Lifts, TellsChanged, TellsUndone, TellsRedone, TellsSpent, verdicts_on, TellsVerdicts}
-use Rattle.vpg_engine.specs.Requests.{call_for, call_or_missing, first_call, TellsLook, Continues, Begins, Serves}
+use Rattle.vpg_engine.specs.Answers.{Own, NoFeature, NoToken, NoHarvest, NoVertex, vertex_of, call_or, full_log, refusal_text, sweeps_of, Rest, Ends, Follows, Makes, Asks, TellsSettled, AsksSettled, TellsAdded, Sweeps, Keeps, Lifts, verdicts_on}
+use Rattle.vpg_engine.specs.Requests.{call_or_missing, first_call, sight_on, TellsSight, Continues, Begins, Serves}
+use Rattle.vpg_looks.specs.Meanings.{Sight, ordered_sight}
 use Rattle.vpg_checking.specs.Behaviours.{Behaviour}
 use Rattle.vpg_answers.specs.Topics.{Topic, takes_order, topic_of}
 use Rattle.vpg_answers.specs.declared.topic.Missing.{Missing}
 use Rattle.vpg_engine.specs.Line.{Between, begun}
-use Rattle.vpg_report.specs.Run.{calling, answering, as_meant, Asked, asking, AnswersAreHistories}
+use Rattle.vpg_report.specs.Run.{answering, as_meant, Asked, asking, AnswersAreHistories}
+use Rattle.vpg_report.specs.Winners.{IsRefusal}
 use Rattle.vpg_engine.specs.Setting.{setting_in}
 
--- ---- lists of events
+abbrev pub family_in : Scene → Family
+family_in scene = family_of (setting_in scene)
 
-pub legal_more : (family : Family) (book : Book) (events more : List Event) → IsLegalFrom family book events → IsLegalFrom family (book_after family book events) more → IsLegalFrom family book (events ++ more)
+legal_more : (family : Family) (book : Book) (events more : List Event) → IsLegalFrom family book events → IsLegalFrom family (book_after family book events) more → IsLegalFrom family book (events ++ more)
 legal_more family book [] more first rest = rest
 legal_more family book (e ∷ events) more first rest = (first.0, legal_more family (next family book e.session e.call e.reply) events more first.1 rest)
 
-pub after_more : (family : Family) (book : Book) (events more : List Event) → book_after family book (events ++ more) ≡ book_after family (book_after family book events) more
-after_more family book [] more = refl
-after_more family book (e ∷ events) more = after_more family (next family book e.session e.call e.reply) events more
-
-pub all_more : {X : Type 0} (P : X → Type 0) (xs ys : List X) → AllByRecursion P xs → AllByRecursion P ys → AllByRecursion P (xs ++ ys)
-all_more P [] ys first rest = rest
-all_more P (x ∷ xs) ys first rest = (first.0, all_more P xs ys first.1 rest)
-
--- ---- lawful harvests alone are handed in
+-- ---- the harvests that are kept
 
 module _ (L : Harvest → Type 0) where
   -- all that are kept are lawful
@@ -55,235 +52,274 @@ module _ (L : Harvest → Type 0) where
   gone_lawful (h ∷ harvests) zero all = (tt, all.1)
   gone_lawful (h ∷ harvests) (suc k) all = (all.0, gone_lawful harvests k all.1)
 
-  -- what the calls hand in is lawful, and so is what is kept then
-  abbrev IsFine : Rest → Type 0
-  IsFine R = (calls : List Event) (answer : Answer) (new : Held) → R calls answer new → AllHandIn L calls × AreLawful new.harvests
+-- ---- a call
 
-  ends : (given : Answer) (held : Held) → AreLawful held.harvests → IsFine (Ends given held)
-  ends given held all calls answer new so =
-      (subst (λ (es : List Event). AllHandIn L es) (sym so.0) tt, subst (λ (h : Held). AreLawful h.harvests) (sym so.2) all)
+abbrev pub event : ℕ → Call → Reply → Event
+event label call reply = record { session = label; call = call; reply = reply }
 
-  module _ (scene : Scene) (held : Held) (all : AreLawful held.harvests) where
-    follows : (P : Reply → Rest) → ((reply : Reply) → IsFine (P reply)) → (reply : Reply) → IsFine (Follows scene held P reply)
-    follows P fine (Refused r) calls answer new so = ends _ held all calls answer new so
-    follows P fine (Changed s) calls answer new so = fine (Changed s) calls answer new so
-    follows P fine (Undone s) calls answer new so = fine (Undone s) calls answer new so
-    follows P fine (Redone s) calls answer new so = fine (Redone s) calls answer new so
-    follows P fine Spent calls answer new so = fine Spent calls answer new so
-    follows P fine (Ordered d h u) calls answer new so = fine (Ordered d h u) calls answer new so
-    follows P fine (Added n) calls answer new so = fine (Added n) calls answer new so
-    follows P fine (IsSettled b) calls answer new so = fine (IsSettled b) calls answer new so
-    follows P fine (VerdictIs a b) calls answer new so = fine (VerdictIs a b) calls answer new so
-    follows P fine (PageIs page) calls answer new so = fine (PageIs page) calls answer new so
+-- an order's reply tells of the present page
+pub ordered_is : (family : Family) (book : Book) (decisions : List Decision) (hopeful dual : List ℕ) → IsReply family book Order (Ordered decisions hopeful dual) →
+    (decisions ≡ decisions_of book.present) × (hopeful ≡ table_of Hopeful book.present family.vertices) × (dual ≡ table_of Dual book.present family.vertices)
+ordered_is family book decisions hopeful dual (None, (refuses, is)) = (cc is, cc is, cc is)
+ordered_is family book decisions hopeful dual (Some r, (refuses, is)) = absurd (cc is)
 
-    makes : (label : ℕ) (call : Call) (P : Reply → Rest) → HandsIn L call → ((reply : Reply) → IsFine (P reply)) → IsFine (Makes scene held label call P)
-    makes label call P hands fine [] answer new so = absurd so
-    makes label call P hands fine (e ∷ calls) answer new so =
-        let rest : AllHandIn L calls × AreLawful new.harvests = follows P fine e.reply calls answer new so.2 in
-        ((subst (λ (c : Call). HandsIn L c) (sym so.1) hands, rest.0), rest.1)
+module _ (scene : Scene) (held : Held) where
+  -- the first of the calls
+  pub record First (book : Book) (label : ℕ) (call : Call) (P : Reply → Rest) (calls : List Event) (answer : Answer) (new : Held) : Type 0 where
+    pub reply : Reply
+    pub rest : List Event
+    pub is : calls ≡ event label call reply ∷ rest
+    pub told : IsReply (family_in scene) book call reply
+    pub legal : IsLegalFrom (family_in scene) (next (family_in scene) book label call reply) rest
+    pub goes : Follows scene held P reply rest answer new
 
-    asks : (made label : ℕ) (call : Call) (P : Reply → Rest) → HandsIn L call → ((reply : Reply) → IsFine (P reply)) → IsFine (Asks scene held made label call P)
-    asks made label call P hands fine calls answer new (inl (less, so)) = makes label call P hands fine calls answer new so
-    asks made label call P hands fine calls answer new (inr (full, so)) = ends full_log held all calls answer new so
+  pub first : (book : Book) (label : ℕ) (call : Call) (P : Reply → Rest) (calls : List Event) (answer : Answer) (new : Held) → IsLegalFrom (family_in scene) book calls →
+      Makes scene held label call P calls answer new → First book label call P calls answer new
+  first book label call P [] answer new legal so = absurd so
+  first book label call P (e ∷ calls) answer new legal so =
+      let same : e ≡ event label call e.reply = λ i. record { session = so.0 i; call = so.1 i; reply = e.reply } in
+      record {
+        reply = e.reply;
+        rest = calls;
+        is = ap (λ (x : Event). x ∷ calls) same;
+        told = subst (λ (c : Call). IsReply (family_in scene) book c e.reply) so.1 legal.0;
+        legal = subst (λ (x : Event). IsLegalFrom (family_in scene) (next (family_in scene) book x.session x.call x.reply) calls) same legal.1;
+        goes = so.2;
+      }
 
-  -- ---- after a line's replies
+  -- what comes after its reply answers the line
+  abbrev pub Goes : (book : Book) (label : ℕ) (call : Call) (P : Reply → Rest) (answer : Answer) (new : Held) → Type 0
+  Goes book label call P answer new = (reply : Reply) × (rest : List Event) × IsReply (family_in scene) book call reply
+      × IsLegalFrom (family_in scene) (next (family_in scene) book label call reply) rest × P reply rest answer new
 
-  module _ (held : Held) (all : AreLawful held.harvests) where
-    tells_settled : (n : ℕ) (reply : Reply) → IsFine (TellsSettled held n reply)
-    tells_settled n (IsSettled b) calls answer new so = ends _ held all calls answer new so
-    tells_settled n _ calls answer new so = absurd so
+  pub asked : (book : Book) (before label : ℕ) (call : Call) (P : Reply → Rest) (calls : List Event) (answer : Answer) (new : Held) → IsLegalFrom (family_in scene) book calls →
+      Asks scene held before label call P calls answer new → IsRefusal answer ⊎ Goes book label call P answer new
+  asked book before label call P calls answer new legal (inr (full, so)) = inl (codes "LogFull", so.1)
+  asked book before label call P calls answer new legal (inl (less, so)) = go f.reply f.told f.legal f.goes
+    where
+      f : First book label call P calls answer new
+      f = first book label call P calls answer new legal so
 
-    tells_added : (reply : Reply) → IsFine (TellsAdded held reply)
-    tells_added (Added n) calls answer new so = ends _ held all calls answer new so
-    tells_added _ calls answer new so = absurd so
+      go : (reply : Reply) → IsReply (family_in scene) book call reply → IsLegalFrom (family_in scene) (next (family_in scene) book label call reply) f.rest → Follows scene held P reply f.rest answer new →
+          IsRefusal answer ⊎ Goes book label call P answer new
+      go (Refused r) told rest goes = inl (refusal_text scene.names r, goes.1)
+      go reply told rest goes = inr (reply, f.rest, told, rest, goes)
 
-    tells_changed : (reply : Reply) → IsFine (TellsChanged held reply)
-    tells_changed (Changed s) calls answer new so = ends _ (after_change held s) all calls answer new so
-    tells_changed _ calls answer new so = absurd so
+-- ---- what holds of each rest of a line
 
-    tells_undone : (reply : Reply) → IsFine (TellsUndone held reply)
-    tells_undone (Undone s) calls answer new so = ends _ (after_undo held s) all calls answer new so
-    tells_undone _ calls answer new so = absurd so
+-- what is left to show of a command that takes an order, or looks at the page
+module _ (behaviour : Option Behaviour) (scene : Scene) (held : Held) (L : Harvest → Type 0) (Q : Book → Rest → Type 0) (book : Book) (made label : ℕ) where
+  -- if it holds of a commit that this comes after, it holds of a rest after the order
+  abbrev OfOrder : (Reply → Rest) → (Reply → Rest) → Type 0
+  OfOrder P R = (decisions : List Decision) (hopeful dual : List ℕ) → IsReply (family_in scene) book Order (Ordered decisions hopeful dual) →
+      ((harvest : Harvest) → HandsIn L (Commit harvest) → Q book (Asks scene held (made + 1) label (Commit harvest) P)) → Q book (R (Ordered decisions hopeful dual))
 
-    tells_redone : (reply : Reply) → IsFine (TellsRedone held reply)
-    tells_redone (Redone s) calls answer new so = ends _ (after_redo held s) all calls answer new so
-    tells_redone _ calls answer new so = absurd so
+  abbrev pub Shows : script.Command → Type 0
+  Shows (script.Lift table named) = OfOrder (TellsAdded held) (Lifts scene held (made + 1) label table named)
+  Shows (script.Settle n) = OfOrder (AsksSettled scene held (made + 1 + 1) label) (Sweeps scene held (made + 1) label (sweeps_of n))
+  Shows script.Harvest = OfOrder (TellsAdded held) (Keeps scene held)
+  Shows (script.Looks look) = (after : Book) (sight : Sight) → Q after (TellsSight behaviour scene held look sight)
+  Shows _ = ⊤
 
-    tells_spent : (given : Answer) (reply : Reply) → IsFine (TellsSpent given held reply)
-    tells_spent given Spent calls answer new so = ends given held all calls answer new so
-    tells_spent given _ calls answer new so = absurd so
+-- It holds of each command, if it holds of an end, and of a call whose replies have rests of which it holds. L holds of
+-- the harvests that are kept.
+module _ (behaviour : Option Behaviour) (scene : Scene) (held : Held) (L : Harvest → Type 0) (all : AreLawful L held.harvests) (Q : Book → Rest → Type 0)
+    (none : (book : Book) (P : Rest) → ((calls : List Event) (answer : Answer) (new : Held) → P calls answer new → ⊥) → Q book P)
+    (ends : (book : Book) (given : Answer) (after : Held) → AreLawful L after.harvests → Q book (Ends given after))
+    (makes : (book : Book) (made label : ℕ) (call : Call) (P : Reply → Rest) → HandsIn L call →
+    ((reply : Reply) → IsReply (family_in scene) book call reply → Q (next (family_in scene) book label call reply) (Follows scene held P reply)) → Q book (Asks scene held made label call P)) where
+  follows : (book : Book) (P : Reply → Rest) (reply : Reply) → Q book (P reply) → Q book (Follows scene held P reply)
+  follows book P (Refused r) so = ends book _ held all
+  follows book P reply so = so
 
-    tells_verdicts : (scene : Scene) (reply : Reply) → IsFine (TellsVerdicts scene held reply)
-    tells_verdicts scene (PageIs page) calls answer new so = ends _ (with_seen held (verdicts_on scene page)) all calls answer new so
-    tells_verdicts scene _ calls answer new so = absurd so
+  asks : (book : Book) (made label : ℕ) (call : Call) (P : Reply → Rest) → HandsIn L call →
+      ((reply : Reply) → IsReply (family_in scene) book call reply → Q (next (family_in scene) book label call reply) (P reply)) → Q book (Asks scene held made label call P)
+  asks book made label call P hands so = makes book made label call P hands (λ reply told. follows _ P reply (so reply told))
 
-    tells_look : (behaviour : Option Behaviour) (scene : Scene) (look : script.Look) (reply : Reply) → IsFine (TellsLook behaviour scene held look reply)
-    tells_look behaviour scene look (PageIs page) calls answer new so = ends answer held all calls answer new (so.1, refl, so.2)
-    tells_look behaviour scene look (Ordered d h u) calls answer new so = ends answer held all calls answer new (so.1, refl, so.2)
-    tells_look behaviour scene look _ calls answer new so = absurd so
+  tells_settled : (book : Book) (n : ℕ) (reply : Reply) → Q book (TellsSettled held n reply)
+  tells_settled book n (IsSettled b) = ends book _ held all
+  tells_settled book n _ = none book _ (λ calls answer new so. so)
 
-    asks_settled : (scene : Scene) (made label : ℕ) (reply : Reply) → IsFine (AsksSettled scene held made label reply)
-    asks_settled scene made label (Added n) calls answer new so = asks scene held all made label Settled (TellsSettled held n) tt (tells_settled n) calls answer new so
-    asks_settled scene made label _ calls answer new so = absurd so
+  asks_settled : (book : Book) (made label : ℕ) (reply : Reply) → Q book (AsksSettled scene held made label reply)
+  asks_settled book made label (Added n) = asks book made label Settled (TellsSettled held n) tt (λ reply told. tells_settled _ n reply)
+  asks_settled book made label _ = none book _ (λ calls answer new so. so)
+
+  tells_added : (book : Book) (reply : Reply) → Q book (TellsAdded held reply)
+  tells_added book (Added n) = ends book _ held all
+  tells_added book _ = none book _ (λ calls answer new so. so)
+
+  -- ---- what a first call hands in
+
+  handed_or : {X : Type 0} (own : Own) (call : X → Call) (found : Option X) → ((x : X) → found ≡ Some x → HandsIn L (call x)) → IfOk (call_or own call found) (HandsIn L)
+  handed_or own call None hands = tt
+  handed_or own call (Some x) hands = hands x refl
+
+  -- a look hands nothing in
+  handed_look : (found : Result Topic Missing) → IfOk (call_or_missing found) (HandsIn L)
+  handed_look (Err missing) = tt
+  handed_look (Ok topic) = nothing (takes_order topic)
+    where
+      nothing : (ordered : Bool) → HandsIn L (if ordered then Order else Page)
+      nothing true = tt
+      nothing false = tt
+
+  handed : (command : script.Command) → IfOk (first_call behaviour scene held command) (HandsIn L)
+  handed (script.Select name) = handed_or NoFeature (λ f. Decide f true) (index_of scene.names name) (λ f is. tt)
+  handed (script.Exclude name) = handed_or NoFeature (λ f. Decide f false) (index_of scene.names name) (λ f is. tt)
+  handed (script.Retract name) = handed_or NoFeature Retract (index_of scene.names name) (λ f is. tt)
+  handed (script.Undo s) = handed_or NoToken Undo (undo_meant held.undos s) (λ n is. tt)
+  handed (script.Redo s) = handed_or NoToken Redo (redo_meant held.redos s) (λ n is. tt)
+  handed (script.Keep s) = handed_or NoToken Keep (undo_meant held.undos (Some s)) (λ n is. tt)
+  handed (script.Forget s) = handed_or NoToken Forget (redo_meant held.redos (Some s)) (λ n is. tt)
+  handed (script.Lift table named) = handed_or NoVertex (λ v. Order) (vertex_of scene named) (λ v is. tt)
+  handed (script.Commit k) = handed_or NoHarvest Commit (harvest_kept held.harvests k) (λ made is ours. kept_lawful L held.harvests k made all is)
+  handed (script.Looks look) = handed_look (topic_of behaviour scene look)
+  handed _ = tt
+
+  -- ---- a command
+
+  module _ (book : Book) (made label : ℕ) where
+    -- only an order is answered by an order, and leaves the book
+    at_order : (R : Book → Type 0) (call : Call) (decisions : List Decision) (hopeful dual : List ℕ) → IsReply (family_in scene) book call (Ordered decisions hopeful dual) →
+        (IsReply (family_in scene) book Order (Ordered decisions hopeful dual) → R book) → R (next (family_in scene) book label call (Ordered decisions hopeful dual))
+    at_order R Order decisions hopeful dual told so = so told
+    at_order R Settled decisions hopeful dual (None, (refuses, told)) so = absurd (cc told.1.1)
+    at_order R call decisions hopeful dual (None, (refuses, told)) so = absurd (cc told)
+    at_order R call decisions hopeful dual (Some r, (refuses, told)) so = absurd (cc told)
+
+    continues : (command : script.Command) → Shows behaviour scene held L Q book made label command → (call : Call) (reply : Reply) → IsReply (family_in scene) book call reply →
+        Q (next (family_in scene) book label call reply) (Continues behaviour scene held (made + 1) label command reply)
+    continues (script.Select name) shows call (Changed s) told = ends _ _ (after_change held s) all
+    continues (script.Exclude name) shows call (Changed s) told = ends _ _ (after_change held s) all
+    continues (script.Retract name) shows call (Changed s) told = ends _ _ (after_change held s) all
+    continues script.Reset shows call (Changed s) told = ends _ _ (after_change held s) all
+    continues (script.Undo t) shows call (Undone s) told = ends _ _ (after_undo held s) all
+    continues (script.Redo t) shows call (Redone s) told = ends _ _ (after_redo held s) all
+    continues (script.Keep s) shows call Spent told = ends _ _ (after_keep held s) all
+    continues (script.Forget s) shows call Spent told = ends _ _ (after_forget held s) all
+    continues (script.Commit k) shows call (Added n) told = ends _ _ (without_harvest held k) (gone_lawful L held.harvests (k - 1) all)
+    continues script.Changed shows call (PageIs page) told = ends _ _ (with_seen held (verdicts_on scene page)) all
+    continues (script.Lift table named) shows call (Ordered d h u) told =
+        at_order (λ b. Q b (Lifts scene held (made + 1) label table named (Ordered d h u))) call d h u told
+        (λ order. shows d h u order (λ harvest hands. asks book (made + 1) label (Commit harvest) (TellsAdded held) hands (λ reply so. tells_added _ reply)))
+    continues (script.Settle n) shows call (Ordered d h u) told =
+        at_order (λ b. Q b (Sweeps scene held (made + 1) label (sweeps_of n) (Ordered d h u))) call d h u told
+        (λ order. shows d h u order (λ harvest hands. asks book (made + 1) label (Commit harvest) (AsksSettled scene held (made + 1 + 1) label) hands (λ reply so. asks_settled _ (made + 1 + 1) label reply)))
+    continues script.Harvest shows call (Ordered d h u) told =
+        at_order (λ b. Q b (Keeps scene held (Ordered d h u))) call d h u told
+        (λ order. shows d h u order (λ harvest hands. asks book (made + 1) label (Commit harvest) (TellsAdded held) hands (λ reply so. tells_added _ reply)))
+    continues (script.Looks look) shows call (PageIs page) told = shows _ (sight_on scene page)
+    continues (script.Looks look) shows call (Ordered d h u) told = shows _ (ordered_sight d h u)
+    continues _ shows call reply told = none _ _ (λ calls answer new so. so)
+
+    begins : (command : script.Command) → Shows behaviour scene held L Q book made label command → (first : Result Call Own) → IfOk first (HandsIn L) → Q book (Begins behaviour scene held made label command first)
+    begins command shows (Err own) hands = ends book _ held all
+    begins command shows (Ok call) hands = asks book made label call (Continues behaviour scene held (made + 1) label command) hands (continues command shows call)
+
+    pub serves : (command : script.Command) → Shows behaviour scene held L Q book made label command → Q book (Begins behaviour scene held made label command (first_call behaviour scene held command))
+    serves command shows = begins command shows (first_call behaviour scene held command) (handed command)
+
+-- ---- lawful harvests alone are handed in
 
 module _ (behaviour : Option Behaviour) (scene : Scene) (held : Held) where
   abbrev L : Harvest → Type 0
-  L = IsLawful (family_of (setting_in scene))
+  L = IsLawful (family_in scene)
+
+  -- what the calls hand in is lawful, and so is what is kept then
+  abbrev IsFine : Book → Rest → Type 0
+  IsFine book R = (calls : List Event) (answer : Answer) (new : Held) → IsLegalFrom (family_in scene) book calls → R calls answer new → AllHandIn L calls × AreLawful L new.harvests
+
+  ends_fine : (book : Book) (given : Answer) (after : Held) → AreLawful L after.harvests → IsFine book (Ends given after)
+  ends_fine book given after all calls answer new legal so =
+      (subst (λ (es : List Event). AllHandIn L es) (sym so.0) tt, subst (λ (h : Held). AreLawful L h.harvests) (sym so.2) all)
 
   module _ (all : AreLawful L held.harvests) where
-    sweeps : (made label n : ℕ) (reply : Reply) → IsFine L (Sweeps scene held made label n reply)
-    sweeps made label n (Ordered d h u) calls answer new so =
-        asks L scene held all made label (Commit so.0) (AsksSettled scene held (made + 1) label) (λ _. so.1.of_order.lawful) (asks_settled L held all scene (made + 1) label) calls answer new so.2
-    sweeps made label n _ calls answer new so = absurd so
+    makes_fine : (book : Book) (made label : ℕ) (call : Call) (P : Reply → Rest) → HandsIn L call →
+        ((reply : Reply) → IsReply (family_in scene) book call reply → IsFine (next (family_in scene) book label call reply) (Follows scene held P reply)) → IsFine book (Asks scene held made label call P)
+    makes_fine book made label call P hands fine calls answer new legal (inl (less, so)) =
+        let f = first scene held book label call P calls answer new legal so in
+        let rest = fine f.reply f.told f.rest answer new f.legal f.goes in
+        (subst (λ (es : List Event). AllHandIn L es) (sym f.is) (hands, rest.0), rest.1)
+    makes_fine book made label call P hands fine calls answer new legal (inr (full, so)) = ends_fine book full_log held all calls answer new legal so
 
-    keeps : (reply : Reply) → IsFine L (Keeps scene held reply)
-    keeps (Ordered d h u) calls answer new so =
-        ends L _ (with_harvest held so.0) (all_more (λ h. IfSome h L) held.harvests (Some so.0 ∷ []) all (so.1.of_order.lawful, tt)) calls answer new so.2
-    keeps _ calls answer new so = absurd so
+    shows_fine : (book : Book) (made label : ℕ) (command : script.Command) → Shows behaviour scene held L IsFine book made label command
+    shows_fine book made label (script.Lift table named) = λ d h u told commits calls answer new legal so. commits so.1 (λ ours. so.3.of_order.lawful) calls answer new legal so.4
+    shows_fine book made label (script.Settle n) = λ d h u told commits calls answer new legal so. commits so.0 (λ ours. so.1.of_order.lawful) calls answer new legal so.2
+    shows_fine book made label script.Harvest = λ d h u told commits calls answer new legal so.
+        ends_fine book _ (with_harvest held so.0) (All-append (λ h. IfSome h L) held.harvests (Some so.0 ∷ []) all (so.1.of_order.lawful, tt)) calls answer new legal so.2
+    shows_fine book made label (script.Looks look) = λ after sight calls answer new legal so. ends_fine after answer held all calls answer new legal (so.1, refl, so.2)
+    shows_fine book made label _ = tt
 
-    lifts : (made label : ℕ) (table : Which) (named : script.Vertex) (reply : Reply) → IsFine L (Lifts scene held made label table named reply)
-    lifts made label table named (Ordered d h u) calls answer new so =
-        asks L scene held all made label (Commit so.1) (TellsAdded held) (λ _. so.3.of_order.lawful) (tells_added L held all) calls answer new so.4
-    lifts made label table named _ calls answer new so = absurd so
-
-    continues : (made label : ℕ) (command : script.Command) (reply : Reply) → IsFine L (Continues behaviour scene held made label command reply)
-    continues made label (script.Select name) reply calls answer new so = tells_changed L held all reply calls answer new so
-    continues made label (script.Exclude name) reply calls answer new so = tells_changed L held all reply calls answer new so
-    continues made label (script.Retract name) reply calls answer new so = tells_changed L held all reply calls answer new so
-    continues made label script.Reset reply calls answer new so = tells_changed L held all reply calls answer new so
-    continues made label (script.Undo s) reply calls answer new so = tells_undone L held all reply calls answer new so
-    continues made label (script.Redo s) reply calls answer new so = tells_redone L held all reply calls answer new so
-    continues made label (script.Keep s) reply calls answer new so = tells_spent L (after_keep held s) all _ reply calls answer new so
-    continues made label (script.Forget s) reply calls answer new so = tells_spent L (after_forget held s) all _ reply calls answer new so
-    continues made label (script.Lift table named) reply calls answer new so = lifts made label table named reply calls answer new so
-    continues made label script.Harvest reply calls answer new so = keeps reply calls answer new so
-    continues made label (script.Commit k) reply calls answer new so = tells_added L (without_harvest held k) (gone_lawful L held.harvests (k - 1) all) reply calls answer new so
-    continues made label (script.Settle n) reply calls answer new so = sweeps made label _ reply calls answer new so
-    continues made label script.Changed reply calls answer new so = tells_verdicts L held all scene reply calls answer new so
-    continues made label (script.Looks look) reply calls answer new so = tells_look L held all behaviour scene look reply calls answer new so
-
-    begins : (made label : ℕ) (command : script.Command) (call : Call) → HandsIn L call → IsFine L (Begins behaviour scene held made label command (Ok call))
-    begins made label command call hands = asks L scene held all made label call (Continues behaviour scene held (made + 1) label command) hands (continues (made + 1) label command)
-
-    begins_or : {X : Type 0} (made label : ℕ) (command : script.Command) (own : Own) (call : X → Call) (found : Option X) → ((x : X) → found ≡ Some x → HandsIn L (call x)) →
-        IsFine L (Begins behaviour scene held made label command (call_or own call found))
-    begins_or made label command own call None hands calls answer new so = ends L _ held all calls answer new so
-    begins_or made label command own call (Some x) hands calls answer new so = begins made label command (call x) (hands x refl) calls answer new so
-
-    -- a look hands nothing in
-    takes_nothing : (ordered : Bool) → HandsIn L (if ordered then Order else Page)
-    takes_nothing Bool.true = tt
-    takes_nothing Bool.false = tt
-
-    begins_look : (made label : ℕ) (look : script.Look) (found : Result Topic Missing) → IsFine L (Begins behaviour scene held made label (script.Looks look) (call_or_missing found))
-    begins_look made label look (Err missing) calls answer new so = ends L _ held all calls answer new so
-    begins_look made label look (Ok topic) calls answer new so = begins made label (script.Looks look) (call_for topic) (takes_nothing (takes_order topic)) calls answer new so
-
-    serves : (made label : ℕ) (command : script.Command) → IsFine L (Begins behaviour scene held made label command (first_call behaviour scene held command))
-    serves made label (script.Select name) = begins_or made label (script.Select name) NoFeature (λ f. Decide f Bool.true) (index_of scene.names name) (λ _ _. tt)
-    serves made label (script.Exclude name) = begins_or made label (script.Exclude name) NoFeature (λ f. Decide f Bool.false) (index_of scene.names name) (λ _ _. tt)
-    serves made label (script.Retract name) = begins_or made label (script.Retract name) NoFeature Retract (index_of scene.names name) (λ _ _. tt)
-    serves made label script.Reset = begins made label script.Reset Reset tt
-    serves made label (script.Undo s) = begins_or made label (script.Undo s) NoToken Undo (undo_meant held.undos s) (λ _ _. tt)
-    serves made label (script.Redo s) = begins_or made label (script.Redo s) NoToken Redo (redo_meant held.redos s) (λ _ _. tt)
-    serves made label (script.Keep s) = begins_or made label (script.Keep s) NoToken Keep (undo_meant held.undos (Some s)) (λ _ _. tt)
-    serves made label (script.Forget s) = begins_or made label (script.Forget s) NoToken Forget (redo_meant held.redos (Some s)) (λ _ _. tt)
-    serves made label (script.Lift table named) = begins_or made label (script.Lift table named) NoVertex (λ v. Order) (vertex_of scene named) (λ _ _. tt)
-    serves made label script.Harvest = begins made label script.Harvest Order tt
-    serves made label (script.Commit k) = begins_or made label (script.Commit k) NoHarvest Commit (harvest_kept held.harvests k) (λ made is _. kept_lawful L held.harvests k made all is)
-    serves made label (script.Settle n) = begins made label (script.Settle n) Order tt
-    serves made label script.Changed = begins made label script.Changed Page tt
-    serves made label (script.Looks look) = begins_look made label look (topic_of behaviour scene look)
+    serves_fine : (book : Book) (made label : ℕ) (command : script.Command) → IsFine book (Begins behaviour scene held made label command (first_call behaviour scene held command))
+    serves_fine book made label command =
+        serves behaviour scene held L all IsFine (λ book P nothing calls answer new legal so. absurd (nothing calls answer new so)) ends_fine makes_fine book made label command (shows_fine book made label command)
 
 -- ---- lines
 
-module _ (meaning : Request → Request) (behaviour : Option Behaviour) (scene : Scene) where
-  abbrev family : Family
-  family = family_of (setting_in scene)
+-- one machine answers as another, where its states are such
+module _ {S : Type 0} (one other : Machine S) (I : S → Type 0)
+    (step : (s : S) (request : Request) (answer : Answer) (new : S) → I s → one s request answer new → I new × other s request answer new) where
+  speaks_as : (s : S) (says : Said) (answer : Answer) (new : S) → I s → Speaks one s says answer new → I new × Speaks other s says answer new
+  speaks_as s (Ok None) answer new is so = (subst I (sym so.1) is, so)
+  speaks_as s (Ok (Some request)) answer new is so = step s request answer new is so
+  speaks_as s (Err fault) answer new is so = absurd so
 
-  -- the calls of one line, or of several
-  pub record Calls (Asks : Asked → Asked → Type 0) (old : Between) (before : List Event) (new : Between) : Type 0 where
-    pub calls : List Event
-    pub legal : IsLegalFrom family old.book calls
-    pub lawful : AllHandIn (IsLawful family) calls
-    pub kept : AreLawful (IsLawful family) new.held.harvests
-    pub asked : Asks (record { calls = before; held = old.held }) (record { calls = before ++ calls; held = new.held })
-    pub left : new.book ≡ book_after family old.book calls
-    pub counted : new.calls ≡ length (before ++ calls)
+  pub answered_as : (s : S) (lines : List (List ℕ)) (answers : List Answer) (new : S) → I s → Answered one s lines answers new → Answered other s lines answers new
+  answered_as s [] answers new is so = so
+  answered_as s (line ∷ lines) answers new is so =
+      let first = speaks_as s (said line) so.1 so.0 is so.3 in
+      (so.0, so.1, so.2, first.1, so.4, answered_as so.0 lines so.2 new first.0 so.5)
 
-  none_more : (old new : Between) (before : List Event) → old.calls ≡ length before → new ≡ old → new.calls ≡ length (before ++ [])
-  none_more old new before counted same = omega (arith, ap (λ (b : Between). b.calls) same, counted, length-append before [])
+-- the calls so far are a history
+pub record IsSoFar (scene : Scene) (old : Between) (before : List Event) : Type 0 where
+  pub leaves : old.book ≡ book_after (family_in scene) opened before
+  pub legal : IsLegal (family_in scene) before
+  pub lawful : AllHandIn (IsLawful (family_in scene)) before
+  pub counted : old.calls ≡ length before
+  pub kept : AreLawful (IsLawful (family_in scene)) old.held.harvests
 
-  pub line_of : (old : Between) (before : List Event) (s : Said) (answer : Answer) (new : Between) → old.calls ≡ length before → AreLawful (IsLawful family) old.held.harvests → Speaks (as_meant meaning (calling behaviour scene)) old s answer new →
-      Calls (λ a b. Speaks (as_meant meaning (asking behaviour scene)) a s answer b) old before new
-  line_of old before (Ok None) answer new counted all speaks = record {
-    calls = [];
-    legal = tt;
-    lawful = tt;
-    kept = subst (λ (b : Between). AreLawful (IsLawful family) b.held.harvests) (sym speaks.1) all;
-    asked = (speaks.0, λ i. record { calls = append-nil before i; held = (speaks.1 i).held });
-    left = ap (λ (b : Between). b.book) speaks.1;
-    counted = none_more old new before counted speaks.1;
-  }
-  line_of old before (Ok (Some request)) answer new counted all speaks =
-      let fine = serves behaviour scene old.held all old.calls (meaning request).label (meaning request).command speaks.0 answer new.held speaks.1.0 in
-      record {
-        calls = speaks.0;
-        legal = speaks.1.1;
-        lawful = fine.0;
-        kept = fine.1;
-        asked = (speaks.0, (subst (λ (n : ℕ). Serves behaviour scene old.held n (meaning request) speaks.0 answer new.held) counted speaks.1.0, refl));
-        left = speaks.1.2;
-        counted = omega (arith, speaks.1.3, counted, length-append before speaks.0);
-      }
-  line_of old before (Err fault) answer new counted all speaks = absurd speaks
+module _ (behaviour : Option Behaviour) (scene : Scene) (lifters : ℕ) where
+  abbrev so_far : List Event → Between → Asked
+  so_far calls old = record { calls = calls; held = old.held }
 
-  lines_of : (old : Between) (before : List Event) (lines : List (List ℕ)) (answers : List Answer) (new : Between) → old.calls ≡ length before → AreLawful (IsLawful family) old.held.harvests → Answered (as_meant meaning (calling behaviour scene)) old lines answers new →
-      Calls (λ a b. Answered (as_meant meaning (asking behaviour scene)) a lines answers b) old before new
-  lines_of old before [] answers new counted all answered = record {
-    calls = [];
-    legal = tt;
-    lawful = tt;
-    kept = subst (λ (b : Between). AreLawful (IsLawful family) b.held.harvests) (sym answered.1) all;
-    asked = (answered.0, λ i. record { calls = append-nil before i; held = (answered.1 i).held });
-    left = ap (λ (b : Between). b.book) answered.1;
-    counted = none_more old new before counted answered.1;
-  }
-  lines_of old before (line ∷ lines) answers new counted all answered =
-      let mid = answered.0 in
-      let first : Calls (λ a b. Speaks (as_meant meaning (asking behaviour scene)) a (said line) answered.1 b) old before mid = line_of old before (said line) answered.1 mid counted all answered.3 in
-      let rest : Calls (λ a b. Answered (as_meant meaning (asking behaviour scene)) a lines answered.2 b) mid (before ++ first.calls) new = lines_of mid (before ++ first.calls) lines answered.2 new first.counted first.kept answered.5 in
-      record {
-        calls = first.calls ++ rest.calls;
-        legal = legal_more family old.book first.calls rest.calls first.legal (subst (λ (b : Book). IsLegalFrom family b rest.calls) first.left rest.legal);
-        lawful = all_more _ first.calls rest.calls first.lawful rest.lawful;
-        kept = rest.kept;
-        asked = (
-          record { calls = before ++ first.calls; held = mid.held },
-          answered.1,
-          answered.2,
-          first.asked,
-          answered.4,
-          subst (λ (h : List Event). Answered (as_meant meaning (asking behaviour scene)) (record { calls = before ++ first.calls; held = mid.held }) lines answered.2 (record { calls = h; held = new.held }))
-              (append_assoc before first.calls rest.calls) rest.asked,
-        );
-        left = rest.left ∙ ap (λ (b : Book). book_after family b rest.calls) first.left ∙ sym (after_more family old.book first.calls rest.calls);
-        counted = rest.counted ∙ ap (λ (events : List Event). length events) (append_assoc before first.calls rest.calls);
-      }
+  -- so they are after one request more
+  pub asked_for : (old : Between) (before : List Event) (request : Request) (answer : Answer) (new : Between) → IsSoFar scene old before → answering behaviour scene lifters old request answer new →
+      (now : List Event) × IsSoFar scene new now × asking behaviour scene (so_far before old) request answer (so_far now new)
+  asked_for old before request answer new here ((calls, so), made) =
+      let fine = serves_fine behaviour scene old.held here.kept old.book old.calls request.label request.command calls answer new.held so.1 so.0 in (
+        before ++ calls,
+        record {
+          leaves = so.2 ∙ ap (λ (b : Book). book_after (family_in scene) b calls) here.leaves ∙ sym (book_after-append (family_in scene) opened before calls);
+          legal = legal_more (family_in scene) opened before calls here.legal (subst (λ (b : Book). IsLegalFrom (family_in scene) b calls) here.leaves so.1);
+          lawful = All-append _ before calls here.lawful fine.0;
+          counted = omega (arith, so.3, here.counted, length-append before calls);
+          kept = fine.1;
+        },
+        (calls, (subst (λ (n : ℕ). Serves behaviour scene old.held n request calls answer new.held) here.counted so.0, refl)),
+      )
 
--- what sweeps made is no part of a history
-module _ (meaning : Request → Request) (behaviour : Option Behaviour) (scene : Scene) (lifters : ℕ) where
-  pub speaks_calls : (old : Between) (s : Said) (answer : Answer) (new : Between) → Speaks (as_meant meaning (answering behaviour scene lifters)) old s answer new → Speaks (as_meant meaning (calling behaviour scene)) old s answer new
-  speaks_calls old (Ok None) answer new so = so
-  speaks_calls old (Ok (Some request)) answer new so = so.0
-  speaks_calls old (Err fault) answer new so = so
+  module _ (meaning : Request → Request) where
+    asked_line : (old : Between) (before : List Event) (s : Said) (answer : Answer) (new : Between) → IsSoFar scene old before → Speaks (as_meant meaning (answering behaviour scene lifters)) old s answer new →
+        (now : List Event) × IsSoFar scene new now × Speaks (as_meant meaning (asking behaviour scene)) (so_far before old) s answer (so_far now new)
+    asked_line old before (Ok None) answer new here so =
+        (before, subst (λ (b : Between). IsSoFar scene b before) (sym so.1) here, (so.0, λ i. so_far before (so.1 i)))
+    asked_line old before (Ok (Some request)) answer new here so = asked_for old before (meaning request) answer new here so
+    asked_line old before (Err fault) answer new here so = absurd so
 
-  answered_calls : (old : Between) (lines : List (List ℕ)) (answers : List Answer) (new : Between) → Answered (as_meant meaning (answering behaviour scene lifters)) old lines answers new → Answered (as_meant meaning (calling behaviour scene)) old lines answers new
-  answered_calls old [] answers new so = so
-  answered_calls old (line ∷ lines) answers new so =
-      (so.0, so.1, so.2, speaks_calls old (said line) so.1 so.0 so.3, so.4, answered_calls so.0 lines so.2 new so.5)
+    asked_lines : (old : Between) (before : List Event) (lines : List (List ℕ)) (answers : List Answer) (new : Between) → IsSoFar scene old before → Answered (as_meant meaning (answering behaviour scene lifters)) old lines answers new →
+        (now : List Event) × IsSoFar scene new now × Answered (as_meant meaning (asking behaviour scene)) (so_far before old) lines answers (so_far now new)
+    asked_lines old before [] answers new here so =
+        (before, subst (λ (b : Between). IsSoFar scene b before) (sym so.1) here, (so.0, λ i. so_far before (so.1 i)))
+    asked_lines old before (line ∷ lines) answers new here so =
+        let first = asked_line old before (said line) so.1 so.0 here so.3 in
+        let rest = asked_lines so.0 first.0 lines so.2 new first.1 so.5 in
+        (rest.0, rest.1, (so_far first.0 so.0, so.1, so.2, first.2, so.4, rest.2))
+
+-- before the first line
+pub nothing_so_far : (scene : Scene) → IsSoFar scene begun []
+nothing_so_far scene = record { leaves = refl; legal = tt; lawful = tt; counted = refl; kept = tt }
 
 pub answers_are_histories : AnswersAreHistories
 answers_are_histories meaning behaviour scene lifters lines answers new answered =
-    let all = lines_of meaning behaviour scene begun [] lines answers new refl tt (answered_calls meaning behaviour scene lifters begun lines answers new answered) in
-    (all.calls, (record { legal = all.legal; lawful = all.lawful; leaves = sym all.left }, all.asked))
+    let all = asked_lines behaviour scene lifters meaning begun [] lines answers new (nothing_so_far scene) answered in
+    (all.0, (record { legal = all.1.legal; lawful = all.1.lawful; leaves = sym all.1.leaves }, all.2))

@@ -1,11 +1,11 @@
 -- Pages that scripts leave.
-use Rattle.std.proofs.Common.{◌≡◌, ℕ, ◌⊎◌, inl, inr, List, length, Option, Some, None, Result, Ok, Err, refl, sym, ap, subst, ◌∙◌}
+use Rattle.std.proofs.Common.{◌≡◌, ℕ, inl, inr, List, length, Option, Some, None, Result, Ok, Err, refl, sym, ap, subst, ◌∙◌}
 use Rattle.std.specs.Prelude.{IfOk, IfErr}
 use Rattle.vpg_diagram.specs.DiagramText.{NamedDiagram}
 use Rattle.vpg_game.specs.Game.{NamedGame, graph_of}
 use Rattle.vpg_measure.specs.Orders.{OrderView}
-use Rattle.vpg_trail.specs.Page.{Decision, Hopeful, Dual, decisions_of, table_of}
-use Rattle.vpg_desk.specs.Book.{Book, Family, IsReply, Order, Ordered}
+use Rattle.vpg_trail.specs.Page.{Hopeful, Dual, table_of}
+use Rattle.vpg_desk.specs.Book.{Order, Ordered}
 use Rattle.vpg_desk.specs.Commit.{IsOrderOf}
 use Rattle.vpg_desk.specs.Desk.{family_of}
 use Rattle.vpg_desk.specs.State.{IsOpened, setting_of}
@@ -32,16 +32,11 @@ use Rattle.vpg_report.specs.Run.{answering_called, called_by, called_in}
 use Rattle.vpg_report.specs.Runs.{TellsStop}
 use Rattle.vpg_report.specs.Results.{IsOpenRefusal}
 use Rattle.vpg_report.specs.Left.{plain, IsHanded, IsLeft, IsOrderOn, IsRunStopped, IsStopped, IsUnleft}
+use Rattle.vpg_report.proofs.Histories.{ordered_is}
 use Rattle.vpg_report.proofs.Results.{opens as opened, outcome_as}
 use Rattle.vpg_report.proofs.RunEnds.{nothing_ran, run_of_stop, root_of_run}
 
 -- ---- the order
-
--- an order's reply tells of the present page
-ordered_is : (family : Family) (book : Book) (decisions : List Decision) (hopeful dual : List ℕ) → IsReply family book Order (Ordered decisions hopeful dual) →
-    (decisions ≡ decisions_of book.present) × (hopeful ≡ table_of Hopeful book.present family.vertices) × (dual ≡ table_of Dual book.present family.vertices)
-ordered_is family book decisions hopeful dual (None, (refuses, is)) = (cc is, cc is, cc is)
-ordered_is family book decisions hopeful dual (Some r, (refuses, is)) = absurd (cc is)
 
 pub order_on : (limit : ℕ) (old : EngineState) (new : ClientState) (label : ℕ) (order : OrderView) (game : NamedGame) (diagram : NamedDiagram) →
     IsLogged limit old.client label Order (Ordered order.decisions order.hopeful order.dual) new → IsOrderOf old.client.desk order → (order.game ≡ game) × (order.diagram ≡ diagram) →
@@ -63,17 +58,6 @@ pub full_on : {F : Type 0} (limit : ℕ) (old : EngineState) (new : ClientState)
     Tells limit refusal old.client label Order new fault → fault ≡ LogFull → (between_of old).calls ≡ room
 full_on {F} limit old new label refusal fault same tells is =
     (subst (λ (f : ClientFault F). Tells limit refusal old.client label Order new f) is tells).0 ∙ same
-
--- ---- the end with the order
-
--- a run that came to an ending is stopped then
-pub stopped_then : (game : NamedGame) (diagram : NamedDiagram) (left : Between) (run : Result Ending RunFault) (ending : Ending) (fault : RunFault) → run ≡ Ok ending →
-    (fault ≡ stops.Memory) ⊎ (fault ≡ stops.Stray) → IsHanded game diagram left run (Err fault)
-stopped_then game diagram left run ending fault is so = subst (λ (r : Result Ending RunFault). IsHanded game diagram left r (Err fault)) (sym is) so
-
--- and any other run as it did
-pub stopped_before : (game : NamedGame) (diagram : NamedDiagram) (left : Between) (run : Result Ending RunFault) (fault : RunFault) → run ≡ Err fault → IsHanded game diagram left run (Err fault)
-stopped_before game diagram left run fault is = subst (λ (r : Result Ending RunFault). IsHanded game diagram left r (Err fault)) (sym is) refl
 
 -- ---- the run
 
@@ -115,29 +99,22 @@ module _ (diagram : NamedDiagram) (game : NamedGame) (context : Context) (script
 
   module _ (is_opened : IsOpened game diagram) where
     -- a run that came to an ending, and was stopped then
-    after_memory : (left : Between) (ending : Ending) → Leaves plain serves begun left (Some script) None None ending → Stops stops.Memory
-    after_memory left ending leaves = out_of_memory
-
     after_stray : (left : Between) (ending : Ending) → Leaves plain serves begun left (Some script) None None ending → Stops stops.Stray
+    after_stray left (endings.Refused n) (lines, answers, last, rest, (wrote, strict, none, refused, counted)) = absurd (cc strict)
     after_stray left endings.Whole (lines, answers, rest, (went, empty, fine)) = (None, record { answered = (lines, answers, left, rest, went); opened = is_opened })
     after_stray left endings.Failed (lines, answers, rest, (went, empty, fails)) = (None, record { answered = (lines, answers, left, rest, went); opened = is_opened })
-    after_stray left (endings.Refused n) (lines, answers, last, rest, (wrote, strict, none, refused, counted)) = absurd (cc strict)
 
     module _ (left : Between) (run : Result Ending RunFault) (leaves : IfOk run (Leaves plain serves begun left (Some script) None None)) (stopped : IfErr run (IsStopped serves begun (Some script) None None)) where
-      pub left_of : (handed : Result (Ending × Option OrderView) RunFault) → IsHanded game diagram left run handed → IfOk handed (λ r. IsLeft diagram game context script r.0 r.1)
-      left_of (Ok r) (is, hands) =
-          (left, record { opened = is_opened; answered = subst (λ (x : Result Ending RunFault). IfOk x (Leaves plain serves begun left (Some script) None None)) is leaves }, hands)
-      left_of (Err fault) is = tt
-
       stops_as : (fault : RunFault) (x : Result Ending RunFault) → IfOk x (Leaves plain serves begun left (Some script) None None) → IfErr x (IsStopped serves begun (Some script) None None) → IsHanded game diagram left x (Err fault) → Stops fault
-      stops_as fault (Ok ending) so never (inl is) = subst Stops (sym is) (after_memory left ending so)
+      stops_as fault (Ok ending) so never (inl is) = subst Stops (sym is) out_of_memory
       stops_as fault (Ok ending) so never (inr is) = subst Stops (sym is) (after_stray left ending so)
       stops_as fault (Err stop) never (rest, so) is =
           subst Stops (sym is) (rest, record { answered = outcome_as plain serves (IsOpenRefusal game diagram) begun (Some script) rest None None (Err stop) so; opened = opened {A = Ending} (Err stop) (IsOpened game diagram) is_opened })
 
-      pub stopped_by : (handed : Result (Ending × Option OrderView) RunFault) → IsHanded game diagram left run handed → IfErr handed Stops
-      stopped_by (Ok r) is = tt
-      stopped_by (Err fault) is = stops_as fault run leaves stopped is
+      pub ends_of : (handed : Result (Ending × Option OrderView) RunFault) → IsHanded game diagram left run handed → IfOk handed (λ r. IsLeft diagram game context script r.0 r.1) × IfErr handed Stops
+      ends_of (Ok r) (is, hands) =
+          ((left, record { opened = is_opened; answered = subst (λ (x : Result Ending RunFault). IfOk x (Leaves plain serves begun left (Some script) None None)) is leaves }, hands), tt)
+      ends_of (Err fault) is = (tt, stops_as fault run leaves stopped is)
 
   -- ---- what is told
 

@@ -1,6 +1,5 @@
 pub mod Histories
 pub mod Served
-pub mod Replies
 pub mod LeastHarvests
 pub mod OneText
 pub mod OneRun

@@ -111,11 +111,7 @@ module _ (meaning : Request → Request) (behaviour : Option Behaviour) (scene :
       (lines, None, (made lines None rest new wrote (λ r here. subst IsEmptyKnown here empty), refl))
   through (Err (stops.Line n fault)) is (lines, new, rest, (wrote, faulty, counted)) =
       (lines, Some fault, (made lines (Some fault) rest new wrote (λ r here. subst (FaultyKnown fault) here faulty), ap (λ (k : ℕ). Err (stops.Line k fault)) counted))
-  through (Err stops.Read) is outcome = absurd is
-  through (Err stops.Write) is outcome = absurd is
-  through (Err (stops.Open fault)) is outcome = absurd is
-  through (Err stops.Memory) is outcome = absurd is
-  through (Err stops.Stray) is outcome = absurd is
+  through _ is outcome = absurd is
 
 pub settled_runs_are_one : SettledRunsAreOne
 settled_runs_are_one meaning behaviour scene script before after later left rest result other whole ends all full =

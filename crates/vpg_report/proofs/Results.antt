@@ -10,7 +10,7 @@ use Rattle.vpg_script.specs.declared.serving.Manner.{Manner}
 use Rattle.vpg_script.specs.declared.serving.Ending.{Ending}
 use Rattle.vpg_script.specs.declared.fault.RunFault.{RunFault}
 use Rattle.vpg_script.specs.declared.fault.RunFault.TheVariants as stops
-use Rattle.vpg_script.proofs.MannerLemmas.{plain_outcome}
+use Rattle.vpg_script.proofs.MannerLemmas.{as_before, plain_outcome}
 use Rattle.vpg_report.specs.Output.{Outcome, OutcomeAs}
 use Rattle.vpg_report.specs.Results.{IsOpenRefusal, Opens}
 use Rattle.vpg_diagram.specs.DiagramText.{NamedDiagram}
@@ -23,37 +23,20 @@ use Rattle.vpg_engine.specs.Line.{begun}
 use Rattle.vpg_report.specs.Run.{answering, answering_called, as_meant, called_in}
 
 pub opens : {A : Type 0} (result : Result A RunFault) (P : Type 0) → P → Opens result P
-opens (Ok done) P p = p
-opens (Err (stops.Line n fault)) P p = p
-opens (Err stops.Read) P p = p
-opens (Err stops.Write) P p = p
 opens (Err (stops.Open fault)) P p = tt
 opens (Err stops.Memory) P p = tt
-opens (Err stops.Stray) P p = p
+opens _ P p = p
 
 pub outcome_as : {S : Type 0} (manner : Manner) (serves : Machine S) (Refuses : OpenFault → Type 0) (old : S) (input left before after : Option (List ℕ)) (result : Result Ending RunFault) →
     MannerOutcome manner serves old input left before after result → OutcomeAs manner serves Refuses old input left before after result
-outcome_as manner serves Refuses old input left before after (Ok ending) so = so
-outcome_as manner serves Refuses old input left before after (Err (stops.Line n fault)) so = so
-outcome_as manner serves Refuses old input left before after (Err stops.Read) so = so
-outcome_as manner serves Refuses old input left before after (Err stops.Write) so = so
 outcome_as manner serves Refuses old input left before after (Err (stops.Open fault)) so = absurd so
-outcome_as manner serves Refuses old input left before after (Err stops.Memory) so = so
-outcome_as manner serves Refuses old input left before after (Err stops.Stray) so = so
+outcome_as manner serves Refuses old input left before after _ so = so
 
 -- without a manner a run is what it was
-pub outcome_done : {S : Type 0} (manner : Manner) (serves : Machine S) (Refuses : OpenFault → Type 0) (old : S) (input left before after : Option (List ℕ)) (ending : Ending) →
-    manner.is_strict ≡ false → manner.goes_on ≡ false → manner.form ≡ Plain → OutcomeAs manner serves Refuses old input left before after (Ok ending) → Outcome serves Refuses old input left before after (Ok tt)
-outcome_done manner serves Refuses old input left before after ending lax off plain so = plain_outcome manner serves old input left before after (Ok ending) lax off plain so
-
-pub outcome_stopped : {S : Type 0} (manner : Manner) (serves : Machine S) (Refuses : OpenFault → Type 0) (old : S) (input left before after : Option (List ℕ)) (fault : RunFault) →
-    manner.is_strict ≡ false → manner.goes_on ≡ false → manner.form ≡ Plain → OutcomeAs manner serves Refuses old input left before after (Err fault) → Outcome serves Refuses old input left before after (Err fault)
-outcome_stopped manner serves Refuses old input left before after (stops.Line n fault) lax off plain so = plain_outcome manner serves old input left before after (Err (stops.Line n fault)) lax off plain so
-outcome_stopped manner serves Refuses old input left before after stops.Read lax off plain so = plain_outcome manner serves old input left before after (Err stops.Read) lax off plain so
-outcome_stopped manner serves Refuses old input left before after stops.Write lax off plain so = plain_outcome manner serves old input left before after (Err stops.Write) lax off plain so
-outcome_stopped manner serves Refuses old input left before after (stops.Open fault) lax off plain so = so
-outcome_stopped manner serves Refuses old input left before after stops.Memory lax off plain so = plain_outcome manner serves old input left before after (Err stops.Memory) lax off plain so
-outcome_stopped manner serves Refuses old input left before after stops.Stray lax off plain so = plain_outcome manner serves old input left before after (Err stops.Stray) lax off plain so
+pub outcome_plain : {S : Type 0} (manner : Manner) (serves : Machine S) (Refuses : OpenFault → Type 0) (old : S) (input left before after : Option (List ℕ)) (result : Result Ending RunFault) →
+    manner.is_strict ≡ false → manner.goes_on ≡ false → manner.form ≡ Plain → OutcomeAs manner serves Refuses old input left before after result → Outcome serves Refuses old input left before after (as_before result)
+outcome_plain manner serves Refuses old input left before after (Err (stops.Open fault)) lax off plain so = so
+outcome_plain manner serves Refuses old input left before after result lax off plain so = plain_outcome manner serves old input left before after result lax off plain so
 
 -- the same fault of a run with another value
 pub stopped_alike : (A B : Type 0) (fault stop : RunFault) → IsErrOf {T = A} (Err fault) stop → IsErrOf {T = B} (Err fault) stop

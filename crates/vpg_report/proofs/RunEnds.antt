@@ -46,18 +46,9 @@ module _ (manner : Manner) (diagram : NamedDiagram) (game : NamedGame) (context 
   Told fault = IsRun manner diagram game context lifters script rest before after (Err fault)
 
   -- a conflict is that of the root
-  root_of_opening : (why : OpenFault) → Stops (stops.Open why) → (f : ℕ) → stops.Open why ≡ stops.Open (opens.Conflict f) → f ≡ 0
-  root_of_opening opens.AtLimit ends f e = absurd cc
-  root_of_opening (opens.Conflict n) ends f e = let same : n ≡ f = cc in subst (λ (k : ℕ). k ≡ 0) same ends.answered.0.2
-  root_of_opening opens.Memory ends f e = absurd cc
-
   pub root_of_run : (stop : RunFault) → Stops stop → (f : ℕ) → stop ≡ stops.Open (opens.Conflict f) → f ≡ 0
-  root_of_run (stops.Open why) ends f e = root_of_opening why ends f e
-  root_of_run (stops.Line n what) ends f e = absurd cc
-  root_of_run stops.Read ends f e = absurd cc
-  root_of_run stops.Write ends f e = absurd cc
-  root_of_run stops.Memory ends f e = absurd cc
-  root_of_run stops.Stray ends f e = absurd cc
+  root_of_run (stops.Open (opens.Conflict n)) ends f e = let same : n ≡ f = cc in subst (λ (k : ℕ). k ≡ 0) same ends.answered.0.2
+  root_of_run _ ends f e = absurd cc
 
   -- a refused opening
   of_opening : (why : OpenFault) (said : Fault) → Stops (stops.Open why) → TellsOpening diagram.names why said → Told said
@@ -74,8 +65,4 @@ module _ (manner : Manner) (diagram : NamedDiagram) (game : NamedGame) (context 
   -- the result of a run that stopped
   pub run_of_stop : (stop : RunFault) (said : Fault) → Stops stop → TellsStop diagram.names stop said → Told said
   run_of_stop (stops.Open why) said ends is = of_opening why said ends is
-  run_of_stop (stops.Line n what) said ends is = subst Told (sym is) ends
-  run_of_stop stops.Read said ends is = subst Told (sym is) ends
-  run_of_stop stops.Write said ends is = subst Told (sym is) ends
-  run_of_stop stops.Memory said ends is = subst Told (sym is) ends
-  run_of_stop stops.Stray said ends is = subst Told (sym is) ends
+  run_of_stop _ said ends is = subst Told (sym is) ends
