@@ -113,39 +113,11 @@ fn next_asked(asked: Asked, heard: Heard) -> Option<Asked>
 
 /// Returns the next question about the goals, after an answer of this kind.
 pub(crate) fn next_of(place: OfGoal, heard: Heard) -> OfGoal {
-    match next_asked(place.asked, heard) {
-        Some(asked) => OfGoal {
-            goal: place.goal,
-            asked,
-        },
-        None => OfGoal {
-            goal: place.goal.saturating_add(1),
-            asked: Asked::Show,
-        },
-    }
-}
-
-/// Returns the command of a question about a goal.
-fn command_of(asked: Asked) -> &'static [u8] {
-    match asked {
-        Asked::Show => b"show",
-        Asked::Why => b"why",
-        Asked::Decide => b"decide",
-    }
-}
-
-/// Returns the line of a question about a goal that a line `goals V ..` names, if it names so many.
-fn line_about_named(
-    alloc: Global,
-    command: &[u8],
-    goals: &[u8],
-    goal: usize,
-) -> Result<Option<Vec<u8>>, AllocError> {
-    let words = words_of(alloc, goals, b"")?;
-    match words.get(goal.saturating_add(1)) {
-        Some(word) => Ok(Some(goal_line(alloc, command, word.bytes)?)),
-        None => Ok(None),
-    }
+    let (goal, asked) = match next_asked(place.asked, heard) {
+        Some(asked) => (place.goal, asked),
+        None => (place.goal.saturating_add(1), Asked::Show),
+    };
+    OfGoal { goal, asked }
 }
 
 /// Returns the line of a question about one of the goals, if there are so many. A line `goals V ..` names them. Before
@@ -156,9 +128,19 @@ pub(crate) fn line_about(
     start: Option<u32>,
     place: OfGoal,
 ) -> Result<Option<Vec<u8>>, AllocError> {
-    let command = command_of(place.asked);
+    let command: &[u8] = match place.asked {
+        Asked::Show => b"show",
+        Asked::Why => b"why",
+        Asked::Decide => b"decide",
+    };
     match (goals, start) {
-        (Some(goals), _) => line_about_named(alloc, command, goals, place.goal),
+        (Some(goals), _) => {
+            let words = words_of(alloc, goals, b"")?;
+            match words.get(place.goal.saturating_add(1)) {
+                Some(word) => Ok(Some(goal_line(alloc, command, word.bytes)?)),
+                None => Ok(None),
+            }
+        }
         (None, Some(id)) if place.goal == 0 => Ok(Some(vertex_line(alloc, command, id)?)),
         (None, None) if place.goal == 0 && place.asked == Asked::Show => {
             Ok(Some(Vec::from_slice(alloc, b"count\n")?))

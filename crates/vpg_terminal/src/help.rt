@@ -14,12 +14,7 @@ fn begins(line: &[u8]) -> bool {
 fn names(alloc: Global, line: &[u8], command: &[u8]) -> Result<bool, AllocError> {
     let written = line.get(..WRITTEN).unwrap_or(line);
     let words = words_of(alloc, written, b"")?;
-    for word in &words {
-        if word.bytes == command {
-            return Ok(true);
-        }
-    }
-    Ok(false)
+    Ok(words.iter().any(|word| word.bytes == command))
 }
 
 /// Appends the lines about one command from a list of commands. Returns whether there are any.

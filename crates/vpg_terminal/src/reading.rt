@@ -9,27 +9,6 @@ use std::alloc::{AllocError, Global};
 use vpg_family::{GamePaths, ModelPaths, Paths, Subject};
 use vpg_script::{Form, Manner};
 
-/// Returns an option with a number of lifters as its value.
-fn lifters<'a>(arg: Arg<'a>) -> Arg<'a> {
-    arg.long("lifters")
-        .value_name("N")
-        .value_parser(ValueParser::unsigned(1, 64))
-        .default_value("1")
-}
-
-/// Returns an option without a value, which goes with another one, and without a third.
-fn choice<'a>(
-    arg: Arg<'a>,
-    name: &'a str,
-    with: &'a str,
-    without: &'a str,
-) -> Result<Arg<'a>, AllocError> {
-    match arg.long(name).action(ArgAction::SetTrue).requires_arg(with) {
-        Ok(arg) => arg.conflicts_with(without),
-        Err(fault) => Err(fault),
-    }
-}
-
 fn arg_of<'a>(alloc: Global, argument: Argument) -> Result<Arg<'a>, AllocError> {
     let arg = Arg::new(alloc, argument.name).help(argument.help);
     match argument.kind {
@@ -38,23 +17,18 @@ fn arg_of<'a>(alloc: Global, argument: Argument) -> Result<Arg<'a>, AllocError> 
         Kind::Words => Ok(arg.required(true).num_args(1..)),
         Kind::Optional => Ok(arg),
         Kind::Flag => Ok(arg.long(argument.name).action(ArgAction::SetTrue)),
-        Kind::Choice { with, without } => choice(arg, argument.name, with, without),
-        Kind::Lifters => Ok(lifters(arg)),
+        Kind::Choice { with, without } => {
+            let flag = arg.long(argument.name).action(ArgAction::SetTrue);
+            flag.requires_arg(with)?.conflicts_with(without)
+        }
+        Kind::Lifters => {
+            let arg = arg.long("lifters").value_name("N").default_value("1");
+            Ok(arg.value_parser(ValueParser::unsigned(1, 64)))
+        }
         Kind::Value { value, with } => {
             arg.long(argument.name).value_name(value).requires_arg(with)
         }
         Kind::Lone { value } => Ok(arg.long(argument.name).value_name(value)),
-    }
-}
-
-/// Returns a command with one more argument.
-fn with_argument<'a>(
-    command: Command<'a>,
-    arg: Result<Arg<'a>, AllocError>,
-) -> Result<Command<'a>, AllocError> {
-    match arg {
-        Ok(arg) => command.arg(arg),
-        Err(fault) => Err(fault),
     }
 }
 
@@ -66,7 +40,8 @@ fn with_arguments<'a>(
 ) -> Result<Command<'a>, AllocError> {
     let mut command = command;
     for argument in arguments {
-        command = with_argument(command, arg_of(alloc, *argument))?;
+        let arg = arg_of(alloc, *argument)?;
+        command = command.arg(arg)?;
     }
     Ok(command)
 }
@@ -77,28 +52,23 @@ fn command_of<'a>(alloc: Global, verb: &Verb) -> Result<Command<'a>, AllocError>
         Some(usage) => command.override_usage(usage),
         None => command,
     };
-    with_arguments(alloc, command, verb.arguments)
-}
-
-/// Returns a command, with all commands of the program within it.
-fn with_verbs<'a>(alloc: Global, command: Command<'a>) -> Result<Command<'a>, AllocError> {
-    let mut command = command;
-    for verb in &VERBS {
-        let inner = command_of(alloc, verb)?;
-        command = command.subcommand(inner)?;
-    }
-    Ok(command)
+    let command = with_arguments(alloc, command, verb.files)?;
+    with_arguments(alloc, command, verb.options)
 }
 
 /// Returns the command with everything that the program may be called with. Its long help ends with this text.
 fn command<'a>(alloc: Global, help_end: &'a str) -> Result<Command<'a>, AllocError> {
-    let command = Command::new(alloc, "vpgdesk")
+    let mut command = Command::new(alloc, "vpgdesk")
         .version("0.1.0")
         .about("Configures a product family whose behaviour is a variability parity game")
         .long_about(ABOUT)
         .after_help(SHORT_AFTER)
         .after_long_help(help_end);
-    with_verbs(alloc, command)
+    for verb in &VERBS {
+        let inner = command_of(alloc, verb)?;
+        command = command.subcommand(inner)?;
+    }
+    Ok(command)
 }
 
 /// Returns the message about words that are wrong.
@@ -135,36 +105,11 @@ struct Files<'a> {
     unexpected: Option<&'a str>,
 }
 
-/// Returns the files of a system, its requirements and a diagram.
-fn model_of<'a>(system: &'a str, requirements: &'a str, diagram: &'a str) -> Paths<'a> {
-    Paths {
-        game: GamePaths::Model(ModelPaths {
-            system,
-            requirements,
-        }),
-        diagram,
-    }
-}
-
-/// Returns the files that the words of a command name, with these two in place of a game. Each word stands where the
-/// one before it would. `takes_script` says whether a script may follow.
-fn shifted<'a>(
-    matches: &ArgMatches<'a>,
-    takes_script: bool,
-    system: &'a str,
-    requirements: &'a str,
-) -> Option<Files<'a>> {
-    let paths = model_of(system, requirements, matches.get_str("GAME")?);
-    let behind = matches.get_str("DIAGRAM");
-    let (script, unexpected) = if takes_script {
-        (behind, matches.get_str("SCRIPT"))
-    } else {
-        (None, behind)
-    };
-    Some(Files {
-        paths,
-        script,
-        unexpected,
+/// Returns a game that is of a system and its requirements.
+fn model_of<'a>(system: &'a str, requirements: &'a str) -> GamePaths<'a> {
+    GamePaths::Model(ModelPaths {
+        system,
+        requirements,
     })
 }
 
@@ -172,70 +117,42 @@ fn shifted<'a>(
 fn untaken(matches: &ArgMatches<'_>) -> Option<&'static str> {
     if matches.get_flag("features") {
         Some("--features")
-    } else if matches.get_str("trace").is_some() {
-        Some("--trace")
     } else {
-        None
+        matches.get_str("trace").map(|_| "--trace")
     }
 }
 
-/// Returns the files of a system that is drawn alone. It takes no script, no picture of features, and no trace.
-fn system_files<'a>(matches: &ArgMatches<'a>, system: &'a str) -> Option<Files<'a>> {
-    let diagram = matches.get_str("GAME")?;
-    Some(Files {
-        paths: Paths {
-            game: GamePaths::System(system),
-            diagram,
-        },
-        script: None,
-        unexpected: matches.get_str("DIAGRAM").or(untaken(matches)),
-    })
-}
-
-/// Returns the files of the command `model`.
-fn model_files<'a>(matches: &ArgMatches<'a>) -> Option<Files<'a>> {
-    let system = matches.get_str("SYSTEM")?;
-    let requirements = matches.get_str("REQUIREMENTS")?;
-    Some(Files {
-        paths: model_of(system, requirements, matches.get_str("DIAGRAM")?),
-        script: None,
-        unexpected: None,
-    })
-}
-
-/// Returns the files of a command over a game.
-fn game_files<'a>(matches: &ArgMatches<'a>) -> Option<Files<'a>> {
-    Some(Files {
-        paths: Paths {
-            game: GamePaths::Game(matches.get_str("GAME")?),
-            diagram: matches.get_str("DIAGRAM")?,
-        },
-        script: matches.get_str("SCRIPT"),
-        unexpected: None,
-    })
-}
-
-/// Returns the files that a command names. It has them if it was accepted.
+/// Returns the files that a command names. It has them if it was accepted. With a system in place of the game each word
+/// stands where the one before it would. A system that is drawn alone takes no script, no picture of features, and no
+/// trace.
 fn files_of<'a>(name: &str, matches: &ArgMatches<'a>) -> Option<Files<'a>> {
-    if name == "model" {
-        return model_files(matches);
-    }
-    match (matches.get_str("system"), matches.get_str("requirements")) {
-        (Some(system), Some(requirements)) => {
-            let takes_script = name == "run" || name == "draw" || name == "export";
-            shifted(matches, takes_script, system, requirements)
+    let (first, second) = (matches.get_str("GAME"), matches.get_str("DIAGRAM"));
+    let third = matches.get_str("SCRIPT");
+    let takes_script = name == "run" || name == "draw" || name == "export";
+    let (game, diagram, script, unexpected) = if name == "model" {
+        let (system, requirements) = (matches.get_str("SYSTEM")?, matches.get_str("REQUIREMENTS")?);
+        (model_of(system, requirements), second, None, None)
+    } else {
+        match (matches.get_str("system"), matches.get_str("requirements")) {
+            (Some(system), Some(requirements)) if takes_script => {
+                (model_of(system, requirements), first, second, third)
+            }
+            (Some(system), Some(requirements)) => {
+                (model_of(system, requirements), first, None, second)
+            }
+            (Some(system), None) => {
+                let unexpected = second.or(untaken(matches));
+                (GamePaths::System(system), first, None, unexpected)
+            }
+            _ => (GamePaths::Game(first?), second, third, None),
         }
-        (Some(system), None) => system_files(matches, system),
-        _ => game_files(matches),
-    }
-}
-
-fn features<'a>(alloc: Global, matches: &ArgMatches<'a>) -> Result<Vec<&'a str>, AllocError> {
-    let mut features = Vec::new(alloc);
-    if let Some(words) = matches.get_strs("FEATURE") {
-        features.extend_from_slice(words)?;
-    }
-    Ok(features)
+    };
+    let diagram = diagram?;
+    Some(Files {
+        paths: Paths { game, diagram },
+        script,
+        unexpected,
+    })
 }
 
 /// Returns the picture that a command draws of these files.
@@ -258,10 +175,10 @@ fn form_of(matches: &ArgMatches<'_>) -> Form {
     }
 }
 
-/// Returns the run of a script that a command asks for.
-fn run_of<'a>(script: &'a str, matches: &ArgMatches<'a>) -> ScriptRun<'a> {
-    ScriptRun {
-        script,
+/// Returns the run of a script that a command asks for, if it has one.
+fn run_of<'a>(script: Option<&'a str>, matches: &ArgMatches<'a>) -> Option<ScriptRun<'a>> {
+    Some(ScriptRun {
+        script: script?,
         config: matches.get_str("config"),
         lifters: matches.get_one("lifters").unwrap_or(1),
         manner: Manner {
@@ -270,7 +187,7 @@ fn run_of<'a>(script: &'a str, matches: &ArgMatches<'a>) -> ScriptRun<'a> {
             form: form_of(matches),
         },
         is_named: matches.get_flag("names"),
-    }
+    })
 }
 
 /// Returns the work of a command on a family of these files, `None` if it lacks a word.
@@ -282,10 +199,7 @@ fn work_of<'a>(
 ) -> Result<Option<Work<'a>>, AllocError> {
     let Files { paths, script, .. } = files;
     match name {
-        "run" => match script {
-            Some(script) => Ok(Some(Work::Run(run_of(script, matches)))),
-            None => Ok(None),
-        },
+        "run" => Ok(run_of(script, matches).map(Work::Run)),
         "desk" => Ok(Some(Work::Desk(Talk {
             lifters: matches.get_one("lifters").unwrap_or(1),
             form: form_of(matches),
@@ -297,7 +211,7 @@ fn work_of<'a>(
         })),
         "model" => Ok(Some(Work::Model)),
         "project" => Ok(Some(Work::Project {
-            features: features(alloc, matches)?,
+            features: Vec::from_slice(alloc, matches.get_strs("FEATURE").unwrap_or(&[]))?,
         })),
         "check" => Ok(Some(Work::Check)),
         "lint" => Ok(Some(Work::Lint)),
@@ -308,16 +222,6 @@ fn work_of<'a>(
         })),
         _ => Ok(None),
     }
-}
-
-/// Whether the faults of a command are explained. `lint` and `desk` always do so.
-fn explains(name: &str, matches: &ArgMatches<'_>) -> bool {
-    name == "lint" || name == "desk" || matches.get_flag("explain")
-}
-
-/// Returns a message in place of a task.
-fn refused<T>(told: Result<Error, AllocError>) -> Result<T, Error> {
-    Err(told?)
 }
 
 /// Returns the task of a command, `None` if it lacks a word. The parser refuses such words before.
@@ -333,7 +237,7 @@ fn task_of<'a>(
         return Ok(None);
     };
     if let Some(word) = files.unexpected {
-        return refused(unexpected(alloc, name, word));
+        return Err(unexpected(alloc, name, word)?);
     }
     let paths = files.paths;
     let work = work_of(alloc, name, files, matches)?;
@@ -341,43 +245,22 @@ fn task_of<'a>(
 }
 
 /// Returns the request of a command. The parser accepts a sign before the number of lifters, and a line feed in the
-/// vertex of a trace.
+/// vertex of a trace. The faults of `lint` and `desk` are always explained.
 fn asked<'a>(alloc: Global, name: &str, matches: &ArgMatches<'a>) -> Result<Invocation<'a>, Error> {
-    if matches
-        .get_str("lifters")
-        .is_some_and(|word| word.starts_with('+'))
-    {
+    let (lifters, trace) = (matches.get_str("lifters"), matches.get_str("trace"));
+    let (kind, why) = if lifters.is_some_and(|word| word.starts_with('+')) {
         let why = "the number of lifters is digits alone";
-        return refused(wrong(alloc, ErrorKind::ValueValidation, why));
-    }
-    if matches
-        .get_str("trace")
-        .is_some_and(|word| word.contains('\n'))
-    {
+        (ErrorKind::ValueValidation, why)
+    } else if trace.is_some_and(|word| word.contains('\n')) {
         let why = "the vertex of a trace is in one line";
-        return refused(wrong(alloc, ErrorKind::ValueValidation, why));
-    }
-    match task_of(alloc, name, matches)? {
-        Some(task) => Ok(Invocation {
-            task,
-            explains: explains(name, matches),
-        }),
-        None => {
-            let why = "a word is missing";
-            refused(wrong(alloc, ErrorKind::MissingRequiredArgument, why))
-        }
-    }
-}
-
-/// Returns the request of words that the parser accepted.
-fn accepted<'a>(alloc: Global, matches: &ArgMatches<'a>) -> Result<Invocation<'a>, Error> {
-    match matches.subcommand() {
-        Some((name, inner)) => asked(alloc, name, inner),
-        None => Ok(Invocation {
-            task: Task::BuiltIn,
-            explains: false,
-        }),
-    }
+        (ErrorKind::ValueValidation, why)
+    } else if let Some(task) = task_of(alloc, name, matches)? {
+        let explains = name == "lint" || name == "desk" || matches.get_flag("explain");
+        return Ok(Invocation { task, explains });
+    } else {
+        (ErrorKind::MissingRequiredArgument, "a word is missing")
+    };
+    Err(wrong(alloc, kind, why)?)
 }
 
 /// Parses the words, the first of them being the program's name; `Err` is what `clap` prints, also help and the
@@ -387,8 +270,12 @@ pub fn read<'a>(
     words: &'a [String],
     help_end: &'a str,
 ) -> Result<Invocation<'a>, Error> {
-    match command(alloc, help_end)?.try_get_matches_from(words) {
-        Ok(matches) => accepted(alloc, &matches),
-        Err(told) => Err(told),
+    let matches = command(alloc, help_end)?.try_get_matches_from(words)?;
+    match matches.subcommand() {
+        Some((name, inner)) => asked(alloc, name, inner),
+        None => Ok(Invocation {
+            task: Task::BuiltIn,
+            explains: false,
+        }),
     }
 }

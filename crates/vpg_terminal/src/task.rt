@@ -74,13 +74,9 @@ pub enum Work<'a> {
 impl Drop for Work<'_> {
     fn drop(self) {
         match self {
-            Work::Run(_) => {}
-            Work::Desk(_) => {}
-            Work::Model => {}
+            Work::Run(_) | Work::Desk(_) | Work::Model | Work::Check | Work::Lint => {}
             Work::Export { script: _, xml: _ } => {}
             Work::Project { features: _ } => {}
-            Work::Check => {}
-            Work::Lint => {}
             Work::Draw {
                 picture: _,
                 script: _,

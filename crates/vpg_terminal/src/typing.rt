@@ -82,22 +82,6 @@ fn as_typed(alloc: Global, line: &[u8], words: &[Word<'_>]) -> Result<Handed, Al
     })
 }
 
-/// Appends how commands are written.
-fn put_help(
-    alloc: Global,
-    commands: &str,
-    command: &[u8],
-    text: &mut Vec<u8>,
-) -> Result<(), AllocError> {
-    let is_listed = put_command(alloc, commands, command, text)?;
-    let is_own = put_command(alloc, OWN, command, text)?;
-    if is_listed || is_own {
-        Ok(())
-    } else {
-        text.extend_from_slice(UNKNOWN)
-    }
-}
-
 /// Writes how commands are written.
 fn tell_help<W: Sink>(
     alloc: Global,
@@ -106,7 +90,11 @@ fn tell_help<W: Sink>(
     talk: &mut W,
 ) -> Result<(), AllocError> {
     let mut text = Vec::new(alloc);
-    put_help(alloc, commands, command, &mut text)?;
+    let is_listed = put_command(alloc, commands, command, &mut text)?;
+    let is_own = put_command(alloc, OWN, command, &mut text)?;
+    if !is_listed && !is_own {
+        text.extend_from_slice(UNKNOWN)?;
+    }
     // If this fails the answers are still to come.
     let _ = talk.put(&text);
     Ok(())
@@ -221,30 +209,24 @@ impl<'c, R: Source, W: Sink> Session<'c, R, W> {
         }
     }
 
-    /// Takes a line that is to be handed on, or the end if there is none.
-    fn take(&mut self, handed: Option<Handed>) {
+    /// Takes a line that is to be handed on, and what follows its answer.
+    fn take(&mut self, line: Vec<u8>, following: Following) {
         self.given = 0;
-        match handed {
-            Some(Handed { line, following }) => {
-                self.line = line;
-                self.following = following;
-            }
-            None => {
-                self.line.clear();
-                self.following = Following::Nothing;
-                self.has_ended = true;
-            }
-        }
+        self.line = line;
+        self.following = following;
+    }
+
+    /// Takes the end: no line is to be handed on.
+    fn end(&mut self) {
+        self.take(Vec::new(self.alloc), Following::Nothing);
+        self.has_ended = true;
     }
 
     /// Takes the session's own line after an answer, if there is one. Returns whether there is.
     fn own(&mut self, heard: Heard) -> Result<bool, AllocError> {
         match mem::replace(&mut self.following, Following::Nothing) {
             Following::Why(line) if heard == Heard::Conflict => {
-                self.take(Some(Handed {
-                    line,
-                    following: Following::Nothing,
-                }));
+                self.take(line, Following::Nothing);
                 Ok(true)
             }
             Following::Goals if heard == Heard::Swept => self.ask(FIRST),
@@ -257,10 +239,7 @@ impl<'c, R: Source, W: Sink> Session<'c, R, W> {
     fn ask(&mut self, place: OfGoal) -> Result<bool, AllocError> {
         match line_about(self.alloc, &self.goals, self.setting.start, place)? {
             Some(line) => {
-                self.take(Some(Handed {
-                    line,
-                    following: Following::Behind(place),
-                }));
+                self.take(line, Following::Behind(place));
                 Ok(true)
             }
             None => Ok(false),
@@ -276,7 +255,10 @@ impl<'c, R: Source, W: Sink> Session<'c, R, W> {
             meet(self.alloc, self.setting, &line, goals, talk)?
         };
         self.is_within = false;
-        self.take(handed);
+        match handed {
+            Some(Handed { line, following }) => self.take(line, following),
+            None => self.end(),
+        }
         Ok(())
     }
 
@@ -286,31 +268,18 @@ impl<'c, R: Source, W: Sink> Session<'c, R, W> {
             let _ = self.talk.put(PROMPT);
         }
         self.typed = self.typed.saturating_add(1);
-        match next_line(
-            self.alloc,
-            &mut self.held,
-            &mut self.reads,
-            &mut self.reader,
-        ) {
-            Ok(Next::Line(line)) => match self.meet(line) {
-                Ok(()) => Ok(()),
-                Err(_) => Err(Failed),
-            },
+        let (held, reads) = (&mut self.held, &mut self.reads);
+        match next_line(self.alloc, held, reads, &mut self.reader) {
+            Ok(Next::Line(line)) => return self.meet(line).map_err(|_| Failed),
             Ok(Next::TooLong) => {
                 let line = mem::replace(&mut self.held, Vec::new(self.alloc));
                 self.is_within = true;
-                self.take(Some(Handed {
-                    line,
-                    following: Following::Nothing,
-                }));
-                Ok(())
+                self.take(line, Following::Nothing);
             }
-            Ok(Next::End) => {
-                self.take(None);
-                Ok(())
-            }
-            Err(_) => Err(Failed),
+            Ok(Next::End) => self.end(),
+            Err(_) => return Err(Failed),
         }
+        Ok(())
     }
 
     /// Says what is wrong with the line that was answered, if it is wrong.

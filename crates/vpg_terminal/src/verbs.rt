@@ -46,7 +46,10 @@ pub(crate) struct Verb {
     pub(crate) about: &'static str,
     /// Its words, if not all arguments stand together.
     pub(crate) usage: Option<&'static str>,
-    pub(crate) arguments: &'static [Argument],
+    /// The words and options that name its files.
+    pub(crate) files: &'static [Argument],
+    /// Its other words and options.
+    pub(crate) options: &'static [Argument],
 }
 
 const GAME: Argument = Argument {
@@ -55,18 +58,15 @@ const GAME: Argument = Argument {
     help: "A parity game in PGSolver's format with guards, `0 2 1 1[f];`",
 };
 
-const DIAGRAM_HELP: &str = "A feature diagram, or a feature model, as MODEL of `diagram`";
-
 const DIAGRAM: Argument = Argument {
     kind: Kind::Word,
     name: "DIAGRAM",
-    help: DIAGRAM_HELP,
+    help: "A feature diagram, or a feature model, as MODEL of `diagram`",
 };
 
 const LAST_DIAGRAM: Argument = Argument {
     kind: Kind::Last,
-    name: "DIAGRAM",
-    help: DIAGRAM_HELP,
+    ..DIAGRAM
 };
 
 const MODEL: Argument = Argument {
@@ -87,7 +87,7 @@ const REQUIREMENTS: Argument = Argument {
     help: "A formula as in mCRL2, or entries `live = always can a;`",
 };
 
-const TAKEN_SYSTEM: Argument = Argument {
+const BEHAVIOUR: Argument = Argument {
     kind: Kind::Value {
         value: "SYSTEM",
         with: "requirements",
@@ -102,7 +102,7 @@ const DRAWN_SYSTEM: Argument = Argument {
     help: "In place of GAME: a system, drawn itself if alone",
 };
 
-const TAKEN_REQUIREMENTS: Argument = Argument {
+const FORMULAS: Argument = Argument {
     kind: Kind::Value {
         value: "FILE",
         with: "system",
@@ -201,6 +201,12 @@ const TRACE: Argument = Argument {
     help: "Mark the trace that `trace V` writes on the page",
 };
 
+/// The files of a command on a family, with a script.
+const SCRIPTED: &[Argument] = &[GAME, DIAGRAM, EXPLAIN, SCRIPT, BEHAVIOUR, FORMULAS];
+
+/// The files of a command on a family, without a script.
+const FAMILY: &[Argument] = &[GAME, LAST_DIAGRAM, BEHAVIOUR, FORMULAS];
+
 /// The commands in the order of the help. All but one are over the files of a family.
 pub(crate) static VERBS: [Verb; 9] = [
     Verb {
@@ -212,20 +218,8 @@ vpgdesk run [OPTIONS] <GAME> <DIAGRAM> <SCRIPT>
        vpgdesk run [OPTIONS] --system <SYSTEM> --requirements <FILE>
                    <DIAGRAM> <SCRIPT>",
         ),
-        arguments: &[
-            GAME,
-            DIAGRAM,
-            EXPLAIN,
-            SCRIPT,
-            TAKEN_SYSTEM,
-            TAKEN_REQUIREMENTS,
-            LIFTERS,
-            CONFIG,
-            STRICT,
-            KEEP_GOING,
-            NAMES,
-            JSON,
-        ],
+        files: SCRIPTED,
+        options: &[LIFTERS, CONFIG, STRICT, KEEP_GOING, NAMES, JSON],
     },
     Verb {
         name: "desk",
@@ -235,15 +229,8 @@ vpgdesk run [OPTIONS] <GAME> <DIAGRAM> <SCRIPT>
 vpgdesk desk [OPTIONS] <GAME> <DIAGRAM>
        vpgdesk desk [OPTIONS] --system <SYSTEM> --requirements <FILE> <DIAGRAM>",
         ),
-        arguments: &[
-            GAME,
-            LAST_DIAGRAM,
-            TAKEN_SYSTEM,
-            TAKEN_REQUIREMENTS,
-            LIFTERS,
-            NAMES,
-            JSON,
-        ],
+        files: FAMILY,
+        options: &[LIFTERS, NAMES, JSON],
     },
     Verb {
         name: "export",
@@ -254,33 +241,29 @@ vpgdesk export [OPTIONS] <GAME> <DIAGRAM> <SCRIPT>
        vpgdesk export [OPTIONS] --system <SYSTEM> --requirements <FILE>
                       <DIAGRAM> <SCRIPT>",
         ),
-        arguments: &[
-            GAME,
-            DIAGRAM,
-            EXPLAIN,
-            SCRIPT,
-            TAKEN_SYSTEM,
-            TAKEN_REQUIREMENTS,
-            XML,
-        ],
+        files: SCRIPTED,
+        options: &[XML],
     },
     Verb {
         name: "model",
         about: "Writes the game of a system and its requirements",
         usage: None,
-        arguments: &[SYSTEM, REQUIREMENTS, DIAGRAM, EXPLAIN],
+        files: &[SYSTEM, REQUIREMENTS, DIAGRAM],
+        options: &[EXPLAIN],
     },
     Verb {
         name: "diagram",
         about: "Writes the diagram that a feature model means",
         usage: None,
-        arguments: &[MODEL, EXPLAIN],
+        files: &[MODEL],
+        options: &[EXPLAIN],
     },
     Verb {
         name: "project",
         about: "Writes the plain parity game of one product",
         usage: None,
-        arguments: &[GAME, DIAGRAM, EXPLAIN, FEATURE],
+        files: &[GAME, DIAGRAM],
+        options: &[EXPLAIN, FEATURE],
     },
     Verb {
         name: "check",
@@ -290,13 +273,8 @@ vpgdesk export [OPTIONS] <GAME> <DIAGRAM> <SCRIPT>
 vpgdesk check [OPTIONS] <GAME> <DIAGRAM>
        vpgdesk check [OPTIONS] --system <SYSTEM> --requirements <FILE> <DIAGRAM>",
         ),
-        arguments: &[
-            GAME,
-            LAST_DIAGRAM,
-            TAKEN_SYSTEM,
-            TAKEN_REQUIREMENTS,
-            EXPLAIN,
-        ],
+        files: FAMILY,
+        options: &[EXPLAIN],
     },
     Verb {
         name: "lint",
@@ -306,7 +284,8 @@ vpgdesk check [OPTIONS] <GAME> <DIAGRAM>
 vpgdesk lint <GAME> <DIAGRAM>
        vpgdesk lint --system <SYSTEM> --requirements <FILE> <DIAGRAM>",
         ),
-        arguments: &[GAME, LAST_DIAGRAM, TAKEN_SYSTEM, TAKEN_REQUIREMENTS],
+        files: FAMILY,
+        options: &[],
     },
     Verb {
         name: "draw",
@@ -318,26 +297,12 @@ vpgdesk draw [OPTIONS] <GAME> <DIAGRAM> [SCRIPT]
                     <DIAGRAM> [SCRIPT]
        vpgdesk draw [OPTIONS] --system <SYSTEM> <DIAGRAM>",
         ),
-        arguments: &[
-            GAME,
-            LAST_DIAGRAM,
-            EXPLAIN,
-            DRAWN_SCRIPT,
-            DRAWN_SYSTEM,
-            TAKEN_REQUIREMENTS,
-            FEATURES,
-            STATES,
-            TRACE,
-        ],
+        files: &[GAME, LAST_DIAGRAM, EXPLAIN, DRAWN_SCRIPT, DRAWN_SYSTEM],
+        options: &[FORMULAS, FEATURES, STATES, TRACE],
     },
 ];
 
 /// Returns the command of a name.
 pub(crate) fn verb_of(name: &str) -> Option<Verb> {
-    for verb in &VERBS {
-        if verb.name == name {
-            return Some(*verb);
-        }
-    }
-    None
+    VERBS.iter().copied().find(|verb| verb.name == name)
 }
