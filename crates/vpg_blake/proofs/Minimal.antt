@@ -29,10 +29,6 @@ pub literal_weaker : (P Q : Literal → Type 0) → ((l : Literal) → P l → Q
 literal_weaker P Q f [] h = tt
 literal_weaker P Q f (l ∷ c) h = (f l h.0, literal_weaker P Q f c h.1)
 
-literal_both : (P Q : Literal → Type 0) (c : Cube) → EachLiteral P c → EachLiteral Q c → EachLiteral (λ l. P l × Q l) c
-literal_both P Q [] h k = tt
-literal_both P Q (l ∷ c) h k = ((h.0, k.0), literal_both P Q c h.1 k.1)
-
 -- of each literal, so of one of them
 pub literal_at : (P : Literal → Type 0) (c : Cube) (l : Literal) → EachLiteral P c → In c l → P l
 literal_at P [] l h k = absurd k

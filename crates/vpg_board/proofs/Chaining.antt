@@ -6,8 +6,8 @@ use Rattle.std.specs.Prelude.{if◌then◌else◌, nat_lt}
 use Rattle.std.proofs.lemmas.Bool.{cases_Bool, cases_lt, cases_order, eq-eqb, ne_eqb, eqb-true, eqb-false}
 use Rattle.std.proofs.lemmas.Bool.{lt-ltb, le-ltb}
 use Rattle.std.proofs.lemmas.List.{reverse-append, reverse-reverse, length-reverse}
-use Rattle.std.proofs.lemmas.List.{length-replicate, length-set, length_push}
-use Rattle.std.proofs.lemmas.List.{get_or-replicate, get_or_past, get_or_append_left, get_or_push, get_or_default}
+use Rattle.std.proofs.lemmas.List.{length-set, length_push}
+use Rattle.std.proofs.lemmas.List.{get_or_past, get_or_append_left, get_or_push, get_or_default}
 use Rattle.std.proofs.lemmas.List.{get_or-set_same, get_or-set_other, drop_more, take_more}
 use Rattle.std.proofs.lemmas.List.Elements.{All-append, All-set}
 use lib.ListN.{get_or-map}
@@ -220,25 +220,6 @@ module _ (arena : Game) where
 
   abbrev empty : List ℕ
   empty = replicate (length arena) 0
-
-  filled_empty : Filled 0 empty []
-  filled_empty = record {
-    linked = record {
-      ends = λ k d less. omega (arith, get_or-replicate (length arena) k 0 d (omega (arith, less, wide)));
-      back = λ k less. absurd (omega arith);
-    };
-    wide = wide;
-    few = omega arith;
-    each = λ u w.
-        ap (λ (b : Bool). if b then times w (successors_of arena u) else 0) (sym (le-ltb u 0 (omega arith)));
-    inside = λ k d less. absurd (omega arith);
-  }
-    where
-      wide : length empty ≡ length arena
-      wide = length-replicate (length arena) 0
-
-  pub filled_none : (last : List ℕ) (edges : List Edge) → last ≡ empty → edges ≡ [] → Filled 0 last edges
-  filled_none last edges is_last is_edges = rw (is_last, is_edges) filled_empty
 
   module _ (v : ℕ) (last : List ℕ) (edges : List Edge) (is : Filled v last edges) where
     pub room_for : v < length arena → length edges + length (successors_of arena v) ≤ edges_kept arena

@@ -25,10 +25,6 @@ below_write t p n h = at_write (λ k m. get_or t k 0 ≤ m) t p n (λ _. h) (λ 
 pub write_below : (t u : List ℕ) (p n : ℕ) → Below t u → n ≤ get_or u p 0 → Below (set t p n) u
 write_below t u p n b h = at_write (λ k m. m ≤ get_or u k 0) t p n (λ _. h) b
 
-pub greater_nil : (t : List ℕ) → greater t [] ≡ t
-greater_nil [] = refl
-greater_nil (x ∷ t) = refl
-
 pub greater_at : (t u : List ℕ) (k : ℕ) → get_or (greater t u) k 0 ≡ max (get_or t k 0) (get_or u k 0)
 greater_at [] u k = omega arith
 greater_at (x ∷ t) [] k = omega arith

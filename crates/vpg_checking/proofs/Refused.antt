@@ -13,8 +13,6 @@ use Rattle.vpg_model.specs.declared.fault.ModelFault.TheVariants as of_game
 use Rattle.vpg_written.specs.Translations.{IsTooLong}
 use Rattle.vpg_written.specs.declared.translation.TranslationFault.{TranslationFault}
 use Rattle.vpg_written.specs.declared.translation.TranslationFault.TheVariants as of_translation
-use Rattle.vpg_checking.specs.declared.fault.CheckingFault.{CheckingFault}
-use Rattle.vpg_checking.specs.declared.fault.CheckingFault.TheVariants as told
 use Rattle.vpg_checking.specs.Faults.{told_of_system, told_of_requirements, told_of_translation, told_of_game, HasNoGame, IsRequirementsFault, IsCheckingFault}
 
 -- the system's text is refused
@@ -29,14 +27,6 @@ module _ (names : List (List ℕ)) (text requirements : List ℕ) where
   system_refused (of_system.NoState line) first none = ((λ e. cc), first, none (λ e. cc))
   system_refused (of_system.Guard line at fault) first none = ((λ e. cc), first, none (λ e. cc))
   system_refused of_system.Memory first none = tt
-
-  -- the system is there, and the requirements have no game
-  pub requirements_refused : (system : NamedSystem) → IsTextOf names text system → (fault : CheckingFault) → IsRequirementsFault system requirements fault → IsCheckingFault names text requirements fault
-  requirements_refused system is (told.System fault) h = absurd h
-  requirements_refused system is (told.Requirements fault) h = (system, is, h)
-  requirements_refused system is (told.TooManyParts entry) h = (system, is, h)
-  requirements_refused system is (told.Game fault) h = (system, is, h)
-  requirements_refused system is told.Memory h = tt
 
 module _ (system : NamedSystem) (text : List ℕ) where
   pub text_refused : (fault : RequirementFault) → IsNoRequirement text fault → IsRequirementsFault system text (told_of_requirements fault)

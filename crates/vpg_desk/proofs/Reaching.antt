@@ -1,5 +1,5 @@
 -- What every book that is reached keeps.
-use Rattle.std.proofs.Common.{◌≡◌, ℕ, ◌≤◌, List, [], ◌∷◌, ◌++◌, refl, sym, ◌∙◌, ap, subst}
+use Rattle.std.proofs.Common.{◌≡◌, ℕ, ◌≤◌, List, [], ◌∷◌, ◌++◌, sym, ◌∙◌, ap, subst}
 use Rattle.vpg_trail.specs.WellFormed.{IsWellFormed}
 use Rattle.vpg_desk.specs.Book.{Book, Call, Reply, Harvest, opened, most_changes, next, IsReply}
 use Rattle.vpg_desk.specs.Desk.{family_of}
@@ -12,9 +12,6 @@ use Rattle.vpg_desk.proofs.Tokens.{counts_are_limited}
 use Rattle.vpg_desk.proofs.UndoRedo.{one_more_is_legal}
 use Rattle.vpg_desk.proofs.WellFormed.{pages_are_well_formed}
 use Rattle.vpg_desk.proofs.Whole.{headline}
-
-pub reached_start : (setting : Setting) → IsReached setting opened
-reached_start setting = ([], record { legal = tt; lawful = tt; leaves = refl })
 
 one_more_hands_in : (P : Harvest → Type 0) (history : List Event) (e : Event) → AllHandIn P history → HandsIn P e.call → AllHandIn P (history ++ e ∷ [])
 one_more_hands_in P [] e all h = (h, tt)

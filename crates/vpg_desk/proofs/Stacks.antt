@@ -1,10 +1,10 @@
 -- Stacks of cuts, with the top last, against lists of cuts with the top first.
-use Rattle.std.proofs.Common.{◌≡◌, ℕ, zero, suc, ◌-◌, ◌+◌, ◌<◌, ◌≤◌, Bool, true, false, cond, ◌||◌, ◌==◌, List, [], ◌∷◌, ◌++◌, map, reverse, length, length-drop, take, drop, slice_get, get_or, Option, Some, None, All, IfSome, arith, refl, sym, ap, ◌∙◌, subst, ne_eqb, eq-eqb, append-nil, append_assoc, take_all, take_at, take-append-drop}
+use Rattle.std.proofs.Common.{◌≡◌, ℕ, zero, suc, ◌-◌, ◌+◌, ◌<◌, ◌≤◌, Bool, true, false, cond, ◌||◌, ◌==◌, List, [], ◌∷◌, ◌++◌, map, reverse, length, length-drop, take, drop, slice_get, get_or, Option, Some, None, All, IfSome, arith, refl, sym, ap, ◌∙◌, subst, ne_eqb, eq-eqb, take_at, take-append-drop}
 use Rattle.std.specs.List.{AllByRecursion, list_any}
 use Rattle.std.proofs.lemmas.Bool.{cond-false, cond-true}
 use Rattle.std.specs.Option.{option_to_list}
 use Rattle.std.proofs.lemmas.List.Elements.{All-pop, All-push, All-same}
-use Rattle.std.proofs.lemmas.List.{map-append, reverse-append, take_more, drop_more, drop_all, length-map, length-reverse}
+use Rattle.std.proofs.lemmas.List.{map-append, reverse-append, take_more, drop_more, length-map, length-reverse}
 use Rattle.vpg_trail.proofs.PageLemmas.{any-append, well_formed_parts}
 use Rattle.vpg_trail.specs.Page.{Entry as Step}
 use Rattle.vpg_trail.specs.Shown.{entry_of, VertexBelow}
@@ -178,28 +178,13 @@ module _ (named : ℕ → Refusal) (absent : Refusal) where
       by_serials named absent s (serials_from_top cuts) ≡ cond b (Some (named top.serial)) (Some absent)
   by_other cuts top s b e n h = by_last cuts top s e ∙ cond-false _ _ _ (ne_eqb top.serial s n) ∙ ap (λ (b : Bool). cond b (Some (named top.serial)) (Some absent)) h
 
-pub undo_same : (cuts : List Cut) (top : Cut) (s : ℕ) → slice_get cuts (length cuts - 1) ≡ Some top → top.serial ≡ s → refuses_undo s (serials_from_top cuts) ≡ None
-undo_same cuts top s e n = undo_by_serials s (serials_from_top cuts) ∙ by_same NotNewest Sealed cuts top s e n
-
 pub undo_other : (cuts : List Cut) (top : Cut) (s : ℕ) (b : Bool) → slice_get cuts (length cuts - 1) ≡ Some top → (top.serial ≡ s → ⊥) → list_any (λ c. c.serial == s) cuts ≡ b →
     refuses_undo s (serials_from_top cuts) ≡ cond b (Some (NotNewest top.serial)) (Some Sealed)
 undo_other cuts top s b e n h = undo_by_serials s (serials_from_top cuts) ∙ by_other NotNewest Sealed cuts top s b e n h
 
-pub redo_same : (cuts : List Cut) (top : Cut) (s : ℕ) → slice_get cuts (length cuts - 1) ≡ Some top → top.serial ≡ s → refuses_redo s (serials_from_top cuts) ≡ None
-redo_same cuts top s e n = redo_by_serials s (serials_from_top cuts) ∙ by_same NotNext Overtaken cuts top s e n
-
 pub redo_other : (cuts : List Cut) (top : Cut) (s : ℕ) (b : Bool) → slice_get cuts (length cuts - 1) ≡ Some top → (top.serial ≡ s → ⊥) → list_any (λ c. c.serial == s) cuts ≡ b →
     refuses_redo s (serials_from_top cuts) ≡ cond b (Some (NotNext top.serial)) (Some Overtaken)
 redo_other cuts top s b e n h = redo_by_serials s (serials_from_top cuts) ∙ by_other NotNext Overtaken cuts top s b e n h
-
--- an empty stack refuses every serial
-pub undo_accepts_some : (cuts : List Cut) (s : ℕ) → refuses_undo s (serials_from_top cuts) ≡ None → 0 < length cuts
-undo_accepts_some [] s e = cc
-undo_accepts_some (c ∷ cuts) s e = omega arith
-
-pub redo_accepts_some : (cuts : List Cut) (s : ℕ) → refuses_redo s (serials_from_top cuts) ≡ None → 0 < length cuts
-redo_accepts_some [] s e = cc
-redo_accepts_some (c ∷ cuts) s e = omega arith
 
 -- ---- the cuts in front of a serial
 
@@ -214,20 +199,10 @@ module _ (s : ℕ) (cuts : List Cut) (m : ℕ) (c : Cut) (within : m < length cu
   below : cuts_of (take (m + 1) cuts) ≡ cut_of c ∷ cuts_of (take m cuts)
   below = ap cuts_of (take_more cuts m c within ∙ ap (λ (x : Cut). take m cuts ++ x ∷ []) (sym read)) ∙ cuts_of-push (take m cuts) c
 
-  pub front_found : c.serial ≡ s → cuts_of (drop (m + 1) cuts) ≡ cuts_in_front_of s (cuts_of cuts)
-  front_found e = sym (so_far ∙ ap (λ (l : List Saved). cuts_of (drop (m + 1) cuts) ++ l) (ap (cuts_in_front_of s) below ∙ front_here s c (cuts_of (take m cuts)) e) ∙ append-nil (cuts_of (drop (m + 1) cuts)))
-
   above : cuts_of (drop m cuts) ≡ cuts_of (drop (m + 1) cuts) ++ cut_of c ∷ []
   above =
       ap cuts_of (drop_more cuts m c within ∙ ap (λ (x : Cut). x ∷ drop (m + 1) cuts) (sym read))
       ∙ ap (map cut_of) (reverse-append (c ∷ []) (drop (m + 1) cuts)) ∙ map-append cut_of (reverse (drop (m + 1) cuts)) (c ∷ [])
-
-  pub front_more : (c.serial ≡ s → ⊥) → cuts_in_front_of s (cuts_of cuts) ≡ cuts_of (drop m cuts) ++ cuts_in_front_of s (cuts_of (take m cuts))
-  front_more n =
-      so_far
-      ∙ ap (λ (l : List Saved). cuts_of (drop (m + 1) cuts) ++ l) (ap (cuts_in_front_of s) below ∙ front_other s c (cuts_of (take m cuts)) n)
-      ∙ sym (append_assoc (cuts_of (drop (m + 1) cuts)) (cut_of c ∷ []) (cuts_in_front_of s (cuts_of (take m cuts))))
-      ∙ ap (λ (l : List Saved). l ++ cuts_in_front_of s (cuts_of (take m cuts))) (sym above)
 
 -- the notes of the cuts from n on are the nearest ones
 notes_from : (n : ℕ) (cuts : List Cut) → notes_of (drop n cuts) ≡ take (length (drop n cuts)) (notes_of cuts)
@@ -246,9 +221,3 @@ notes_left n rest cuts rotated left h r turned cut = subst (λ (l : List Cut). n
   where
     same : left ≡ drop n cuts
     same = cut ∙ ap (take rest) turned ∙ take_at (drop n cuts) (take n cuts) rest (omega (arith, length-drop n cuts))
-
-pub front_start : (s : ℕ) (cuts : List Cut) → cuts_in_front_of s (cuts_of cuts) ≡ cuts_of (drop (length cuts) cuts) ++ cuts_in_front_of s (cuts_of (take (length cuts) cuts))
-front_start s cuts =
-    let none : drop (length cuts) cuts ≡ [] = drop_all (length cuts) cuts (omega arith) in
-    let all : take (length cuts) cuts ≡ cuts = take_all (length cuts) cuts (omega arith) in
-    sym (ap (λ (l : List Cut). cuts_of l ++ cuts_in_front_of s (cuts_of (take (length cuts) cuts))) none ∙ ap (λ (l : List Cut). cuts_in_front_of s (cuts_of l)) all)

@@ -10,7 +10,7 @@ use Rattle.vpg_rules.proofs.Levels.{rule_found, rule_again}
 use Rattle.vpg_diagram.specs.DiagramText.{is_blank, is_nonempty, words, is_numeral, Form, RootLine, MandatoryLine, OptionalLine, AlternativeLine, OrLine, GroupLine, RequiresLine, ExcludesLine, FormulaLine, HasTwoNames, HasMembers, SpellsForm}
 use Rattle.vpg_features.specs.Names.{is_name_byte, IsFeatureName}
 use Rattle.vpg_diagram.specs.DiagramReading.{is_feature_name, before_next, at_colon, if_names, plain_form, group_form, form_by_colon, form_by_word, behind_rule, form_of}
-use Rattle.vpg_diagram.proofs.RuleWord.{no_rule, no_rule_blank, rule_parts, parts_rule}
+use Rattle.vpg_diagram.proofs.RuleWord.{no_rule, rule_parts, parts_rule}
 use Rattle.vpg_diagram.proofs.NameLemmas.{eq_same, name_from_test, test_from_name, names_from_tests, tests_from_names}
 
 chosen_way : {A : Type 0} (b : Bool) (x y z : A) → cond b x y ≡ z → ((b ≡ true) × (x ≡ z)) ⊎ ((b ≡ false) × (y ≡ z))
@@ -280,14 +280,3 @@ form_complete bytes (GroupLine p low high (c ∷ cs)) h =
 form_complete bytes (FormulaLine c) h =
     ap (form_by_word bytes) (ap behind_rule (h.bytes_are ∙ append_assoc h.front (codes "rule") (h.blank ∷ h.text)) ∙ parts_rule h.front h.text h.blank h.front_blank h.is_one)
     ∙ ap (option_map FormulaLine) (rule_again h.text c h.rule)
-
--- a line with a form has a word
-pub form_has_words : (bytes : List ℕ) (f : Form) → form_of bytes ≡ Some f → (words bytes ≡ [] → ⊥)
-form_has_words bytes f e w = go (at_colon bytes) refl (sym (ap (form_by_word bytes) (no_rule_blank bytes w)) ∙ e)
-  where
-    go : (o : Option (List ℕ × List ℕ)) → at_colon bytes ≡ o → form_by_colon bytes o ≡ Some f → ⊥
-    go None q e = let r : plain_form [] ≡ Some f = sym (ap plain_form w) ∙ e in absurd (cc)
-    go (Some p) q e =
-        let nc : NoColon bytes = words_no_colon bytes (subst (AllByRecursion NoColon) (sym w) tt) in
-        let n : None ≡ Some p = sym (no_colon_found bytes nc) ∙ q in
-        absurd (cc)

@@ -1,8 +1,8 @@
 -- The kept line of a line of a diagram.
-use Rattle.std.proofs.Common.{◌≡◌, ℕ, zero, suc, subst, ◌+◌, ◌-◌, ◌<◌, ◌≤◌, drop, List, [], ◌∷◌, length, map, get_or, refl, sym, ap, ap₂, ◌∙◌, arith}
+use Rattle.std.proofs.Common.{◌≡◌, ℕ, zero, suc, subst, ◌+◌, ◌-◌, ◌<◌, ◌≤◌, drop, List, [], ◌∷◌, length, get_or, refl, sym, ap, ap₂, ◌∙◌, arith}
 use Rattle.std.proofs.lemmas.List.{drop_more}
 use Rattle.std.proofs.lemmas.List.FromFn.{length-range_with_len, get_or-range_with_len}
-use Rattle.vpg_diagram.specs.FeatureDiagram.{Line, Mandatory, Optional, Alternative, Or, Group, Requires, Excludes, Formula, introduced, StandsAfter, StandAfter, IsDiagram}
+use Rattle.vpg_diagram.specs.FeatureDiagram.{Line, Mandatory, Optional, Alternative, Or, Group, Requires, Excludes, Formula, introduced, StandsAfter, StandAfter}
 use Rattle.vpg_diagram.specs.LineView.{members_of, line_of, kept_line_of, lines_of}
 use Rattle.vpg_diagram.specs.declared.line.Members.{Members}
 use Rattle.vpg_diagram.specs.declared.line.Line as kept
@@ -53,9 +53,6 @@ no_formula (kept.TheVariants.Or p cs) c e = cc
 no_formula (kept.TheVariants.Group p low high cs) c e = cc
 no_formula (kept.TheVariants.Requires a b) c e = cc
 no_formula (kept.TheVariants.Excludes a b) c e = cc
-
-pub line_equal : (line other : kept.Line) → line ≡ other → line_of line ≡ line_of other
-line_equal line other e = ap line_of e
 
 -- ---- lists of lines
 

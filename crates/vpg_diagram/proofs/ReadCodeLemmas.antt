@@ -1,12 +1,12 @@
 -- Names that the code keeps.
-use Rattle.std.proofs.Common.{◌≡◌, ℕ, suc, ◌+◌, ◌<◌, ◌≤◌, Bool, true, false, not, ◌&&◌, ◌||◌, cond, nat_lt, List, [], ◌∷◌, ◌++◌, length, take, drop, get_or, Option, Some, None, option_map, is_some, position, bytes_eq, Bor, ◌⊎◌, inl, inr, refl, sym, ap, ap₂, ◌∙◌, arith, one-add, append_assoc, append-nil}
+use Rattle.std.proofs.Common.{◌≡◌, ℕ, suc, ◌+◌, ◌<◌, ◌≤◌, Bool, true, false, not, ◌&&◌, ◌||◌, cond, nat_lt, List, [], ◌∷◌, ◌++◌, length, take, drop, get_or, Option, Some, None, option_map, is_some, position, bytes_eq, Bor, ◌⊎◌, inl, inr, refl, sym, ap, ap₂, ◌∙◌, arith, one-add, append_assoc}
 use Rattle.std.proofs.Common.{nat_le, Result, Ok, Err}
 use Rattle.std.specs.List.{position_or_len, range_with_len, list_any}
 use Rattle.std.proofs.lemmas.List.{take_more, map-append}
 use Rattle.std.proofs.lemmas.Bool.{le-leb, lt-leb}
 use Rattle.vpg_diagram.specs.FeatureDiagram.{Line}
 use Rattle.std.proofs.lemmas.Bool.{cases_Bool, ltb-true, ltb-false, lt-ltb, le-ltb}
-use Rattle.std.proofs.lemmas.List.{at_drop_more, at_drop_all}
+use Rattle.std.proofs.lemmas.List.{at_drop_more}
 use Rattle.vpg_diagram.specs.DiagramReading.{LineFault, UnknownFeature, TwoParents, TooMany, BadRange, checked, children_at, rule_at, place_of_name, are_new}
 use Rattle.vpg_diagram.specs.FormView.{texts}
 
@@ -52,12 +52,6 @@ new_stops names ws i d l p =
 pub names_more : (names : List (List ℕ)) (ws : List (Bor (List ℕ))) (i : ℕ) (d : Bor (List ℕ)) → i < length ws →
     names ++ texts (drop i ws) ≡ (names ++ (get_or ws i d).now ∷ []) ++ texts (drop (i + 1) ws)
 names_more names ws i d l = at_drop_more (λ xs. names ++ texts xs) ws i d l ∙ sym (append_assoc names ((get_or ws i d).now ∷ []) (texts (drop (i + 1) ws)))
-
-pub new_at_end : (names : List (List ℕ)) (ws : List (Bor (List ℕ))) (i : ℕ) → length ws ≤ i → are_new names (texts (drop i ws)) ≡ true
-new_at_end names ws i l = at_drop_all (λ xs. are_new names (texts xs)) ws i l
-
-pub names_at_end : (names : List (List ℕ)) (ws : List (Bor (List ℕ))) (i : ℕ) → length ws ≤ i → names ++ texts (drop i ws) ≡ names
-names_at_end names ws i l = at_drop_all (λ xs. names ++ texts xs) ws i l ∙ append-nil names
 
 pub not_some_none : (o : Option ℕ) → is_some o ≡ false → o ≡ None
 not_some_none None e = refl

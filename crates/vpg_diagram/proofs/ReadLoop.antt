@@ -4,9 +4,9 @@ use Rattle.std.specs.Result.{IsErrAnd}
 use Rattle.std.specs.Str.Lines.{lines}
 use Rattle.vpg_diagram.specs.FeatureDiagram.{Line}
 use Rattle.vpg_diagram.specs.DiagramText.{is_nonempty, words, Form, NamedDiagram}
-use Rattle.vpg_diagram.specs.DiagramReading.{LineFault, Syntax, UnknownFeature, Fault, At, form_of, line_at, new_names, rules_in, with_line, with_root, after_line, after_form, read_lines, after_root, read_root}
+use Rattle.vpg_diagram.specs.DiagramReading.{LineFault, Syntax, UnknownFeature, Fault, At, form_of, line_at, new_names, rules_in, with_line, after_line, after_form, read_lines, after_root, read_root}
 use Rattle.vpg_diagram.specs.LineView.{line_of, lines_of}
-use Rattle.vpg_diagram.specs.ReadCode.{ReadsLine, AddsLine, IsFormError, IsLineError, IsReadingFault, behind_root}
+use Rattle.vpg_diagram.specs.ReadCode.{ReadsLine, AddsLine, IsFormError, IsLineError, IsReadingFault}
 use Rattle.vpg_diagram.specs.declared.fault.LineError.{LineError}
 use Rattle.vpg_diagram.specs.declared.fault.LineError.TheVariants.{Memory, Refused}
 use Rattle.vpg_diagram.specs.declared.line.Line as code
@@ -39,15 +39,8 @@ some_words bytes b e f = not_blank b (is_nonempty (words bytes)) e f
 
 -- up to the root line
 module _ (number : ℕ) (bytes : List ℕ) (rest : List (List ℕ)) where
-  pub root_after_blank : is_nonempty (words bytes) ≡ false → read_root number (bytes ∷ rest) ≡ read_root (number + 1) rest
-  root_after_blank w = ap (λ t. cond t (after_root number (form_of bytes) rest) (read_root (number + 1) rest)) w
-
   pub root_here : (o : Option Form) → is_nonempty (words bytes) ≡ true → form_of bytes ≡ o → read_root number (bytes ∷ rest) ≡ after_root number o rest
   root_here o w e = ap (λ t. cond t (after_root number (form_of bytes) rest) (read_root (number + 1) rest)) w ∙ ap (λ x. after_root number x rest) e
-
-pub root_continued : (root : List ℕ) (x : Result NamedDiagram Fault) → with_root root x ≡ continued (root ∷ []) [] x
-root_continued root (Ok d) = refl
-root_continued root (Err fault) = refl
 
 pub at_end : (names : List (List ℕ)) (ls : List Line) → continued names ls (Ok (record { names = []; lines = [] })) ≡ Ok (record { names = names; lines = ls })
 at_end names ls = ap₂ (λ ns xs. Ok (record { names = ns; lines = xs })) (append-nil names) (append-nil ls)
@@ -58,9 +51,6 @@ line_continued names new ls line (Err fault) = refl
 
 -- behind the root line
 module _ (number : ℕ) (bytes : List ℕ) (rest : List (List ℕ)) where
-  pub lines_after_blank : (names : List (List ℕ)) (rules : ℕ) → is_nonempty (words bytes) ≡ false → read_lines number (bytes ∷ rest) names rules ≡ read_lines (number + 1) rest names rules
-  lines_after_blank names rules w = ap (λ t. cond t (after_form number names rules (form_of bytes) (read_lines (number + 1) rest)) (read_lines (number + 1) rest names rules)) w
-
   lines_here : (names : List (List ℕ)) (rules : ℕ) (o : Option Form) → is_nonempty (words bytes) ≡ true → form_of bytes ≡ o → read_lines number (bytes ∷ rest) names rules ≡ after_form number names rules o (read_lines (number + 1) rest)
   lines_here names rules o w e =
       ap (λ t. cond t (after_form number names rules (form_of bytes) (read_lines (number + 1) rest)) (read_lines (number + 1) rest names rules)) w
@@ -94,11 +84,6 @@ no_root_form number (kept.Or p cs) rest other = refl
 no_root_form number (kept.Group p low high cs) rest other = refl
 no_root_form number (kept.Requires a b) rest other = refl
 no_root_form number (kept.Excludes a b) rest other = refl
-
--- nothing is read yet but the root
-pub root_alone : (root behind : List ℕ) (number : ℕ) (names : List (List ℕ)) (ls : List Line) (rules : ℕ) → names ≡ root ∷ [] → ls ≡ [] → rules ≡ 0 →
-    continued names ls (read_lines (number + 1) (lines behind) names rules) ≡ behind_root root number behind
-root_alone root behind number names ls rules n l r = rw (n, l, r) (sym (root_continued root (read_lines (number + 1) (lines behind) (root ∷ []) 0)))
 
 -- all is read
 pub all_read : (rest : List ℕ) (number : ℕ) (names : List (List ℕ)) (ls : List Line) (rules : ℕ) → rest ≡ [] → continued names ls (read_lines number (lines rest) names rules) ≡ Ok (record { names = names; lines = ls })

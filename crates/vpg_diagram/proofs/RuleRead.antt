@@ -1,11 +1,10 @@
 -- Reading the rule of a formula.
-use Rattle.std.proofs.Common.{◌≡◌, ℕ, ◌+◌, ◌<◌, ◌≤◌, Bool, true, false, nat_le, List, [], ◌∷◌, length, map, Option, Some, None, Result, Ok, Err, refl, sym, ap, ◌∙◌, inl, inr, arith, append-nil}
-use Rattle.std.specs.Prelude.{◌≢◌, option_map}
-use Rattle.std.proofs.lemmas.Bool.{both_ways, le-leb}
+use Rattle.std.proofs.Common.{◌≡◌, ℕ, ◌+◌, ◌<◌, ◌≤◌, Bool, true, false, nat_le, List, [], length, Option, Some, None, Result, Ok, Err, refl, sym, ap, ◌∙◌, inr, arith, append-nil}
+use Rattle.std.specs.Prelude.{option_map}
+use Rattle.std.proofs.lemmas.Bool.{le-leb}
 use Rattle.std.proofs.lemmas.Bool.Decides.{nat_tests}
 use Rattle.vpg_rules.specs.declared.fault.RuleFault.{RuleFault}
 use Rattle.vpg_rules.specs.declared.fault.RuleFault.TheVariants as faults
-use Rattle.vpg_rules.specs.declared.clause.Literal.{Literal as RuleLiteral}
 use Rattle.vpg_rules.specs.declared.rule.Rule.{Rule}
 use Rattle.vpg_rules.specs.Constraint.{Constraint, renamed, features_in, IsBelow}
 use Rattle.vpg_rules.specs.Clauses.{clauses_of, clause_count}
@@ -15,13 +14,10 @@ use Rattle.vpg_rules.specs.View.{constraint_of}
 use Rattle.vpg_rules.proofs.Features.{renamed_below, below_renamed, count_renamed, count_is}
 use Rattle.vpg_rules.proofs.Levels.{rule_found, rule_again}
 use Rattle.vpg_diagram.specs.FeatureDiagram.{Line, Formula}
-use Rattle.vpg_diagram.specs.Clauses.{feature_out, literal_of, rule_clause}
 use Rattle.vpg_diagram.specs.DiagramText.{FormulaLine}
 use Rattle.vpg_diagram.specs.DiagramReading.{LineFault, UnknownFeature, Syntax, TooManyClauses, TooMany, checked, are_known, formula_line, At, after_root, behind_rule, form_by_word}
-use Rattle.vpg_diagram.specs.ReadCode.{IsReadRule, ReadsRule, IsRuleError, ReadsLine, IsLineError, IsReadingFault}
-use Rattle.vpg_diagram.specs.declared.clause.Literal.{Literal}
-use Rattle.vpg_diagram.specs.declared.fault.LineError.{LineError}
-use Rattle.vpg_diagram.specs.declared.fault.LineError.TheVariants.{Memory, Refused}
+use Rattle.vpg_diagram.specs.ReadCode.{IsReadRule, ReadsRule, ReadsLine, IsReadingFault}
+use Rattle.vpg_diagram.specs.declared.fault.LineError.TheVariants.{Memory}
 use Rattle.vpg_diagram.specs.declared.fault.DiagramFault.TheVariants as whole
 use Rattle.vpg_diagram.proofs.RuleLemmas.{known_each, each_known}
 
@@ -98,15 +94,6 @@ root_found number rest o c e = inr (At number UnknownFeature, ap (λ (x : Option
 pub root_none : (number : ℕ) (rest : List (List ℕ)) (o : Option NamedRule) → o ≡ None → IsReadingFault (after_root number (option_map FormulaLine o) rest) (whole.Syntax number)
 root_none number rest o e = inr (At number Syntax, ap (λ (x : Option NamedRule). after_root number (option_map FormulaLine x) rest) e, refl)
 
--- literals of a clause
-pub clause_empty : (ls : List RuleLiteral) (xs : List Literal) → xs ≡ map literal_of ls → length xs ≡ 0 → feature_out 0 ∷ [] ≡ rule_clause ls
-clause_empty [] xs e z = refl
-clause_empty (l ∷ ls) xs e z = absurd (omega (arith, ap length e))
-
-pub clause_filled : (ls : List RuleLiteral) (xs : List Literal) → xs ≡ map literal_of ls → (length xs ≡ 0 → ⊥) → xs ≡ rule_clause ls
-clause_filled [] xs e some = absurd (some (ap length e))
-clause_filled (l ∷ ls) xs e some = e
-
 -- a line that begins with the word
 pub rule_line : (names after : List (List ℕ)) (rules : ℕ) (bytes text : List ℕ) (rule : Constraint ℕ) (count : ℕ) → behind_rule bytes ≡ Some text → after ≡ names → ReadsRule names rules text rule count
     → ReadsLine names rules bytes after (Formula rule) count
@@ -117,8 +104,3 @@ rule_line names after rules bytes text rule count w n r = record {
   names_are = n ∙ sym (append-nil names);
   count_is = r.count_is;
 }
-
-pub rule_refused : (names : List (List ℕ)) (rules : ℕ) (bytes text : List ℕ) (e : LineError) → behind_rule bytes ≡ Some text → IsRuleError names rules text e → IsLineError names rules bytes e
-rule_refused names rules bytes text Memory w h = tt
-rule_refused names rules bytes text (Refused kind) w (inl h) = inl (ap (form_by_word bytes) w ∙ ap (option_map FormulaLine) h.0, h.1)
-rule_refused names rules bytes text (Refused kind) w (inr h) = inr (FormulaLine h.0, ap (form_by_word bytes) w ∙ ap (option_map FormulaLine) h.1, h.2)

@@ -1,10 +1,10 @@
 -- The word `rule` at the front of a line.
-use Rattle.std.proofs.Common.{◌≡◌, ℕ, Bool, true, false, not, cond, List, [], ◌∷◌, ◌++◌, filter, Option, Some, None, IsTrue, bytes_eq, refl, sym, ap, ap₂, ◌∙◌, ◌⊎◌, inl, inr, eqb-true, append_assoc}
+use Rattle.std.proofs.Common.{◌≡◌, ℕ, Bool, true, false, cond, List, [], ◌∷◌, ◌++◌, filter, Option, Some, None, IsTrue, bytes_eq, refl, sym, ap, ◌∙◌, eqb-true}
 use Rattle.std.specs.Prelude.{⊤, codes, option_and_then, ◌&&◌, ◌==◌}
 use Rattle.std.specs.List.{list_all, slice_split, onto_first}
-use Rattle.std.proofs.lemmas.Bool.{cases_Bool, both_ways}
+use Rattle.std.proofs.lemmas.Bool.{both_ways}
 use Rattle.vpg_rules.specs.Reading.{stripped}
-use Rattle.vpg_rules.proofs.Marks.{strip_is, strip_front}
+use Rattle.vpg_rules.proofs.Marks.{strip_is}
 use Rattle.vpg_diagram.specs.DiagramText.{is_blank, is_nonempty, words}
 use Rattle.vpg_diagram.specs.DiagramReading.{after_blank, behind_rule}
 use Rattle.vpg_diagram.proofs.NameLemmas.{same_eq}
@@ -87,20 +87,6 @@ no_rule front more word ws ends is other = go (behind_rule (front ++ more)) refl
         let w : word ∷ ws ≡ codes "rule" ∷ h.0 = sym is ∙ h.1 in
         let same : word ≡ codes "rule" = cc in
         absurd (both_ways (bytes_eq word (codes "rule")) other (same_eq word (codes "rule") same))
-
-pub no_rule_blank : (bytes : List ℕ) → words bytes ≡ [] → behind_rule bytes ≡ None
-no_rule_blank bytes is = go (behind_rule bytes) refl
-  where
-    nil : (xs : List ℕ) → xs ++ [] ≡ xs
-    nil [] = refl
-    nil (x ∷ xs) = ap (λ ys. x ∷ ys) (nil xs)
-
-    go : (o : Option (List ℕ)) → behind_rule bytes ≡ o → o ≡ None
-    go None e = refl
-    go (Some t) e =
-        let h = first_word t bytes [] tt (ap behind_rule (nil bytes) ∙ e) in
-        let w : ◌≡◌ {A = List (List ℕ)} [] (codes "rule" ∷ h.0) = sym is ∙ h.1 in
-        absurd cc
 
 -- what stands before and behind the word
 pub record RuleParts (bytes text : List ℕ) : Type 0 where

@@ -2,17 +2,12 @@
 use Rattle.std.proofs.Common.{◌≡◌, ℕ, suc, ◌+◌, ◌<◌, ◌≤◌, List, ◌++◌, length, map, take, get_or, flat_map, Result, Ok, Err, rules, sym, ap, ◌∙◌, append_assoc, add-one}
 use Rattle.std.proofs.lemmas.List.{flat_map_more, take_more, take_all}
 use Rattle.std.proofs.lemmas.List.Folds.{flat_map-map}
-use Rattle.std.proofs.lemmas.Result.{on_ok_weaker}
 use Rattle.std.specs.Prelude.{if◌then◌else◌}
 use Rattle.std.specs.Result.{OnOk, is_ok}
 
 -- two pieces
 pub grown : (a b c x y : List ℕ) → b ≡ a ++ x → c ≡ b ++ y → c ≡ a ++ (x ++ y)
 grown a b c x y e f = f ∙ (ap (λ (s : List ℕ). s ++ y) e ∙ append_assoc a x y)
-
--- two pieces, of which the last one may be refused
-pub grown_if : {T E : Type 0} (r : Result T E) (a b c x y : List ℕ) → b ≡ a ++ x → OnOk r (c ≡ b ++ y) → OnOk r (c ≡ a ++ (x ++ y))
-grown_if r a b c x y e = on_ok_weaker r (grown a b c x y e)
 
 -- a text by recursion over the numbers below n, and one more of them
 pub grown_by : (text : ℕ → List ℕ) (piece : List ℕ) (n : ℕ) (a b c : List ℕ) → text (suc n) ≡ text n ++ piece → b ≡ a ++ text n → c ≡ b ++ piece → c ≡ a ++ text (n + 1)

@@ -1,5 +1,5 @@
 -- What an index has after more is noted.
-use Rattle.std.proofs.Common.{◌≡◌, ℕ, zero, suc, ◌+◌, ◌<◌, List, [], ◌∷◌, ◌++◌, length, take, set, get_or, Some, Result, Ok, Err, OnOk, slice_get, Contains, ◌⊎◌, ◌↔◌, inl, inr, refl, sym, ap, ◌∙◌, subst, arith}
+use Rattle.std.proofs.Common.{◌≡◌, ℕ, zero, suc, ◌+◌, ◌<◌, List, [], ◌∷◌, ◌++◌, length, take, set, get_or, Some, Result, Ok, Err, OnOk, Contains, ◌⊎◌, ◌↔◌, inl, inr, refl, sym, ap, ◌∙◌, subst, arith}
 use Rattle.std.proofs.lemmas.Bool.{cases_eq}
 use Rattle.std.proofs.lemmas.List.{length-set, get_or-set_same, get_or-set_other, take_more}
 use Rattle.std.proofs.lemmas.List.Elements.{Contains-append_left, Contains-append_right, Contains-append_cases, Contains-push}
@@ -27,14 +27,6 @@ pushed old new number e k = (λ h. to (Contains-append_cases old (number ∷ [])
     from : Contains old k ⊎ (k ≡ number) → Contains new k
     from (inl h) = subst (λ (xs : List ℕ). Contains xs k) (sym e) (Contains-append_left old (number ∷ []) k h)
     from (inr q) = subst (λ (xs : List ℕ). Contains xs k) (sym e) (Contains-append_right old (number ∷ []) k (subst (λ (n : ℕ). Contains (n ∷ []) k) q (Contains-push [] k)))
-
--- a number that was there
-pub there_already : (old : List ℕ) (number : ℕ) → Contains old number → (k : ℕ) → Contains old k ↔ (Contains old k ⊎ (k ≡ number))
-there_already old number has k = (λ h. inl h, from)
-  where
-    from : Contains old k ⊎ (k ≡ number) → Contains old k
-    from (inl h) = h
-    from (inr q) = subst (λ (n : ℕ). Contains old n) (sym q) has
 
 pub any_default : {X : Type 0} (xs : List X) (i : ℕ) (a b : X) → i < length xs → get_or xs i a ≡ get_or xs i b
 any_default xs i a b l = let e : Some (get_or xs i a) ≡ Some (get_or xs i b) = sym (slice_get-get_or xs i a l) ∙ slice_get-get_or xs i b l in cc

@@ -1,21 +1,20 @@
 -- The steps of reading whole texts, as the code takes them.
 use Rattle.std.proofs.Common.{◌≡◌, ℕ, zero, suc, ◌+◌, ◌-◌, ◌<◌, ◌≤◌, Bool, true, false, cond, List, [], ◌∷◌, ◌++◌, map, reverse, length, get_or, take, drop, Option, Some, None, Err, refl, sym, ap, ◌∙◌, arith, append_assoc}
-use Rattle.std.specs.Prelude.{codes, bytes_eq, not, ◌&&◌, ◌||◌, is_some, option_map}
-use Rattle.std.proofs.lemmas.List.{append-nil, at_drop_more, at_drop_all, take_more, take_all, reverse-append, length-append}
+use Rattle.std.specs.Prelude.{codes, bytes_eq, not, ◌&&◌, ◌||◌, is_some}
+use Rattle.std.proofs.lemmas.List.{append-nil, at_drop_more, take_more, take_all, reverse-append, length-append}
 use Rattle.vpg_formula.specs.Written.{Phrase, is_variable}
 use Rattle.vpg_formula.specs.Marks.{written_marks, phrase_marks}
-use Rattle.vpg_formula.specs.Standings.{is_among, standing_in, standing_under, is_like, has}
+use Rattle.vpg_formula.specs.Standings.{is_among, has}
 use Rattle.vpg_formula.specs.FormulaGrammar.{a_formula}
 use Rattle.vpg_formula.specs.Words.{words_of}
 use Rattle.vpg_formula.specs.Requirements.{Entry, are_positive, lone_entry, SpellsEntries, SpellsRequirements, AreRequirements, IsRefused, Marked, marked, names_of}
 use Rattle.vpg_formula.specs.Reading.{◌>>=◌, after_word, phrase_at, if_last}
-use Rattle.vpg_formula.specs.EntryReading.{Visit, visit, step, standings_of, first_like, if_known, body_at, item_behind, entry_behind, new_entry, entry_at, entries_at, lone_at, requirements_at}
-use Rattle.vpg_formula.specs.EntryCode.{bounds, context_of, entries_of, earlier_of, Goes, Halts, IsBody, IsHead, IsItem, AreRead, IsChecked, AreNegated, Refuses, AreWhole, is_halt_of_memory, is_fault_of_memory, is_halt_negated, is_fault_negated}
+use Rattle.vpg_formula.specs.EntryReading.{Visit, visit, step, standings_of, first_like, if_known, body_at, item_behind, entry_behind, new_entry, entry_at, entries_at, requirements_at}
+use Rattle.vpg_formula.specs.EntryCode.{context_of, entries_of, earlier_of, Goes, Halts, IsBody, IsHead, IsItem, AreRead, IsChecked, AreNegated, Refuses, AreWhole, is_halt_of_memory, is_fault_of_memory, is_halt_negated, is_fault_negated}
 use Rattle.vpg_formula.specs.declared.mark.Mark.{Mark}
 use Rattle.vpg_formula.specs.declared.fault.RequirementFault.{RequirementFault}
 use Rattle.vpg_formula.specs.declared.fault.RequirementFault.TheVariants as faults
 use Rattle.vpg_formula.specs.declared.requirement.Entry as code
-use Rattle.vpg_formula.specs.declared.uses.Bound as code_bound
 use Rattle.vpg_formula.specs.declared.uses.Context as code_context
 use Rattle.vpg_formula.specs.declared.uses.Standing.{Standing}
 use Rattle.vpg_formula.specs.declared.uses.Standing.TheVariants.{Unknown, Negated}
@@ -23,7 +22,6 @@ use Rattle.vpg_formula.specs.declared.stop.Halt.{Halt}
 use Rattle.vpg_formula.specs.declared.stop.Halt.TheVariants as halts
 use Rattle.vpg_formula.proofs.Series.{some, some_is}
 use Rattle.vpg_formula.proofs.Entries.{requirements_found, requirements_again}
-use Rattle.vpg_formula.proofs.Lengths.{shifted}
 use Rattle.vpg_formula.proofs.Standings.{visit_append, has_by_marks}
 
 abbrev Words : Type 0
@@ -37,16 +35,6 @@ among_goes es i e x t lt is same =
     at_drop_more (λ (rest : List code.Entry). is_among (earlier_of rest) x) es i e lt
     ∙ ap (λ (y : code.Entry). bytes_eq y.name x || is_among (earlier_of (drop (i + 1) es)) x) (sym is)
     ∙ ap (λ (u : Bool). u || is_among (earlier_of (drop (i + 1) es)) x) same
-
-pub among_ends : (es : List code.Entry) (i : ℕ) (x : List ℕ) → length es ≤ i → is_among (earlier_of (drop i es)) x ≡ false
-among_ends es i x le = at_drop_all (λ (rest : List code.Entry). is_among (earlier_of rest) x) es i le
-
-pub standing_goes : (is_odd : Bool) (bs : List code_bound.Bound) (i : ℕ) (d : code_bound.Bound) (s : Standing) (x : List ℕ) → i < length bs
-    → standing_in is_odd (bounds (drop i bs)) s x ≡ standing_in is_odd (bounds (drop (i + 1) bs)) (cond (bytes_eq (get_or bs i d).name.now x) (standing_under (get_or bs i d).is_odd is_odd) s) x
-standing_goes is_odd bs i d s x lt = at_drop_more (λ (rest : List code_bound.Bound). standing_in is_odd (bounds rest) s x) bs i d lt
-
-pub standing_ends : (is_odd : Bool) (bs : List code_bound.Bound) (i : ℕ) (s : Standing) (x : List ℕ) → length bs ≤ i → standing_in is_odd (bounds (drop i bs)) s x ≡ s
-standing_ends is_odd bs i s x le = at_drop_all (λ (rest : List code_bound.Bound). standing_in is_odd (bounds rest) s x) bs i le
 
 map_append : {A B : Type 0} (f : A → B) (xs ys : List A) → map f (xs ++ ys) ≡ map f xs ++ map f ys
 map_append f [] ys = refl
@@ -67,30 +55,6 @@ last_split {A} xs d l =
 pub visit_last : (earlier : Words) (ms : List Mark) (d : Mark) (v : Visit) → 1 ≤ length ms → visit earlier ms v ≡ visit earlier (take (length ms - 1) ms) (step earlier (get_or ms (length ms - 1) d) v)
 visit_last earlier ms d v l =
     sym (ap (λ (xs : List Mark). visit earlier xs v) (last_split ms d l)) ∙ visit_append earlier (take (length ms - 1) ms) (get_or ms (length ms - 1) d ∷ []) v
-
-back_split : (ss : List Standing) (d : Standing) → 1 ≤ length ss → reverse ss ≡ get_or ss (length ss - 1) d ∷ reverse (take (length ss - 1) ss)
-back_split ss d l = sym (ap reverse (last_split ss d l)) ∙ noted (take (length ss - 1) ss) (get_or ss (length ss - 1) d)
-
-pub first_stays : (wanted : Standing) (ss : List Standing) (d : Standing) (at : ℕ) → 1 ≤ length ss → is_like wanted (get_or ss (length ss - 1) d) ≡ true → shifted at (first_like wanted (reverse ss)) ≡ Some at
-first_stays wanted ss d at l e =
-    ap (λ (xs : List Standing). shifted at (first_like wanted xs)) (back_split ss d l)
-    ∙ ap (λ (t : Bool). shifted at (cond t (Some 0) (option_map suc (first_like wanted (reverse (take (length ss - 1) ss)))))) e
-    ∙ ap (λ (n : ℕ). Some n) (omega arith)
-
-pub first_goes : (wanted : Standing) (ss : List Standing) (d : Standing) (at : ℕ) → 1 ≤ length ss → is_like wanted (get_or ss (length ss - 1) d) ≡ false
-    → shifted at (first_like wanted (reverse ss)) ≡ shifted (at + 1) (first_like wanted (reverse (take (length ss - 1) ss)))
-first_goes wanted ss d at l e =
-    ap (λ (xs : List Standing). shifted at (first_like wanted xs)) (back_split ss d l)
-    ∙ ap (λ (t : Bool). shifted at (cond t (Some 0) (option_map suc (first_like wanted (reverse (take (length ss - 1) ss)))))) e
-    ∙ twice (first_like wanted (reverse (take (length ss - 1) ss)))
-  where
-    twice : (o : Option ℕ) → shifted at (option_map suc o) ≡ shifted (at + 1) o
-    twice None = refl
-    twice (Some k) = ap (λ (n : ℕ). Some n) (omega arith)
-
-pub first_empty : (wanted : Standing) (ss : List Standing) (at : ℕ) → length ss < 1 → shifted at (first_like wanted (reverse ss)) ≡ None
-first_empty wanted [] at l = refl
-first_empty wanted (s ∷ ss) at l = absurd (omega arith)
 
 -- ---- faults
 
@@ -113,22 +77,7 @@ halts_none (halts.TooDeep left) r n e = e
 halts_none (halts.Twice left) r n e = e
 halts_none (halts.TooMany left) r n e = e
 
-pub halts_refuse : (h : Halt) (read : Option (List Entry)) → Halts h read → Refuses h read
-halts_refuse halts.Memory read e = tt
-halts_refuse (halts.Negated left) read e = absurd e
-halts_refuse (halts.Syntax left) read e = e
-halts_refuse (halts.Unknown left) read e = e
-halts_refuse (halts.TooDeep left) read e = e
-halts_refuse (halts.Twice left) read e = e
-halts_refuse (halts.TooMany left) read e = e
-
 -- ---- a formula
-
-body_unread : (earlier ws : Words) → phrase_at a_formula 64 ws ≡ None → body_at earlier ws ≡ None
-body_unread earlier ws e = ap (λ (o : Option (Phrase × Words)). o >>= if_known earlier) e
-
-pub body_fails : (h : Halt) (earlier ws : Words) → is_halt_negated h ≡ false → phrase_at a_formula 64 ws ≡ None → Halts h (body_at earlier ws)
-body_fails h earlier ws n e = halts_none h (body_at earlier ws) n (body_unread earlier ws e)
 
 -- a formula that was read: its names decide
 body_is : (earlier ws rest : Words) (p : Phrase) (t : Bool) → phrase_at a_formula 64 ws ≡ Some (p, rest) → has Unknown earlier p.written ≡ t → body_at earlier ws ≡ cond t None (Some (p, rest))
@@ -198,31 +147,6 @@ head_behind earlier name ws rest h = behind_name earlier name ws h.variable h.ne
 
 with_name : List ℕ → Phrase → Words → Option (Entry × Words)
 with_name name p left = Some (record { name = name; formula = p.written }, left)
-
-item_from : List ℕ → Option (Phrase × Words) → Option (Entry × Words)
-item_from name o = o >>= λ p. after_word (codes ";") p.1 >>= λ left. with_name name p.0 left
-
-item_is : (earlier : Words) (name : List ℕ) (ws : Words) → item_behind earlier name ws ≡ item_from name (body_at earlier ws)
-unfolding item_from with_name
-item_is earlier name ws = refl
-
-pub item_fails : (h : Halt) (earlier : Words) (name : List ℕ) (ws : Words) → Halts h (body_at earlier ws) → Halts h (item_behind earlier name ws)
-unfolding item_from
-item_fails h earlier name ws e = halts_too h (body_at earlier ws) (item_behind earlier name ws) (λ f. item_is earlier name ws ∙ ap (item_from name) f) e
-
-pub item_open : (h : Halt) (earlier : Words) (name : List ℕ) (negated : Option ℕ) (ms : List Mark) (ws mid : Words) → is_halt_negated h ≡ false → IsBody earlier negated ms ws mid → after_word (codes ";") mid ≡ None → Halts h (item_behind earlier name ws)
-unfolding item_from
-item_open h earlier name negated ms ws mid early b s =
-    halts_none h _ early (item_is earlier name ws ∙ ap (item_from name) b.is ∙ ap (λ (o : Option Words). o >>= λ left. with_name name b.phrase left) s)
-
-pub item_read : (earlier : Words) (name : List ℕ) (negated : Option ℕ) (ms : List Mark) (ws mid rest : Words) → IsBody earlier negated ms ws mid → after_word (codes ";") mid ≡ Some rest → IsItem earlier name negated (name, ms) ws rest
-unfolding item_from with_name
-item_read earlier name negated ms ws mid rest b s = record {
-  formula = b.phrase.written;
-  is = item_is earlier name ws ∙ ap (item_from name) b.is ∙ ap (λ (o : Option Words). o >>= λ left. with_name name b.phrase left) s;
-  put = ap (λ (xs : List Mark). (name, xs)) b.put;
-  tells = b.tells;
-}
 
 -- ---- entries
 
@@ -340,50 +264,7 @@ goes_last negated made ws rest g e = record {
 last_or : Option (Phrase × Words) → Option (List Entry)
 last_or o = o >>= λ p. if_last (lone_entry p.0.written ∷ []) p.1
 
-lone_is : (ws : Words) → lone_at ws ≡ last_or (body_at [] ws)
-unfolding last_or
-lone_is ws = refl
-
-pub lone_fails : (h : Halt) (ws : Words) → Halts h (body_at [] ws) → Halts h (lone_at ws)
-unfolding last_or
-lone_fails h ws e = halts_too h (body_at [] ws) (lone_at ws) (λ f. lone_is ws ∙ ap last_or f) e
-
-pub lone_open : (h : Halt) (negated : Option ℕ) (ms : List Mark) (ws rest : Words) → is_halt_negated h ≡ false → IsBody [] negated ms ws rest → 0 < length rest → Halts h (lone_at ws)
-unfolding last_or
-lone_open h negated ms ws rest early b lt = halts_none h _ early (lone_is ws ∙ ap last_or b.is ∙ go rest lt)
-  where
-    go : (rest : Words) → 0 < length rest → if_last (lone_entry b.phrase.written ∷ []) rest ≡ None
-    go [] lt = absurd (omega arith)
-    go (w ∷ rest) lt = refl
-
-pub lone_read : (negated : Option ℕ) (made : List Marked) (ms : List Mark) (ws rest : Words) → IsBody [] negated ms ws rest → rest ≡ [] → made ≡ (codes "requirement", ms) ∷ [] → AreRead negated made (lone_at ws)
-unfolding last_or
-lone_read negated made ms ws rest b e f = record {
-  entries = lone_entry b.phrase.written ∷ [];
-  are = lone_is ws ∙ ap last_or b.is ∙ ap (if_last (lone_entry b.phrase.written ∷ [])) e;
-  put = f ∙ ap (λ (xs : List Mark). (codes "requirement", xs) ∷ []) b.put;
-  tells = b.tells ∙ twice (has Negated [] b.phrase.written);
-}
-  where
-    twice : (t : Bool) → t ≡ not (not t && true)
-    twice true = refl
-    twice false = refl
-
 -- ---- all of it
-
-pub whole_read : (negated : Option ℕ) (made : List Marked) (read : Option (List Entry)) → AreRead negated made read → negated ≡ None → AreWhole made read
-whole_read negated made read r n = record { entries = r.entries; are = r.are; put = r.put; positive = positive (are_positive [] r.entries) (sym r.tells ∙ ap is_some n) }
-  where
-    positive : (t : Bool) → not t ≡ false → t ≡ true
-    positive true e = refl
-    positive false e = absurd cc
-
-pub whole_negated : (negated : Option ℕ) (left : ℕ) (made : List Marked) (read : Option (List Entry)) → AreRead negated made read → negated ≡ Some left → Refuses (halts.Negated left) read
-whole_negated negated left made read r n = record { entries = r.entries; are = r.are; negative = negative (are_positive [] r.entries) (sym r.tells ∙ ap is_some n) }
-  where
-    negative : (t : Bool) → not t ≡ true → t ≡ false
-    negative true e = absurd cc
-    negative false e = refl
 
 none_unless : (h : Halt) (read : Option (List Entry)) → is_halt_of_memory h ≡ false → is_halt_negated h ≡ false → Refuses h read → read ≡ None
 none_unless halts.Memory read m n r = absurd cc

@@ -1,20 +1,16 @@
 -- How long words are, as loops count it.
 use Rattle.std.proofs.Common.{◌≡◌, ℕ, zero, suc, ◌+◌, ◌-◌, ◌<◌, ◌≤◌, Bool, true, false, cond, List, [], ◌∷◌, ◌≢◌, length, get_or, take, drop, Option, Some, None, refl, sym, ap, ◌∙◌, arith}
-use Rattle.std.specs.Prelude.{option_map, not, ◌&&◌, ◌||◌, ◌==◌}
+use Rattle.std.specs.Prelude.{option_map, ◌&&◌, ◌||◌, ◌==◌}
 use Rattle.std.proofs.lemmas.List.{at_drop_more, at_drop_all, length-drop, take_all}
 use Rattle.std.specs.Prelude.{unwrap_or}
 use Rattle.std.specs.List.{prefix_len}
 use Rattle.vpg_features.specs.Names.{is_name_byte}
 use Rattle.vpg_formula.specs.ActionCode.{end_at}
-use Rattle.vpg_formula.specs.Words.{is_keyword, starts_name, name_len, is_pair, is_blank, gap_len, one_more, ended, opening, go_on, open_behind, action_len, quote_len, word_and, after_gap, words_with, words_of, word_len}
+use Rattle.vpg_formula.specs.Words.{is_keyword, starts_name, name_len, is_pair, gap_len, one_more, ended, opening, go_on, open_behind, action_len, quote_len, word_and, after_gap, words_with, words_of, word_len}
 
 -- so many bytes, and then these
 abbrev pub shifted : ℕ → Option ℕ → Option ℕ
 shifted at n = option_map (λ k. at + k) n
-
-pub shifted_none : (o : Option ℕ) → o ≡ shifted 0 o
-shifted_none None = refl
-shifted_none (Some k) = ap (λ (n : ℕ). Some n) (omega arith)
 
 one_shifted : (at : ℕ) (o : Option ℕ) → shifted at (one_more o) ≡ shifted (at + 1) o
 one_shifted at None = refl
@@ -124,16 +120,6 @@ word_len_some b text = go (is_name_byte b) refl (b == 34) (quote_len text) (is_p
     go false e false n false = omega arith
 
 -- ---- the words of a text
-
-gap_within : (comment : Bool) (text : List ℕ) → gap_len comment text ≤ length text
-gap_within true [] = omega arith
-gap_within false [] = omega arith
-gap_within true (b ∷ text) = omega (arith, gap_within (not (b == 10)) text)
-gap_within false (b ∷ text) = go (is_blank b || b == 37) (gap_within (b == 37) text)
-  where
-    go : (t : Bool) → gap_len (b == 37) text ≤ length text → cond t (suc (gap_len (b == 37) text)) 0 ≤ suc (length text)
-    go true le = omega arith
-    go false le = omega arith
 
 gap_shorter : (text : List ℕ) → length (after_gap text) ≤ length text
 gap_shorter text = omega (arith, length-drop (gap_len false text) text)

@@ -1,10 +1,10 @@
 -- The names that the code finds in a formula.
-use Rattle.std.proofs.Common.{◌≡◌, ℕ, zero, suc, ◌+◌, ◌<◌, ◌≤◌, ◌⊎◌, inl, inr, Bool, true, false, cond, List, [], ◌∷◌, ◌++◌, map, take, drop, length, get_or, reverse, Option, Some, None, Ok, Err, append_assoc, refl, sym, ap, subst, ◌∙◌, arith}
+use Rattle.std.proofs.Common.{◌≡◌, ℕ, zero, suc, ◌+◌, ◌<◌, ◌≤◌, ◌⊎◌, inl, inr, Bool, true, false, cond, List, [], ◌∷◌, ◌++◌, map, take, drop, length, get_or, reverse, Option, Some, None, Ok, Err, refl, sym, ap, subst, ◌∙◌, arith}
 use Rattle.std.specs.Prelude.{codes, bytes_eq, nat_le, slice_get, option_map, not, ◌||◌}
 use Rattle.std.specs.List.{list_any}
 use Rattle.std.proofs.lemmas.Bool.{cases_Bool, leb-true, le-leb}
 use Rattle.std.specs.Borrow.{Bor}
-use Rattle.std.proofs.lemmas.List.{length-append, reverse-append, at_drop_more, at_drop_all}
+use Rattle.std.proofs.lemmas.List.{length-append, reverse-append}
 use Rattle.std.proofs.lemmas.List.Folds.{list_any-append}
 use Rattle.vpg_formula.specs.Written.{closing, Head, leaf, deadlock, of_action, parenthesis, in_front, modality, again, after_action, binder, other, head_of, Phrase}
 use Rattle.vpg_formula.specs.FormulaGrammar.{a_formula, IsFormula}
@@ -14,14 +14,13 @@ use Rattle.vpg_formula.specs.Reading.{phrase_at}
 use Rattle.vpg_formula.specs.EntryReading.{standings_of, first_like}
 use Rattle.vpg_formula.specs.ReadCode.{texts}
 use Rattle.vpg_formula.specs.Naming.{Region, in_formula, at_variable, in_path, at_action, in_action, region_behind_head, region_behind, closed_in, Spot, at_first, known_at, behind, binds, is_bound, Mention, mention, mentions_from, mentions, first_unknown}
-use Rattle.vpg_formula.specs.NamingCode.{region_of, depth_of, open_of, opens, pairs, left_mentions, left_in, IsFound, NamesAt}
+use Rattle.vpg_formula.specs.NamingCode.{region_of, depth_of, open_of, opens, left_mentions, left_in, IsFound, NamesAt}
 use Rattle.vpg_formula.specs.Faults.{IsNegatedIn}
 use Rattle.vpg_formula.specs.FaultCode.{IsLeft, BodyAt, NegatedIn}
 use Rattle.vpg_formula.specs.declared.mark.Mark.{Mark}
 use Rattle.vpg_formula.specs.declared.mentions.Region as code_region
 use Rattle.vpg_formula.specs.declared.mentions.Region.TheVariants as regions
 use Rattle.vpg_formula.specs.declared.mentions.Open as code_open
-use Rattle.vpg_formula.specs.declared.mentions.Mention as code
 use Rattle.vpg_formula.specs.declared.stop.Halt.{Halt}
 use Rattle.vpg_formula.specs.declared.stop.Halt.TheVariants as halts
 use Rattle.vpg_formula.specs.declared.uses.Standing.{Standing}
@@ -287,44 +286,6 @@ reversed_any p (x ∷ xs) = ap (list_any p) (reverse-append (x ∷ []) xs) ∙ l
 
 pub bound_reversed : (os : List code_open.Open) (x : List ℕ) → is_bound (opens os) x ≡ is_bound (map open_of os) x
 bound_reversed os x = reversed_any (binds x) (map open_of os)
-
-pub bound_goes : (os : List code_open.Open) (i : ℕ) (d : code_open.Open) (x : List ℕ) → i < length os → is_bound (map open_of (drop i os)) x ≡ (binds x (open_of (get_or os i d)) || is_bound (map open_of (drop (i + 1) os)) x)
-bound_goes os i d x lt = at_drop_more (λ (rest : List code_open.Open). is_bound (map open_of rest) x) os i d lt
-
-pub bound_ends : (os : List code_open.Open) (i : ℕ) (x : List ℕ) → length os ≤ i → is_bound (map open_of (drop i os)) x ≡ false
-bound_ends os i x le = at_drop_all (λ (rest : List code_open.Open). is_bound (map open_of rest) x) os i le
-
-pub unknown_goes : (ms : List code.Mention) (i : ℕ) (d : code.Mention) → i < length ms → (get_or ms i d).is_known ≡ true → first_unknown (pairs (drop i ms)) ≡ first_unknown (pairs (drop (i + 1) ms))
-unknown_goes ms i d lt known =
-    at_drop_more (λ (rest : List code.Mention). first_unknown (pairs rest)) ms i d lt
-    ∙ ap (λ (t : Bool). first_unknown (((get_or ms i d).left, t) ∷ pairs (drop (i + 1) ms))) known
-
-pub unknown_stops : (ms : List code.Mention) (i : ℕ) (d : code.Mention) → i < length ms → (get_or ms i d).is_known ≡ false → first_unknown (pairs (drop i ms)) ≡ Some (get_or ms i d).left
-unknown_stops ms i d lt known =
-    at_drop_more (λ (rest : List code.Mention). first_unknown (pairs rest)) ms i d lt
-    ∙ ap (λ (t : Bool). first_unknown (((get_or ms i d).left, t) ∷ pairs (drop (i + 1) ms))) known
-
-pub mentions_go : (earlier : Words) (s : Spot) (end : ℕ) (w : List ℕ) (ws : Words) → end < suc (length ws) → left_mentions earlier s end (w ∷ ws) ≡ mention (known_at earlier s w) (suc (length ws)) [] ++ left_mentions earlier (behind s w) end ws
-mentions_go earlier s end w ws l =
-    ap (λ (t : Bool). cond t [] (mention (known_at earlier s w) (suc (length ws)) (left_mentions earlier (behind s w) end ws))) (le_no (suc (length ws)) end l)
-    ∙ split (known_at earlier s w)
-  where
-    split : (o : Option Bool) → mention o (suc (length ws)) (left_mentions earlier (behind s w) end ws) ≡ mention o (suc (length ws)) [] ++ left_mentions earlier (behind s w) end ws
-    split None = refl
-    split (Some b) = refl
-
-pub mentions_stop : (earlier : Words) (s : Spot) (end : ℕ) (ws : Words) → length ws ≤ end → left_mentions earlier s end ws ≡ []
-mentions_stop earlier s end [] l = refl
-mentions_stop earlier s end (w ∷ ws) l = ap (λ (t : Bool). cond t [] (mention (known_at earlier s w) (suc (length ws)) (left_mentions earlier (behind s w) end ws))) (le_yes (suc (length ws)) end l)
-
--- one more word behind the others
-pub mentions_more : (earlier : Words) (s t : Spot) (end left : ℕ) (w : List ℕ) (ws : Words) (all old new : List Mention) → old ++ left_mentions earlier s end (w ∷ ws) ≡ all → new ≡ old ++ mention (known_at earlier s w) left [] → left ≡ suc (length ws) → end < left → t ≡ behind s w
-    → new ++ left_mentions earlier t end ws ≡ all
-mentions_more earlier s t end left w ws all old new h e f l g =
-    ap (λ (xs : List Mention). xs ++ left_mentions earlier t end ws) e ∙ append_assoc old (mention (known_at earlier s w) left []) (left_mentions earlier t end ws)
-    ∙ ap (λ (x : Spot). old ++ (mention (known_at earlier s w) left [] ++ left_mentions earlier x end ws)) g
-    ∙ ap (λ (k : ℕ). old ++ (mention (known_at earlier s w) k [] ++ left_mentions earlier (behind s w) end ws)) f
-    ∙ ap (λ (xs : List Mention). old ++ xs) (sym (mentions_go earlier s end w ws (omega (arith, f, l)))) ∙ h
 
 -- ---- regions
 

@@ -4,10 +4,9 @@ use Rattle.std.specs.Borrow.{Bor}
 use Rattle.std.proofs.lemmas.Bool.{cases_order}
 use Rattle.std.proofs.lemmas.List.{length-append, get_or_append_left}
 use Rattle.std.proofs.Math.Seq.{get_or-append_seam}
-use Rattle.vpg_formula.specs.Words.{word_len, after_gap, words_of}
+use Rattle.vpg_formula.specs.Words.{word_len, after_gap}
 use Rattle.vpg_formula.specs.ReadCode.{texts}
 use Rattle.vpg_formula.specs.Places.{from_word, place_of}
-use Rattle.vpg_formula.specs.FaultCode.{ArePlaces}
 
 from_alike : (text : List ℕ) (i j : ℕ) → i ≡ j → from_word i text ≡ from_word j text
 from_alike text i j e = ap (λ (k : ℕ). from_word k text) e
@@ -17,13 +16,6 @@ pub record HasPlaces (text : List ℕ) (n : ℕ) (places rest : List ℕ) : Type
   pub count : length places ≡ n
   pub each : (k : ℕ) → k < n → get_or places k 0 ≡ place_of text k
   pub goes : (j : ℕ) → from_word (n + j) text ≡ from_word j rest
-
-pub places_first : (text : List ℕ) (n : ℕ) (places : List ℕ) → n ≡ 0 → places ≡ [] → HasPlaces text n places text
-places_first text n places e f = record {
-  count = ap length f ∙ sym e;
-  each = λ k l. absurd (omega (arith, e, l));
-  goes = λ j. from_alike text (n + j) j (omega (arith, e));
-}
 
 -- one more place behind the others
 behind_others : (text places : List ℕ) (n at : ℕ) → length places ≡ n → ((k : ℕ) → k < n → get_or places k 0 ≡ place_of text k) → at ≡ place_of text n → (k : ℕ) → k < suc n → get_or (places ++ at ∷ []) k 0 ≡ place_of text k
@@ -46,17 +38,6 @@ places_more text places new rest behind n m at h put more e f =
       count = ap length put ∙ long;
       each = λ k l. ap (λ (t : List ℕ). get_or t k 0) put ∙ behind_others text places n at h.count h.each place k (omega (arith, l, one));
       goes = λ j. from_alike text (m + j) (n + suc j) (omega (arith, one)) ∙ h.goes (suc j) ∙ ap (from_word j) (sym e);
-    }
-
-pub places_end : (text places new rest : List ℕ) (n at : ℕ) → HasPlaces text n places rest → new ≡ places ++ at ∷ [] → after_gap rest ≡ [] → n ≡ length (words_of text) → at ≡ length text → ArePlaces text new
-places_end text places new rest n at h put e all f =
-    let here : from_word n text ≡ after_gap rest = from_alike text n (n + 0) (omega arith) ∙ h.goes 0 in
-    let none : length (from_word n text) ≡ 0 = ap length (here ∙ e) in
-    let place : at ≡ place_of text n = omega (arith, f, none) in
-    let long : length (places ++ at ∷ []) ≡ suc n = length-append places (at ∷ []) ∙ omega (arith, h.count) in
-    record {
-      count = ap length put ∙ long ∙ ap suc all;
-      each = λ k l. ap (λ (t : List ℕ). get_or t k 0) put ∙ behind_others text places n at h.count h.each place k (omega (arith, l, ap length put, long));
     }
 
 -- one more word behind the others

@@ -98,9 +98,6 @@ pub enclosed_open : {A : Type 0} (ms : A → List Mark) (has : A → Bool) (read
 enclosed_open {A} ms has read close old new ws mid flag r f =
     ap (λ (o : Option (A × Words)). o >>= λ y. after_word close y.1 >>= λ rest. Some (y.0, rest)) r.is ∙ ap (λ (o : Option Words). o >>= λ rest. Some (r.item, rest)) f
 
-pub moved_read : {A : Type 0} (ms : A → List Mark) (has : A → Bool) (old new : List Mark) (rest : Words) (flag : Bool) (here all : Option (A × Words)) → all ≡ here → IsRead ms has old new flag rest here → IsRead ms has old new flag rest all
-moved_read ms has old new rest flag here all e r = record { item = r.item; is = e ∙ r.is; put = r.put; tells = r.tells }
-
 -- ---- levels
 
 -- what a level does not refuse it joins

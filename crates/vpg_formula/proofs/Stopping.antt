@@ -129,27 +129,6 @@ module _ (d : ℕ) (k : ℕ) (ws : Words) (r : Reach (suc k) true (formula_needs
 deep_is : (d : ℕ) → sum 64 d ≡ 64 + d
 deep_is d = omega arith
 
-rest_of_way : (s : Step) (left n : ℕ) (later : Bool → List Need → Way) → IsHalt s → (way_by s left later ≡ halted n) ⊎ (way_by s left later ≡ too_deep n) → left ≡ n
-rest_of_way (on g ns) left n later h e = absurd h
-rest_of_way over left n later h (inl e) = absurd cc
-rest_of_way over left n later h (inr e) = absurd cc
-rest_of_way no_word left n later h (inl e) = cc
-rest_of_way no_word left n later h (inr e) = absurd cc
-rest_of_way no_room left n later h (inl e) = absurd cc
-rest_of_way no_room left n later h (inr e) = cc
-
-halted_step : (s : Step) (left n : ℕ) (later : Bool → List Need → Way) → IsHalt s → way_by s left later ≡ halted n → s ≡ no_word
-halted_step (on g ns) left n later h e = absurd h
-halted_step over left n later h e = absurd cc
-halted_step no_word left n later h e = refl
-halted_step no_room left n later h e = absurd cc
-
-deep_step : (s : Step) (left n : ℕ) (later : Bool → List Need → Way) → IsHalt s → way_by s left later ≡ too_deep n → s ≡ no_room
-deep_step (on g ns) left n later h e = absurd h
-deep_step over left n later h e = absurd cc
-deep_step no_word left n later h e = absurd cc
-deep_step no_room left n later h e = refl
-
 -- no formula goes on with a word at which reading stops
 no_more : (ws : Words) (front rest : Words) (w : List ℕ) (tail : Words) (s : Step) → (s ≡ over) ⊎ (s ≡ no_word)
     → ((k : ℕ) → (r : Reach (suc k) true (formula_needs 64) ws) × (r.front ≡ front) × (r.rest ≡ w ∷ tail) × (step r.flag r.later w (starts_operand tail) ≡ s))

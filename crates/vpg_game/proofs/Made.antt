@@ -1,9 +1,9 @@
 -- Entries that are within the limits and sound make a game.
-use Rattle.std.proofs.Common.{◌≡◌, ℕ, zero, suc, ◌+◌, ◌<◌, ◌≤◌, ◌^◌, Bool, true, false, cond, List, [], ◌∷◌, ◌++◌, length, map, take, take_all, get_or, Option, Some, None, slice_get, refl, sym, ap, subst, ◌∙◌, arith}
+use Rattle.std.proofs.Common.{◌≡◌, ℕ, zero, suc, ◌+◌, ◌<◌, ◌≤◌, ◌^◌, Bool, true, false, cond, List, [], ◌∷◌, ◌++◌, length, map, take, get_or, Option, Some, None, slice_get, refl, sym, ap, subst, ◌∙◌, arith}
 use Rattle.std.specs.Prelude.{◌==◌, not, SomeIff}
 use Rattle.vpg_game.specs.Levels.{top_of, levels_of}
 use Rattle.std.proofs.lemmas.Bool.{eq-eqb}
-use Rattle.std.proofs.lemmas.List.{length-map, take_more, get_or-map, map-append}
+use Rattle.std.proofs.lemmas.List.{length-map, take_more, get_or-map}
 use Rattle.vpg_guards.specs.Formula.{Formula}
 use Rattle.vpg_guards.specs.Grammar.{either}
 use Rattle.vpg_guards.specs.Writing.{IsReadable}
@@ -143,12 +143,6 @@ priority_at es i e lt is =
     let within : i < length (entry_priorities es) = omega (arith, length-map es (λ (x : SpelledEntry). x.priority)) in
     take_more (entry_priorities es) i 0 within
     ∙ ap (λ (p : ℕ). take i (entry_priorities es) ++ p ∷ []) (get_or-map (λ (x : SpelledEntry). x.priority) es i e 0 lt ∙ ap (λ (x : SpelledEntry). x.priority) (sym is))
-
-pub all_priorities : (es : List SpelledEntry) (i : ℕ) → length es ≤ i → take i (entry_priorities es) ≡ entry_priorities es
-all_priorities es i le = take_all i (entry_priorities es) (omega (arith, length-map es (λ (x : SpelledEntry). x.priority)))
-
-pub raised_more : (ps : List ℕ) (new : List ℕ) (p : ℕ) → map (λ q. q + 1) (ps ++ p ∷ []) ≡ map (λ q. q + 1) ps ++ (p + 1) ∷ []
-raised_more ps new p = map-append (λ q. q + 1) ps (p ∷ [])
 
 -- what a search found, and what it did not find
 pub some_is : {T : Type 0} (o : Option T) (x : T) (P : Type 0) (v : T) → o ≡ Some x → SomeIff o P v → P × (x ≡ v)

@@ -4,7 +4,7 @@ use Rattle.std.proofs.lemmas.List.{length-map, map_more, drop_more, get_or-map}
 use Rattle.std.proofs.lemmas.List.Elements.{All-map, All-filter, All-append}
 use Rattle.std.proofs.lemmas.List.Sums.{length-filter, count_by-le-length}
 use Rattle.vpg_guards.specs.declared.tri.Tri.{Tri}
-use Rattle.vpg_guards.specs.Formula.{Formula, truth, IsBelow}
+use Rattle.vpg_guards.specs.Formula.{Formula, IsBelow}
 use Rattle.vpg_guards.specs.Known.{kleene}
 use Rattle.vpg_game.specs.Guarded.{GuardedEdge, GuardedVertex, GuardedGame, dual}
 use Rattle.vpg_game.specs.Game.{NamedVertex, NamedGame, IsGame, AreVertices, edges_in, graph_of, vertex_in, unnamed, no_vertex}
@@ -16,9 +16,9 @@ use Rattle.vpg_hope.specs.Kept.{owner_under, priority_under, is_kept, kept_under
 use Rattle.vpg_hope.specs.Selection.{vertex_under}
 use Rattle.vpg_hope.specs.declared.arena.Row.{Row}
 use Rattle.vpg_hope.proofs.Rows.{shared_row, own_row, row_added, row_replaced, next_replaced, next_kept, all_replaced}
-use Rattle.vpg_hope.specs.Hope.{hopeful_game, cautious_game, product_game}
+use Rattle.vpg_hope.specs.Hope.{hopeful_game, cautious_game}
 use Rattle.vpg_hope.specs.declared.selection.Selection.{Selection}
-use Rattle.vpg_hope.specs.declared.selection.Selection.TheVariants.{Hopeful, HopefulOfDual, Cautious, CautiousOfDual, Product}
+use Rattle.vpg_hope.specs.declared.selection.Selection.TheVariants.{Hopeful, HopefulOfDual, Cautious, CautiousOfDual}
 
 -- ---- what a game's edges and priorities keep
 
@@ -145,6 +145,3 @@ cautious_of_dual_is known values graph is = vertices graph ∙ ap (λ (vs : List
     vertices : (vertices : GuardedGame Formula) → map (vertex_under (CautiousOfDual known)) vertices ≡ cautious_game (kleene known.now) (dual vertices)
     vertices [] = refl
     vertices (vertex ∷ rest) = ap (λ (xs : List Vertex). vertex_under (CautiousOfDual known) vertex ∷ xs) (vertices rest)
-
-pub product_is : (set : Bor (List Bool)) (graph : GuardedGame Formula) → map (vertex_under (Product set)) graph ≡ product_game (truth set.now) graph
-product_is set graph = refl

@@ -106,9 +106,6 @@ module _ (labels : ℕ) (system : System Guard) (states : List (List Departure))
       step_to : Transition Guard → GuardedMove
       step_to t = record { guard = t.guard; to = situation t.step.target (form a) binders }
 
-  free_moves : (q r : Situation) → q ≡ r → free_move q ≡ free_move r
-  free_moves q r e = ap free_move e
-
   situated : (s k : ℕ) (p : Part) → IsForm k p → IsSituated s (at s k) (resolved_from parts p)
   situated s k True h = subst (λ (f : NormalForm). IsSituated s (situation s f (scope k)) True) (sym h) (record { moves = refl; owner = refl; priority = refl })
   situated s k False h = subst (λ (f : NormalForm). IsSituated s (situation s f (scope k)) False) (sym h) (record { moves = refl; owner = refl; priority = refl })

@@ -9,10 +9,8 @@ use Rattle.std.proofs.lemmas.List.Sums.{sum_by-cons}
 use Rattle.vpg_guards.specs.Formula.{Formula as Guard, always}
 use Rattle.vpg_guards.specs.Writing.{IsReadable}
 use Rattle.vpg_game.specs.Edges.{GuardedEdge, join_edge}
-use Rattle.vpg_game.specs.declared.fault.GameFault.{GameFault}
-use Rattle.vpg_game.specs.declared.fault.GameFault.TheVariants as game_faults
 use Rattle.vpg_game.specs.Spelled.{SpelledSuccessor, SpelledEntry, named_in}
-use Rattle.vpg_game.specs.Building.{AreReadable, AreLimited, IsLimited, IsMakingFault}
+use Rattle.vpg_game.specs.Building.{AreReadable, AreLimited, IsLimited}
 use Rattle.vpg_game.specs.Game.{unnamed, graph_of, vertex_of, game_of, vertex_ids, priorities_of, entry_ids, entry_priorities, joined_edges, place_of}
 use Rattle.vpg_game.proofs.Made.{same_ids, same_priorities}
 use Rattle.vpg_requirement.specs.Building.{join_edges}
@@ -24,7 +22,7 @@ use Rattle.vpg_model.specs.declared.fault.ModelFault.{ModelFault}
 use Rattle.vpg_model.specs.declared.fault.ModelFault.TheVariants as faults
 use Rattle.vpg_parts.specs.Sets.{is_permitted}
 use Rattle.vpg_model.specs.Pairs.{pair_for, departures_at, moves_by, pair_moves, HaveGuards, AreNumbered, AreWithin, IsRefused, IsPairEdge, IsPairRow, IsPairGame, pair_at, targets, targets_from, moves_in, pair_priorities}
-use Rattle.vpg_model.specs.Searching.{ArePairSuccessors, IsPairEntry, AreRoots, IsSearched, AreEntries, IsGameFault, model_fault}
+use Rattle.vpg_model.specs.Searching.{ArePairSuccessors, IsPairEntry, AreRoots, IsSearched, AreEntries, IsGameFault}
 use Rattle.vpg_model.proofs.Search.{Pairs, roots_longer, appended_longer, reached_from, start_are}
 
 -- ---- identifiers that are numbers
@@ -301,17 +299,6 @@ are_limited features es h low = record {
     priorities : All (λ (e : SpelledEntry). e.priority < 65536) es
     priorities k d l = omega (arith, got_mapped (λ (e : SpelledEntry). e.priority) es k d l, low k 0 (omega (arith, l, length-map es (λ (e : SpelledEntry). e.priority))))
 
-pub making_fault : (es : List SpelledEntry) (fault : GameFault) → IsMakingFault es fault → IsGameFault es (model_fault fault)
-making_fault es (game_faults.Syntax at) h = tt
-making_fault es (game_faults.BadOwner at) h = tt
-making_fault es (game_faults.PriorityTooLarge at) h = tt
-making_fault es (game_faults.TooMany at) h = tt
-making_fault es (game_faults.Guard at fault) h = tt
-making_fault es (game_faults.DoubleVertex id) h = tt
-making_fault es (game_faults.MissingVertex id) h = tt
-making_fault es game_faults.TooWide h = λ within. h.wide within.1
-making_fault es game_faults.Memory h = tt
-
 -- ---- low priorities
 
 pub low_more : (es : List SpelledEntry) (i : ℕ) (d : SpelledEntry) → i < length es → All (λ p. p < 65536) (entry_priorities (take i es)) → (get_or es i d).priority < 65536 → All (λ p. p < 65536) (entry_priorities (take (i + 1) es))
@@ -325,9 +312,3 @@ not_low es i d l high low = omega (arith, high, got_mapped (λ (e : SpelledEntry
 
 pub low_true : (b : Bool) (es seen : List SpelledEntry) → b ≡ true → seen ≡ es → (b ≡ true ↔ All (λ p. p < 65536) (entry_priorities seen)) → All (λ p. p < 65536) (entry_priorities es)
 low_true b es seen t same h = subst (λ (r : List SpelledEntry). All (λ p. p < 65536) (entry_priorities r)) same (h.0 t)
-
-pub low_false : (b : Bool) (es seen : List SpelledEntry) → b ≡ false → seen ≡ es → (b ≡ true ↔ All (λ p. p < 65536) (entry_priorities seen)) → All (λ p. p < 65536) (entry_priorities es) → ⊥
-low_false b es seen f same h low = clash (sym (h.1 (subst (λ (r : List SpelledEntry). All (λ p. p < 65536) (entry_priorities r)) (sym same) low)) ∙ f)
-  where
-    clash : true ≡ false → ⊥
-    clash e = cc

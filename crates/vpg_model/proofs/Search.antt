@@ -4,7 +4,7 @@ use Rattle.std.specs.List.{AllZip, IsDistinct}
 use Rattle.std.proofs.lemmas.Map.Keys.{apart_from_distinct}
 use Rattle.std.specs.Prelude.{◌==◌, slice_get}
 use Rattle.std.proofs.lemmas.Bool.{cases_lt, and_parts, eqb-true}
-use Rattle.std.proofs.lemmas.List.{length-map, get_or_append_left, map_push, append-nil, append_assoc, take-append-le, take_all}
+use Rattle.std.proofs.lemmas.List.{length-map, get_or_append_left, map_push, append-nil, append_assoc, take-append-le}
 use Rattle.std.proofs.Math.Seq.{take-suc, get_or-append_right}
 use Rattle.std.proofs.lemmas.List.Elements.{All-append, All-push, Contains-push, Contains-get_or}
 use Rattle.std.proofs.lemmas.List.Sums.{sum_by_push, sum_by-take-le}
@@ -329,10 +329,6 @@ module _ (states : List (List Departure)) (sets : List (List Bool)) (parts : Lis
   roots_refused none new roots faults.TooManyEdges e f = absurd f
   roots_refused none new roots faults.TooWide e f = absurd f
   roots_refused none new roots faults.Memory e f = tt
-
-  -- where all entries are there, all moves were counted
-  pub searched_end : (start pairs : Pairs) (entries : List SpelledEntry) (count : ℕ) → IsSearched states sets parts start pairs entries count → length pairs ≤ length entries → count ≡ moves_in states sets parts pairs
-  searched_end start pairs entries count h l = h.counted ∙ ap (moves_in states sets parts) (take_all (length entries) pairs l)
 
   -- what is reached from some of the roots is reached from them
   pub refused_more : (some roots : Pairs) (fault : ModelFault) → ((pair : ℕ × ℕ) → Contains some pair → Contains roots pair) → IsSearchFault states sets parts some fault → IsRefused states sets parts roots fault

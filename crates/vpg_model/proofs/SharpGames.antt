@@ -1,10 +1,10 @@
 -- The entries whose guards are sharp make a game that differs in guards alone.
-use Rattle.std.proofs.Common.{◌≡◌, ℕ, zero, suc, ◌+◌, ◌<◌, ◌≤◌, ◌^◌, inl, inr, List, [], ◌∷◌, ◌++◌, length, length-append, map, take, get_or, Some, slice_get, refl, sym, ◌∙◌, subst, ap, ap₂, append_assoc, All, arith}
+use Rattle.std.proofs.Common.{◌≡◌, ℕ, zero, suc, ◌+◌, ◌<◌, ◌^◌, inl, inr, List, [], ◌∷◌, ◌++◌, length, length-append, map, take, get_or, Some, slice_get, refl, sym, ◌∙◌, subst, ap, ap₂, append_assoc, All, arith}
 use Rattle.std.specs.List.{AllZip}
 use Rattle.std.proofs.lemmas.Bool.{cases_lt}
-use Rattle.std.proofs.lemmas.List.{append-nil, length-map, get_or_append_left, get_or_push, take_all, take_more}
+use Rattle.std.proofs.lemmas.List.{append-nil, length-map, get_or_append_left, get_or_push, take_more}
 use Rattle.std.proofs.lemmas.Slice.Zip.{all_zipped_more}
-use Rattle.vpg_guards.specs.Formula.{Formula as Guard, truth}
+use Rattle.vpg_guards.specs.Formula.{Formula as Guard}
 use Rattle.vpg_guards.specs.Writing.{IsReadable}
 use Rattle.vpg_blake.specs.Blake.{IsShort}
 use Rattle.vpg_blake.specs.Sharp.{IsSharp}
@@ -18,7 +18,7 @@ use Rattle.vpg_game.proofs.Made.{same_ids, same_priorities}
 use Rattle.vpg_game.proofs.Written.{edges_ok}
 use Rattle.vpg_requirement.specs.Building.{join_edges, IsAlike, IsAlikeVertex}
 use Rattle.vpg_model.specs.Pairs.{AreNumbered, AreWithin}
-use Rattle.vpg_model.specs.Sharpening.{EachCounts, IsSameGame, AreSharp, IsSharpSuccessor, AreSharpSuccessors, IsSharpEntry, AreSharpEntries}
+use Rattle.vpg_model.specs.Sharpening.{EachCounts, IsSameGame, AreSharp, AreSharpSuccessors, AreSharpEntries}
 use Rattle.vpg_model.proofs.Made.{edge_of, joined_same}
 
 abbrev Edges : Type 0
@@ -31,9 +31,6 @@ module _ {A B : Type 0} (R : A → B → Type 0) where
   zip_more xs ys zs n d y lt h r made =
       subst (λ (back : List B). AllZip R (take (n + 1) xs) back) (sym made)
       (subst (λ (front : List A). AllZip R front (ys ++ y ∷ [])) (sym (take_more xs n d lt)) (all_zipped_more R (take n xs) ys (get_or xs n d) y h r))
-
-  pub zip_all : (xs : List A) (ys : List B) (n : ℕ) → length xs ≤ n → AllZip R (take n xs) ys → AllZip R xs ys
-  zip_all xs ys n le h = subst (λ (front : List A). AllZip R front ys) (take_all n xs le) h
 
 -- ---- a vertex of a game
 

@@ -1,8 +1,8 @@
 -- The transitions of a system by their sources are those of the system.
-use Rattle.std.proofs.Common.{◌≡◌, ◌≢◌, ℕ, zero, suc, ◌+◌, ◌<◌, ◌≤◌, ◌⊎◌, inl, inr, Bool, true, false, cond, List, [], ◌∷◌, ◌++◌, length, get_or, set, map, filter, take, replicate, refl, sym, ◌∙◌, subst, ap, ap₂, All, arith}
+use Rattle.std.proofs.Common.{◌≡◌, ◌≢◌, ℕ, zero, suc, ◌+◌, ◌<◌, ◌≤◌, ◌⊎◌, inl, inr, Bool, true, false, cond, List, [], ◌∷◌, ◌++◌, length, get_or, set, map, filter, take, refl, sym, ◌∙◌, subst, ap, ap₂, All, arith}
 use Rattle.std.specs.Prelude.{◌==◌}
 use Rattle.std.proofs.lemmas.Bool.{cases_Bool, eqb-true, eq-eqb, cases_lt}
-use Rattle.std.proofs.lemmas.List.{length-map, length-set, get_or-set_same, get_or-set_other, length-replicate, get_or-replicate, append-nil, map-append, take_more, take_all}
+use Rattle.std.proofs.lemmas.List.{length-map, length-set, get_or-set_same, get_or-set_other, append-nil, map-append, take_more}
 use Rattle.std.proofs.lemmas.List.Elements.{filter-append}
 use Rattle.vpg_guards.specs.Formula.{Formula as Guard}
 use Rattle.vpg_guards.specs.Writing.{IsReadable}
@@ -31,12 +31,6 @@ from_same s ts t e = ap (map departure_of) (filter-append (λ (t : NamedTransiti
   where
     dropped : filter (λ (t : NamedTransition). t.source == s) (t ∷ []) ≡ []
     dropped = rw e refl
-
-pub none_placed : (count : ℕ) (states : List (List Departure)) → states ≡ replicate count [] → ArePlacedBySource count [] states
-none_placed count states e = subst (ArePlacedBySource count []) (sym e) (record {
-  count_is = length-replicate count [];
-  each = λ s l. get_or-replicate count s [] [] l;
-})
 
 pub one_placed : (count : ℕ) (ts : List NamedTransition) (old new : List (List Departure)) (t : NamedTransition) (source : ℕ) (departure : Departure) → ArePlacedBySource count ts old → source ≡ t.source → source < count → departure ≡ departure_of t →
     new ≡ set old source (get_or old source [] ++ departure ∷ []) → ArePlacedBySource count (ts ++ t ∷ []) new
@@ -144,9 +138,6 @@ have_guards s states is h = states_all (λ (t : Departure). IsReadable s.feature
 
 pub taken_more : (ts : List kept.Transition) (i : ℕ) (d : kept.Transition) → i < length ts → transitions_of (take (i + 1) ts) ≡ transitions_of (take i ts) ++ transition_of (get_or ts i d) ∷ []
 taken_more ts i d l = ap transitions_of (take_more ts i d l) ∙ map-append transition_of (take i ts) (get_or ts i d ∷ [])
-
-pub taken_all : (ts : List kept.Transition) (i : ℕ) → length ts ≤ i → transitions_of (take i ts) ≡ transitions_of ts
-taken_all ts i l = ap transitions_of (take_all i ts l)
 
 pub is_transition : (s : NamedSystem) (ts : List kept.Transition) (i : ℕ) (d : kept.Transition) → IsSystem s → transitions_of ts ≡ s.transitions → i < length ts → IsTransition s.features s.states (length s.actions) (transition_of (get_or ts i d))
 is_transition s ts i d is e l = subst (IsTransition s.features s.states (length s.actions)) here (is.transitions_are i (transition_of d) within)

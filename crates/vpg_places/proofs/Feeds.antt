@@ -1,21 +1,10 @@
 -- Where the first line feed stands, and what stands behind it.
-use Rattle.std.proofs.Common.{◌≡◌, ℕ, zero, suc, ◌+◌, ◌-◌, ◌<◌, ◌≤◌, Bool, true, false, cond, List, [], ◌∷◌, ◌++◌, length, get_or, take, drop, refl, sym, ap, ◌∙◌, arith, drop-cons, length-drop}
+use Rattle.std.proofs.Common.{◌≡◌, ℕ, zero, suc, ◌+◌, ◌-◌, ◌<◌, ◌≤◌, Bool, true, false, cond, List, [], ◌∷◌, length, take, drop, refl, sym, ap, ◌∙◌, arith, length-drop}
 use Rattle.std.proofs.lemmas.List.{take_all, drop_all}
 use Rattle.vpg_places.specs.Places.{is_line_feed, to_line_feed, behind_feed, behind_feeds}
 
-front_feed : (b : ℕ) (bs : List ℕ) → is_line_feed b ≡ true → length (to_line_feed (b ∷ bs)) ≡ 0
-front_feed b bs e = rw e
-
 front_other : (b : ℕ) (bs : List ℕ) → is_line_feed b ≡ false → length (to_line_feed (b ∷ bs)) ≡ suc (length (to_line_feed bs))
 front_other b bs e = rw e
-
--- a line feed at the front of the rest
-pub feed_here : (s : List ℕ) (i : ℕ) → i < length s → is_line_feed (get_or s i 0) ≡ true → length (to_line_feed (drop i s)) ≡ 0
-feed_here s i h e = rw (drop-cons s i 0 h) (front_feed (get_or s i 0) (drop (suc i) s) e)
-
--- another byte at the front of the rest
-pub feed_later : (s : List ℕ) (i : ℕ) → i < length s → is_line_feed (get_or s i 0) ≡ false → length (to_line_feed (drop i s)) ≡ suc (length (to_line_feed (drop (suc i) s)))
-feed_later s i h e = rw (drop-cons s i 0 h) (front_other (get_or s i 0) (drop (suc i) s) e)
 
 in_line : (b : Bool) (x : ℕ) (xs ys : List ℕ) → xs ≡ take (length xs) ys → cond b [] (x ∷ xs) ≡ take (length (cond b [] (x ∷ xs))) (x ∷ ys)
 in_line true x xs ys e = refl
@@ -38,11 +27,6 @@ behind_by_length (x ∷ xs) = behind_line (is_line_feed x) x (to_line_feed xs) x
 shorter : (b : Bool) (x : ℕ) (xs ys : List ℕ) → length xs ≤ length ys → length (cond b [] (x ∷ xs)) ≤ suc (length ys)
 shorter true x xs ys h = omega arith
 shorter false x xs ys h = omega arith
-
--- the line at the front is no longer than the text
-pub front_short : (s : List ℕ) → length (to_line_feed s) ≤ length s
-front_short [] = omega arith
-front_short (x ∷ xs) = shorter (is_line_feed x) x (to_line_feed xs) xs (front_short xs)
 
 -- of so many line feeds one is gone behind the first
 pub one_feed_less : (n k : ℕ) (s : List ℕ) → n ≡ suc k → behind_feeds n s ≡ behind_feeds k (behind_feed s)
@@ -71,6 +55,3 @@ feeds_in_nothing (suc n) [] e = feeds_in_nothing n [] refl
 -- behind one more line feed
 pub next_feed : (n k : ℕ) (s t : List ℕ) → k < n → behind_feeds n s ≡ behind_feeds (n - k) t → behind_feeds n s ≡ behind_feeds (n - (k + 1)) (behind_feed t)
 next_feed n k s t h e = e ∙ one_feed_less (n - k) (n - (k + 1)) t (omega arith)
-
-pub no_feed_left : (n k : ℕ) (s t : List ℕ) → n ≤ k → behind_feeds n s ≡ behind_feeds (n - k) t → t ≡ behind_feeds n s
-no_feed_left n k s t h e = let none : n - k ≡ 0 = omega arith in sym (e ∙ ap (λ (m : ℕ). behind_feeds m t) none)

@@ -1,6 +1,5 @@
 -- What one rule says of the sets that meet it.
-use Rattle.std.proofs.Common.{◌≡◌, ◌≢◌, ℕ, suc, ◌+◌, ◌-◌, ◌<◌, ◌≤◌, ◌⊎◌, inl, inr, Bool, true, false, not, ◌&&◌, IsTrue, IfSome, Option, Some, None, List, [], ◌∷◌, ◌++◌, length, find, take, slice_index_or, slice_get, refl, sym, ap, ◌∙◌, subst, arith}
-use Rattle.std.specs.List.{AllByRecursion}
+use Rattle.std.proofs.Common.{◌≡◌, ℕ, ◌+◌, ◌-◌, ◌<◌, ◌⊎◌, inl, inr, Bool, true, false, not, ◌&&◌, IfSome, Option, Some, None, List, [], ◌∷◌, ◌++◌, length, find, slice_index_or, slice_get, refl, sym}
 use Rattle.vpg_guards.specs.declared.tri.Tri.{Tri}
 use Rattle.vpg_guards.specs.declared.tri.Tri.TheVariants.{No, Unknown, Yes}
 use Rattle.vpg_guards.specs.Known.{Agrees, IsCompletion}
@@ -63,9 +62,6 @@ meets_more set (y ∷ ys) x (inr h) = of (meets_more set ys x h)
 pub record IsScanned (known : List Tri) (literals : List Literal) (found : Option Literal) : Type 0 where
   pub met : (set : List Bool) → IsCompletion known set → MeetsClause set literals → HasOpen found set
   pub is_open : IfSome found (λ l. (l.feature < length known) × (slice_index_or known l.feature Unknown ≡ Unknown))
-
-pub scanned_none : (known : List Tri) → IsScanned known [] None
-scanned_none known = record { met = λ set comp m. m; is_open = tt }
 
 pub scanned_false : (known : List Tri) (literals : List Literal) (found : Option Literal) (l : Literal) → literals_in known (negation l) ≡ true →
     IsScanned known literals found → IsScanned known (literals ++ l ∷ []) found

@@ -1,5 +1,5 @@
 -- Lists of clauses that stop at the limit.
-use Rattle.std.proofs.Common.{◌≡◌, ℕ, ◌+◌, ◌*◌, ◌-◌, ◌^◌, ◌<◌, ◌≤◌, min, Bool, true, false, cond, List, [], ◌∷◌, ◌++◌, length, map, Some, None, refl, sym, ap, subst, ◌∙◌, arith}
+use Rattle.std.proofs.Common.{◌≡◌, ℕ, ◌*◌, ◌-◌, ◌^◌, ◌<◌, ◌≤◌, min, Bool, true, false, cond, List, [], ◌∷◌, length, map, Some, None, refl, sym, ap, subst, ◌∙◌, arith}
 use Rattle.std.specs.Prelude.{leb}
 use Rattle.std.proofs.lemmas.Bool.Decides.{nat_tests}
 use Rattle.std.proofs.lemmas.List.{length-append, length-map}
@@ -71,10 +71,6 @@ large_left m n a b = omega (arith, times m n b)
 
 -- ---- how the code comes to the limit
 
--- a list that is empty
-pub crossed_empty_left : (xs ys : Lists) → Some [] ≡ limited xs → Some [] ≡ limited (crossed xs ys)
-crossed_empty_left xs ys e = let h = limited_some xs [] e in subst (λ (zs : Lists). Some [] ≡ limited (crossed zs ys)) h.0 refl
-
 pub crossed_empty_right : (xs ys : Lists) → Some [] ≡ limited ys → Some [] ≡ limited (crossed xs ys)
 crossed_empty_right xs ys e =
     let h = limited_some ys [] e in
@@ -114,26 +110,6 @@ crossed_within xs ys zs us made e f le is =
     subst (λ (v : Lists). Some made ≡ limited v) same (limited_small made few)
 
 -- ---- one list behind the other
-
-pub together_left : (xs ys : Lists) → None ≡ limited xs → None ≡ limited (xs ++ ys)
-together_left xs ys e = limited_large (xs ++ ys) (omega (arith, limited_none xs e, length-append xs ys))
-
-pub together_right : (xs ys : Lists) → None ≡ limited ys → None ≡ limited (xs ++ ys)
-together_right xs ys e = limited_large (xs ++ ys) (omega (arith, limited_none ys e, length-append xs ys))
-
-pub together_over : (xs ys zs us : Lists) → Some zs ≡ limited xs → Some us ≡ limited ys → 64 < length zs + length us → None ≡ limited (xs ++ ys)
-together_over xs ys zs us e f lt =
-    let g = limited_some xs zs e in
-    let h = limited_some ys us f in
-    limited_large (xs ++ ys) (omega (arith, lt, ap length g.0, ap length h.0, length-append xs ys))
-
-pub together_within : (xs ys zs us made : Lists) → Some zs ≡ limited xs → Some us ≡ limited ys → length zs + length us ≤ 64 → made ≡ zs ++ us → Some made ≡ limited (xs ++ ys)
-together_within xs ys zs us made e f le is =
-    let g = limited_some xs zs e in
-    let h = limited_some ys us f in
-    let same : made ≡ xs ++ ys = is ∙ ap (λ (v : Lists). v ++ us) g.0 ∙ ap (λ (v : Lists). xs ++ v) h.0 in
-    let few : length made ≤ 64 = omega (arith, ap length is, length-append zs us, le) in
-    subst (λ (v : Lists). Some made ≡ limited v) same (limited_small made few)
 
 -- a product that is cut off far above the limit
 pub over_limit : (p r : ℕ) → r ≡ min p (2 ^ 64 - 1) → 64 < r → 64 < p

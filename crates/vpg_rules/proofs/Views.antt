@@ -105,33 +105,6 @@ less_all c cs is = subst (λ (h : Rule). size-Rules cs < size-Rule h) (sym is) (
 pub less_any : (c : Rule) (cs : Rules) → c ≡ Any cs → size-Rules cs < size-Rule c
 less_any c cs is = subst (λ (h : Rule). size-Rules cs < size-Rule h) (sym is) (less_parts_any cs)
 
-less_left_implies : (b d : Box Rule) → size-Rule b.value < size-Rule (Implies b d)
-less_left_implies b d = search (rules, the_lemmas, arith)
-
-less_right_implies : (b d : Box Rule) → size-Rule d.value < size-Rule (Implies b d)
-less_right_implies b d = search (rules, the_lemmas, arith)
-
-less_left_iff : (b d : Box Rule) → size-Rule b.value < size-Rule (Iff b d)
-less_left_iff b d = search (rules, the_lemmas, arith)
-
-less_right_iff : (b d : Box Rule) → size-Rule d.value < size-Rule (Iff b d)
-less_right_iff b d = search (rules, the_lemmas, arith)
-
-less_at : (whole c d : Rule) (inner : Rule) → c ≡ whole → d ≡ inner → size-Rule inner < size-Rule whole → size-Rule d < size-Rule c
-less_at whole c d inner is e lt = subst (λ (h : Rule). size-Rule d < size-Rule h) (sym is) (subst (λ (h : Rule). size-Rule h < size-Rule whole) (sym e) lt)
-
-pub less_implies_left : (c : Rule) (a b : Box Rule) (d : Rule) → c ≡ Implies a b → d ≡ a.value → size-Rule d < size-Rule c
-less_implies_left c a b d is e = less_at (Implies a b) c d a.value is e (less_left_implies a b)
-
-pub less_implies_right : (c : Rule) (a b : Box Rule) (d : Rule) → c ≡ Implies a b → d ≡ b.value → size-Rule d < size-Rule c
-less_implies_right c a b d is e = less_at (Implies a b) c d b.value is e (less_right_implies a b)
-
-pub less_iff_left : (c : Rule) (a b : Box Rule) (d : Rule) → c ≡ Iff a b → d ≡ a.value → size-Rule d < size-Rule c
-less_iff_left c a b d is e = less_at (Iff a b) c d a.value is e (less_left_iff a b)
-
-pub less_iff_right : (c : Rule) (a b : Box Rule) (d : Rule) → c ≡ Iff a b → d ≡ b.value → size-Rule d < size-Rule c
-less_iff_right c a b d is e = less_at (Iff a b) c d b.value is e (less_right_iff a b)
-
 less_item : (cs : Rules) (i : ℕ) (c : Rule) → i < length cs.items.items → c ≡ get_or cs.items.items i c → size-Rule c < size-Rules cs
 less_item cs i c lt is = search (rules, the_lemmas, arith)
 

@@ -1,6 +1,6 @@
 -- How an answer is given.
 use Rattle.std.proofs.Common.{◌≡◌, ℕ, List, ◌++◌, Result, Ok, Err, refl, sym, ap₂, ◌∙◌, subst}
-use Rattle.std.specs.Prelude.{IfOk, OnErr, OnOk}
+use Rattle.std.specs.Prelude.{IfOk, OnOk}
 use Rattle.vpg_script.specs.Answer.{Answer, Gives, IsDone, done, done_if}
 use Rattle.vpg_script.specs.declared.tone.Tone.{Tone}
 use Rattle.vpg_script.specs.declared.tone.Tone.TheVariants as tones
@@ -17,14 +17,6 @@ done_gives {E} Says P is r s made before after told = subst (λ (t : Result Tone
     go : (x : Result (Unit {0}) E) → OnOk x ((text : List ℕ) × (Says text × (after ≡ before ++ text))) → IfOk (done_if x) (λ tone. Gives P tone before after)
     go (Ok written) so = (done so.0, (is (done so.0) (refl, so.1.0), (refl, so.1.1)))
     go (Err e) so = tt
-
--- what holds if the text was not written
-pub not_done : {E : Type 0} (r : Result (Unit {0}) E) (s : Result Tone E) → s ≡ done_if r → (P : Type 0) → OnErr r P → OnErr s P
-not_done {E} r s made P told = subst (λ (t : Result Tone E). OnErr t P) (sym made) (go r told)
-  where
-    go : (x : Result (Unit {0}) E) → OnErr x P → OnErr (done_if x) P
-    go (Ok written) p = tt
-    go (Err e) p = p
 
 -- answers that are done are one if their texts are
 pub done_one : (Says Tells : List ℕ → Type 0) (one other : Answer) → (Says one.text → Tells other.text → one.text ≡ other.text) → IsDone Says one → IsDone Tells other → one ≡ other

@@ -9,9 +9,8 @@ use Rattle.std.proofs.lemmas.List.Sums.{prefix_len_stops}
 use Rattle.std.proofs.lemmas.List.{take_all}
 use Rattle.std.proofs.lemmas.List.Folds.{list_all-append}
 use Rattle.std.specs.Global.{Vec}
-use Rattle.vpg_script.specs.declared.lines.Next.{Next}
 use Rattle.vpg_script.specs.declared.lines.Next.TheVariants as next
-use Rattle.vpg_script.specs.Lines.{is_within_line, IsUnended, ComesNext, ComesKnown, PassedKnown, HeldKnown}
+use Rattle.vpg_script.specs.Lines.{is_within_line, IsUnended, ComesKnown, PassedKnown, HeldKnown}
 
 -- what passes the test at the front does
 pub front_all : (p : ℕ → Bool) (text : List ℕ) → list_all p (take (prefix_len p text) text) ≡ true
@@ -67,16 +66,6 @@ too_long_comes None b held n kept is all long = tt
 too_long_comes (Some text) None held n kept is all long = absurd kept
 too_long_comes (Some text) (Some more) held n kept is all long =
     (record { front = held; rest = more; text_is = sym kept; unended = all_unended held n is all; long = long }, kept)
-
--- the last, where nothing more comes
-pub last_comes : (a b : Option (List ℕ)) (held new : List ℕ) (n : Next) → Keeps a (prepend_known held b) → IsAtEnd b → ComesNext n held [] → new ≡ []
-    → ComesKnown n a (prepend_known new b)
-last_comes None b held new n kept end comes new_is = tt
-last_comes (Some text) None held new n kept end comes new_is = absurd kept
-last_comes (Some text) (Some more) held new n kept end comes new_is =
-    let text_is : held ≡ text = sym (append-nil held) ∙ ap (λ (m : List ℕ). held ++ m) (sym end) ∙ kept in
-    let rest_is : [] ≡ new ++ more = sym (ap (λ (m : List ℕ). new ++ m) end ∙ ap (λ (m : List ℕ). m ++ []) new_is) in
-    subst (λ (r : List ℕ). ComesNext n text r) rest_is (subst (λ (t : List ℕ). ComesNext n t []) text_is comes)
 
 -- ---- a line that is passed over
 

@@ -6,26 +6,18 @@ use Rattle.std.proofs.lemmas.List.{reverse-append, nil_from_length, drop_more}
 use Rattle.vpg_hope.specs.Games.{Game}
 use Rattle.vpg_trace.specs.declared.walking.Visit.{Visit}
 use Rattle.vpg_trace.specs.declared.walking.Waiting.{Waiting}
-use Rattle.vpg_trace.specs.Walks.{Walked, deeper, depth_before, is_above, is_left, opened, visit_before, visit_of, waiting_from, walk, walked}
+use Rattle.vpg_trace.specs.Walks.{Walked, depth_before, is_above, is_left, opened, visit_before, visit_of, waiting_from, walk, walked}
 
 -- ---- what waits
 
 abbrev one_waiting : ℕ → ℕ → ℕ → ℕ → Waiting
 one_waiting k depth own w = record { vertex = w; before = Some k; depth = own }
 
--- the depth of the next one that is put there
-pub own_first : (depth : ℕ) (ws : List ℕ) → ws ≡ [] → depth ≡ depth_before depth ws
-own_first depth ws e = ap (depth_before depth) (sym e)
-
 reverse_push : {X : Type 0} (xs : List X) (x : X) → reverse (xs ++ x ∷ []) ≡ x ∷ reverse xs
 reverse_push xs x = reverse-append xs (x ∷ [])
 
 dropped_one : (ws : List ℕ) (j : ℕ) → j < length ws → drop j ws ≡ get_or ws j 0 ∷ drop (suc j) ws
 dropped_one ws j l = drop_more ws j 0 l ∙ ap (λ (n : ℕ). get_or ws j 0 ∷ drop n ws) (let e : j + 1 ≡ suc j = omega arith in e)
-
--- that of all others
-pub own_next : (depth : ℕ) (ws : List ℕ) (j : ℕ) → j < length ws → deeper depth ≡ depth_before depth (drop j ws)
-own_next depth ws j l = ap (depth_before depth) (sym (dropped_one ws j l))
 
 -- one more waits
 pub waits_more : (k depth own : ℕ) (ws : List ℕ) (j : ℕ) (old items more : List Waiting) → suc j ≤ length ws → own ≡ depth_before depth (drop (suc j) ws) →
@@ -53,10 +45,6 @@ module _ (game : Game) (moves : List (Option ℕ)) where
   walk_ends n items rest visits whole none gone is =
       ap (λ (os : List Waiting). walked visits os) (no_more rest gone)
       ∙ (walk_nil n visits ∙ (ap (λ (os : List Waiting). walk game moves n os visits) (sym (no_more items none)) ∙ is))
-
-  -- as many were made as may be
-  pub walk_stops : (n : ℕ) (items : List Waiting) (visits : List Visit) (whole : Walked) → n ≡ 0 → walk game moves n (reverse items) visits ≡ whole → walked visits (reverse items) ≡ whole
-  walk_stops n items visits whole e is = ap (λ (k : ℕ). walk game moves k (reverse items) visits) (sym e) ∙ is
 
   -- one more was made
   pub walk_more : (most c : ℕ) (items rest more : List Waiting) (next : Waiting) (visits later : List Visit) (whole : Walked) → c < most → items ≡ rest ++ next ∷ [] →

@@ -1,14 +1,13 @@
 -- Tables, retracted suffixes and lifts, one entry more.
-use Rattle.std.proofs.Common.{add-one, lt-ltb, le-ltb, Option, Some, None, IfSome, option_to_list, All, append-nil, append_assoc, filter, ◌≡◌, ◌≤◌, ℕ, ◌+◌, ◌<◌, max, Bool, true, false, cond, ◌==◌, Global, List, [], ◌∷◌, ◌++◌, map, length, take, drop, get_or, slice_index, slice_set, arith, refl, sym, ap, ◌∙◌, subst}
-use Rattle.std.specs.List.{list_any}
+use Rattle.std.proofs.Common.{add-one, lt-ltb, le-ltb, Option, Some, None, IfSome, option_to_list, All, append-nil, append_assoc, filter, ◌≡◌, ◌≤◌, ℕ, ◌+◌, ◌<◌, max, Bool, true, false, cond, Global, List, [], ◌∷◌, ◌++◌, map, length, take, drop, get_or, slice_index, slice_set, arith, refl, sym, ap, ◌∙◌, subst}
 use Rattle.std.proofs.lemmas.Bool.{cond-true, cond-false}
 use Rattle.std.proofs.lemmas.List.Elements.{filter-append, All-take, All-drop}
-use Rattle.std.proofs.lemmas.List.{map_push, get_or_read, map_more}
+use Rattle.std.proofs.lemmas.List.{map_push, map_more}
 use Rattle.std.specs.declared.sync.Arc.{Arc}
 use Rattle.vpg_sides.specs.declared.which.Which.{Which}
 use Rattle.vpg_sides.specs.declared.which.Which.TheVariants.{Hopeful, Dual}
-use Rattle.vpg_trail.specs.Page.{Literal, Decision, same_table, Entry as Step, Lift as Raise, Decided, Lifted, value_at, table_of, reset, reset_all, raises, raise_to}
-use Rattle.vpg_trail.specs.Shown.{entry_of, VertexBelow, after_entry, keeps, lift_stays, what_stays, with_old, picked}
+use Rattle.vpg_trail.specs.Page.{Literal, same_table, Entry as Step, Lift as Raise, Lifted, value_at, table_of, reset, reset_all, raises, raise_to}
+use Rattle.vpg_trail.specs.Shown.{entry_of, VertexBelow, after_entry, keeps, lift_stays, what_stays, with_old}
 use Rattle.vpg_trail.specs.declared.entry.Entry.{Entry}
 use Rattle.vpg_trail.specs.declared.entry.Entry.TheVariants.{Decide, Lift}
 use Rattle.vpg_trail.proofs.PageLemmas.{length-table_of}
@@ -61,37 +60,11 @@ module _ (feature : Option ℕ) (hopeful dual : List ℕ) (t : Which) (v old new
   told : (b : Bool) → lift_stays feature under.value ≡ b → what_stays feature hopeful dual (entry_of e) ≡ cond b (with_old hopeful dual (entry_of (Lift t v old new under)) ∷ []) []
   told b a = ap (λ (x : Entry). what_stays feature hopeful dual (entry_of x)) is ∙ ap (λ (b : Bool). cond b (with_old hopeful dual (entry_of (Lift t v old new under)) ∷ []) []) (keeps_lift feature _ ∙ a)
 
-  pub none_stays : lift_stays feature under.value ≡ false → ◌≡◌ {A = List Step} [] (what_stays feature hopeful dual (entry_of e))
-  none_stays a = sym (told false a)
-
-  pub some_stays : (copy : Arc (List Literal) Global) (now : ℕ) → copy.value ≡ under.value → now ≡ slice_index (picked t hopeful dual) v → lift_stays feature under.value ≡ true →
-      ◌≡◌ {A = List Step} (Lifted (record { table = t; vertex = v; old = now; new = new; under = copy.value }) ∷ []) (what_stays feature hopeful dual (entry_of e))
-  some_stays copy now same o a =
-      (λ i. Lifted (record { table = t; vertex = v; old = o i; new = new; under = same i }) ∷ [])
-      ∙ sym (told true a)
-
--- a decision stays where one feature is retracted
-pub decision_stays : (feature : Option ℕ) (hopeful dual : List ℕ) (d : Decision) (e : Entry) (f : ℕ) → e ≡ Decide d → feature ≡ Some f → ◌≡◌ {A = List Step} (Decided d ∷ []) (what_stays feature hopeful dual (entry_of e))
-decision_stays feature hopeful dual d e f is one = sym (λ i. what_stays (one i) hopeful dual (entry_of (is i)))
-
-pub decision_goes : (feature : Option ℕ) (hopeful dual : List ℕ) (d : Decision) (e : Entry) → e ≡ Decide d → feature ≡ None → ◌≡◌ {A = List Step} [] (what_stays feature hopeful dual (entry_of e))
-decision_goes feature hopeful dual d e is all = sym (λ i. what_stays (all i) hopeful dual (entry_of (is i)))
-
 -- the old value that the tables of the page before give
 pub with_old_is : (page : List Step) (n : ℕ) (e : Entry) → VertexBelow n (entry_of e) → with_old (table_of Hopeful page n) (table_of Dual page n) (entry_of e) ≡ reset page (entry_of e)
 with_old_is page n (Decide d) h = refl
 with_old_is page n (Lift Hopeful v old new under) h = ap (λ (m : ℕ). Lifted (record { table = Hopeful; vertex = v; old = m; new = new; under = under.value })) ((tables_hold Hopeful page n v).1 h)
 with_old_is page n (Lift Dual v old new under) h = ap (λ (m : ℕ). Lifted (record { table = Dual; vertex = v; old = m; new = new; under = under.value })) ((tables_hold Dual page n v).1 h)
-
--- an old value as the code reads it
-pub old_in_hopeful : (t : Which) (hopeful dual : List ℕ) (v x old : ℕ) → t ≡ Hopeful → v < length hopeful → x ≡ get_or hopeful v x → old ≡ x → old ≡ slice_index (picked t hopeful dual) v
-old_in_hopeful t hopeful dual v x old is within read o = o ∙ get_or_read hopeful v x within read 0 ∙ ap (λ (t : Which). slice_index (picked t hopeful dual) v) (sym is)
-
-pub old_in_dual : (t : Which) (hopeful dual : List ℕ) (v x old : ℕ) → t ≡ Dual → v < length dual → x ≡ get_or dual v x → old ≡ x → old ≡ slice_index (picked t hopeful dual) v
-old_in_dual t hopeful dual v x old is within read o = o ∙ get_or_read dual v x within read 0 ∙ ap (λ (t : Which). slice_index (picked t hopeful dual) v) (sym is)
-
-pub vertex_below : (e : Entry) (n : ℕ) (t : Which) (v old new : ℕ) (under : Arc (List Literal) Global) → e ≡ Lift t v old new under → VertexBelow n (entry_of e) → v < n
-vertex_below e n t v old new under is h = subst (λ (x : Entry). VertexBelow n (entry_of x)) is h
 
 -- ---- one entry more after a retract
 

@@ -1,11 +1,11 @@
 -- The numbers of open rows.
-use Rattle.std.proofs.Common.{◌≡◌, ℕ, zero, suc, ◌+◌, ◌-◌, ◌<◌, ◌≤◌, Bool, true, false, cond, List, [], ◌∷◌, ◌++◌, length, filter, Some, refl, subst, arith, length-append}
+use Rattle.std.proofs.Common.{◌≡◌, ℕ, zero, suc, ◌+◌, ◌-◌, ◌<◌, ◌≤◌, Bool, true, false, cond, List, [], ◌∷◌, ◌++◌, length, filter, Some, subst, arith, length-append}
 use Rattle.std.specs.Prelude.{slice_get}
 use Rattle.std.specs.List.{AllByRecursion}
 use Rattle.vpg_tree.specs.Tree.{Tree}
 use Rattle.vpg_tree.specs.declared.group.Kind.{Kind}
 use Rattle.vpg_tree.specs.declared.group.Group.{Group}
-use Rattle.vpg_uvl.specs.Nesting.{Open, Growth, narrower, last_of, with_group, with_feature, seed}
+use Rattle.vpg_uvl.specs.Nesting.{Open, Growth, narrower, last_of, with_group, with_feature}
 use Rattle.vpg_uvl.specs.Views.{IsNumberedBy, IsNumbered, AreNumbered}
 
 all_either : {X : Type 0} (P : X → Type 0) (x : X) (xs : List X) (t : Bool) → P x → AllByRecursion P xs → AllByRecursion P (cond t (x ∷ xs) xs)
@@ -67,6 +67,3 @@ numbered_with_feature g indent parents group name h none =
           (omega (arith, one_more), tt);
       none = none;
     }
-
-pub numbered_seed : (indent : ℕ) (name : List ℕ) → AreNumbered (seed indent name)
-numbered_seed indent name = record { each = (omega arith, tt); none = refl }

@@ -1,6 +1,5 @@
 -- A text spells one tree, and its faults.
-use Rattle.std.proofs.Common.{◌≡◌, ℕ, List, [], ◌∷◌, ◌++◌, Option, Some, None, Result, Ok, Err, inl, inr, refl, sym, ap, ap₂, subst, ◌∙◌, append_assoc}
-use Rattle.vpg_uvl.specs.Items.{Comment}
+use Rattle.std.proofs.Common.{◌≡◌, ℕ, List, [], ◌∷◌, ◌++◌, Option, None, Result, Ok, Err, inl, inr, refl, sym, ap, ap₂, subst, ◌∙◌, append_assoc}
 use Rattle.std.proofs.lemmas.List.{append-nil}
 use Rattle.std.specs.List.{AllZip}
 use Rattle.vpg_rules.specs.Constraint.{Constraint, renamed}
@@ -130,13 +129,6 @@ fault_before text fault closed (inr read) = by_rows text fault closed (inl read)
 
 pub fault_behind : (text : List ℕ) (read : Features) (fault : TextFault) → open_comment text ≡ None → features_after (rows text) ≡ Ok read → IsFaultBehind read.tree.names read.behind fault → IsTextFault text fault
 fault_behind text read fault closed is h = by_rows text fault closed (inr (read, is, h))
-
--- an open comment is a fault, and the text spells no tree
-pub comment_fault : (text : List ℕ) (at : ℕ) (fault : TextFault) → open_comment text ≡ Some at → fault ≡ Refused Comment at → IsTextFault text fault
-comment_fault text at fault is_open is = inr (subst (λ (o : Option ℕ). IsFaultBy o (rows text) fault) (sym is_open) is)
-
-pub comment_open : (text : List ℕ) (at : ℕ) (tree : Tree) → open_comment text ≡ Some at → Spells text tree → ⊥
-comment_open text at tree is_open spells = let w : None ≡ Some at = sym spells.closed ∙ is_open in absurd (cc)
 
 -- with its line and column
 pub first_told : (text : List ℕ) (fault : TextFault) (shown : UvlFault) → IsTextFault text fault → shown ≡ told text fault → IsFirstFault text shown

@@ -1,10 +1,7 @@
 -- The fault of a row that spells no rule.
-use Rattle.std.proofs.Common.{◌≡◌, ◌≢◌, ℕ, Bool, true, false, cond, List, refl, sym, ap, subst, ◌∙◌}
-use Rattle.vpg_rules.specs.Constraint.{renamed}
+use Rattle.std.proofs.Common.{◌≡◌, ◌≢◌, ℕ, Bool, true, cond, List, refl, sym, ap, subst, ◌∙◌}
 use Rattle.vpg_rules.specs.Grammar as grammar
-use Rattle.vpg_rules.specs.Grammar.{NamedRule, index_or_end}
-use Rattle.vpg_rules.specs.View.{constraint_of}
-use Rattle.vpg_rules.specs.declared.rule.Rule.{Rule}
+use Rattle.vpg_rules.specs.Grammar.{NamedRule}
 use Rattle.vpg_rules.specs.declared.fault.RuleFault.{RuleFault}
 use Rattle.vpg_rules.specs.declared.fault.RuleFault.TheVariants as rules
 use Rattle.vpg_uvl.specs.Rows.{Row}
@@ -12,37 +9,12 @@ use Rattle.vpg_uvl.specs.Arrows.{is_chained, enclosed, grouped}
 use Rattle.vpg_uvl.specs.Quotes.{unquoted}
 use Rattle.vpg_uvl.specs.Items.{Reason, Indentation, UnknownFeature}
 use Rattle.vpg_uvl.specs.Model.{SpellsGrouped, HasReason, TextFault, Refused, Ended, Memory}
-use Rattle.vpg_uvl.specs.Views.{IsOfRule, TellsRule, IsPlaced, IsSpelledBy, IsRuleFault, IsRowFault}
-
--- a text groups as it stands, or with parentheses
-pub grouped_plain : (text : List ℕ) → is_chained 0 text ≡ false → grouped text ≡ text
-grouped_plain text e = ap (λ (b : Bool). cond b (enclosed text) text) e
+use Rattle.vpg_uvl.specs.Views.{IsOfRule, TellsRule, IsPlaced, IsRuleFault, IsRowFault}
 
 pub grouped_chain : (text : List ℕ) → is_chained 0 text ≡ true → grouped text ≡ enclosed text
 grouped_chain text e = ap (λ (b : Bool). cond b (enclosed text) text) e
 
 -- ---- the rule of a text
-
-pub plain_found : (names : List (List ℕ)) (text : List ℕ) (rule : Rule) → is_chained 0 text ≡ false
-    → (c : NamedRule) × grammar.Spells text c × (constraint_of rule ≡ renamed (index_or_end names) c) → IsSpelledBy names text rule
-plain_found names text rule e h =
-    (h.0, record { right_first = h.0; is_rule = h.1; spelled = subst (λ (t : List ℕ). grammar.Spells t h.0) (sym (grouped_plain text e)) h.1 }, h.2)
-
-pub chain_found : (names : List (List ℕ)) (text chain : List ℕ) (first rule : Rule) → is_chained 0 text ≡ true → chain ≡ enclosed text
-    → (c : NamedRule) × grammar.Spells text c × (constraint_of first ≡ renamed (index_or_end names) c)
-    → (c : NamedRule) × grammar.Spells chain c × (constraint_of rule ≡ renamed (index_or_end names) c) → IsSpelledBy names text rule
-chain_found names text chain first rule e is h k = (
-  k.0,
-  record {
-    right_first = h.0;
-    is_rule = h.1;
-    spelled = subst (λ (t : List ℕ). grammar.Spells t k.0) (is ∙ sym (grouped_chain text e)) k.1;
-  },
-  k.2,
-)
-
-pub plain_spelled : (text : List ℕ) (c : NamedRule) → is_chained 0 text ≡ false → SpellsGrouped text c → grammar.Spells text c
-plain_spelled text c e spells = subst (λ (t : List ℕ). grammar.Spells t c) (grouped_plain text e) spells.spelled
 
 pub chain_spelled : (text chain : List ℕ) (c : NamedRule) → is_chained 0 text ≡ true → chain ≡ enclosed text → SpellsGrouped text c → grammar.Spells chain c
 chain_spelled text chain c e is spells = subst (λ (t : List ℕ). grammar.Spells t c) (grouped_chain text e ∙ sym is) spells.spelled

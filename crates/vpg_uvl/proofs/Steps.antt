@@ -1,5 +1,5 @@
 -- One row more.
-use Rattle.std.proofs.Common.{◌≡◌, ℕ, ◌<◌, ◌==◌, Bool, true, false, not, cond, List, ◌∷◌, length, Option, Some, None, Result, Ok, Err, refl, sym, ap, ap₂, ◌∙◌, arith}
+use Rattle.std.proofs.Common.{◌≡◌, ℕ, ◌<◌, ◌==◌, Bool, true, false, not, cond, List, ◌∷◌, length, Option, Some, None, Ok, refl, sym, ap, ap₂, ◌∙◌, arith}
 use Rattle.std.proofs.lemmas.Bool.Decides.{nat_tests}
 use Rattle.std.specs.Prelude.{codes, is_some, slice_get}
 use Rattle.vpg_features.specs.Names.{AreNames, IsNew, index_of}
@@ -7,10 +7,9 @@ use Rattle.vpg_features.proofs.Held.{index_of_held, index_of_lacks}
 use Rattle.vpg_rules.specs.Constraint.{Constraint}
 use Rattle.vpg_tree.specs.Tree.{Tree}
 use Rattle.vpg_uvl.specs.Rows.{Row, is_head, indentation, after_blanks}
-use Rattle.vpg_uvl.specs.Items.{Item, named, Stop, stopped, Reason, Syntax, Twice, TooMany, NoMember, item_of}
+use Rattle.vpg_uvl.specs.Items.{Item, named, stopped, Syntax, Twice, TooMany, item_of}
 use Rattle.vpg_uvl.specs.Nesting.{Open, Growth, narrower, last_of, with_feature, placed_below, placed_item, early_stop, grown_by, grown_at, grown, front_stop}
-use Rattle.vpg_uvl.specs.Model.{fault_at, finished, after_row, after_front, features_from, features_of, features_after}
-use Rattle.vpg_uvl.specs.declared.fault.TextFault.TheVariants.{Refused}
+use Rattle.vpg_uvl.specs.Model.{after_front, features_of, features_after}
 
 pub not_false : (b : Bool) → not b ≡ false → b ≡ true
 not_false true e = refl
@@ -24,18 +23,6 @@ grown_is g bytes indent body parents item i b free is ps =
     ∙ ap (grown_by g indent body) free
     ∙ ap (placed_item g indent body) is
     ∙ sym (ap (λ (rows : List Open). placed_below g indent body rows (last_of rows) item) ps)
-
--- a row that may not
-pub grown_not : (g : Growth) (bytes : List ℕ) (indent : ℕ) (body : List ℕ) (reason : Reason) → indent ≡ indentation bytes → body ≡ after_blanks bytes →
-    early_stop indent g.open_rows ≡ Some reason → grown g bytes ≡ stopped reason body
-grown_not g bytes indent body reason i b stop =
-    sym (ap₂ (λ (n : ℕ) (t : List ℕ). grown_at g n t) i b) ∙ ap (grown_by g indent body) stop
-
--- a row that is no item
-pub grown_no_item : (g : Growth) (bytes : List ℕ) (indent : ℕ) (body : List ℕ) (stop : Stop) → indent ≡ indentation bytes → body ≡ after_blanks bytes →
-    early_stop indent g.open_rows ≡ None → item_of body ≡ Err stop → grown g bytes ≡ Err stop
-grown_no_item g bytes indent body stop i b free is =
-    sym (ap₂ (λ (n : ℕ) (t : List ℕ). grown_at g n t) i b) ∙ ap (grown_by g indent body) free ∙ ap (placed_item g indent body) is
 
 module _ (g : Growth) (indent : ℕ) (body : List ℕ) (parents : List Open) (parent : Open) (name : List ℕ) where
   placed_in : last_of parents ≡ Some parent → parent.is_group ≡ true → placed_below g indent body parents (last_of parents) (named name)
@@ -70,38 +57,10 @@ module _ (g : Growth) (indent : ℕ) (body : List ℕ) (parents : List Open) (pa
       placed_in last is
       ∙ ap (λ (o : Option ℕ). cond (is_some o) (stopped Twice body) (cond (length g.tree.names == 512) (stopped TooMany body) (Ok (with_feature g indent parents parent.number name)))) (index_of_held g.tree.names name i are.distinct held)
 
--- the rows below the root's
-module _ (g : Growth) (row : Row) (behind : List Row) where
-  from_cons : features_from g (row ∷ behind) ≡ cond (is_head (codes "constraints") row.bytes) (finished g behind (Refused NoMember row.start)) (after_row row (grown g row.bytes) (λ h. features_from h behind))
-  from_cons = refl
-
-  pub step_head : is_head (codes "constraints") row.bytes ≡ true → features_from g (row ∷ behind) ≡ finished g behind (Refused NoMember row.start)
-  step_head is = ap (λ (b : Bool). cond b (finished g behind (Refused NoMember row.start)) (after_row row (grown g row.bytes) (λ h. features_from h behind))) is
-
-  pub step_row : (h : Growth) → is_head (codes "constraints") row.bytes ≡ false → grown g row.bytes ≡ Ok h → features_from g (row ∷ behind) ≡ features_from h behind
-  step_row h is ok =
-      ap (λ (b : Bool). cond b (finished g behind (Refused NoMember row.start)) (after_row row (grown g row.bytes) (λ k. features_from k behind))) is
-      ∙ ap (λ (r : Result Growth Stop). after_row row r (λ k. features_from k behind)) ok
-
-  pub step_stop : (stop : Stop) → is_head (codes "constraints") row.bytes ≡ false → grown g row.bytes ≡ Err stop → features_from g (row ∷ behind) ≡ Err (fault_at row stop)
-  step_stop stop is err =
-      ap (λ (b : Bool). cond b (finished g behind (Refused NoMember row.start)) (after_row row (grown g row.bytes) (λ k. features_from k behind))) is
-      ∙ ap (λ (r : Result Growth Stop). after_row row r (λ k. features_from k behind)) err
-
 -- the rows before `features`
 module _ (row : Row) (behind : List Row) where
   pub front_head : is_head (codes "features") row.bytes ≡ true → features_after (row ∷ behind) ≡ features_of behind
   front_head is = ap (λ (b : Bool). cond b (features_of behind) (after_front row (front_stop row.bytes) (features_after behind))) is
-
-  pub front_row : is_head (codes "features") row.bytes ≡ false → front_stop row.bytes ≡ None → features_after (row ∷ behind) ≡ features_after behind
-  front_row is free =
-      ap (λ (b : Bool). cond b (features_of behind) (after_front row (front_stop row.bytes) (features_after behind))) is
-      ∙ ap (λ (o : Option Stop). after_front row o (features_after behind)) free
-
-  pub front_stopped : (stop : Stop) → is_head (codes "features") row.bytes ≡ false → front_stop row.bytes ≡ Some stop → features_after (row ∷ behind) ≡ Err (fault_at row stop)
-  front_stopped stop is err =
-      ap (λ (b : Bool). cond b (features_of behind) (after_front row (front_stop row.bytes) (features_after behind))) is
-      ∙ ap (λ (o : Option Stop). after_front row o (features_after behind)) err
 
 -- constraints may be added
 pub same_more : (first old new : Tree) (cs : List (Constraint ℕ)) → old ≡ record first { constraints = old.constraints } → new ≡ record old { constraints = cs } → new ≡ record first { constraints = new.constraints }

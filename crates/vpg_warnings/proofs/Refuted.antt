@@ -2,7 +2,7 @@
 use Rattle.std.proofs.Common.{◌≡◌, ℕ, suc, ◌<◌, ◌≤◌, ◌⊎◌, inl, inr, Bool, true, false, List, [], ◌∷◌, ◌++◌, length, get_or, Contains, All, refl, sym, ap, ◌∙◌, subst, arith}
 use Rattle.std.specs.Prelude.{Result, Ok, Err, IfOk}
 use Rattle.std.specs.declared.alloc.AllocError.{AllocError}
-use Rattle.std.proofs.lemmas.List.{length_push, length-map, get_or-map}
+use Rattle.std.proofs.lemmas.List.{length-map, get_or-map}
 use Rattle.std.proofs.lemmas.List.Elements.{All-contains, Contains-append_left, Contains-push, Contains-push_cases}
 use Rattle.vpg_features.proofs.Noted.{any_default}
 use Rattle.vpg_guards.specs.declared.tri.Tri.{Tri}
@@ -133,24 +133,6 @@ pub rest_below : (n f : ℕ) (rest features : List ℕ) → features ≡ f ∷ r
 rest_below n f rest features e below k d less = (subst (λ (fs : List ℕ). All (λ g. g < n) fs) e below) (suc k) d (omega (arith, less))
 
 -- ---- features that are noted
-
-pub noted_full : (features : List ℕ) (f : ℕ) → 6 ≤ length features → IsNoted features f features
-noted_full features f full = record { kept = λ g c. c; noted = inr full; longer = omega arith; only = λ g c. inl c }
-
-pub noted_had : (features : List ℕ) (f : ℕ) → Contains features f → IsNoted features f features
-noted_had features f had = record { kept = λ g c. c; noted = inl had; longer = omega arith; only = λ g c. inl c }
-
-pub noted_pushed : (features : List ℕ) (f : ℕ) → IsNoted features f (features ++ f ∷ [])
-noted_pushed features f = record {
-  kept = λ g c. Contains-append_left features (f ∷ []) g c;
-  noted = inl (Contains-push features f);
-  longer = omega (arith, length_push features f);
-  only = λ g c. only g (Contains-push_cases features f g c);
-}
-  where
-    only : (g : ℕ) → Contains features g ⊎ (f ≡ g) → Contains features g ⊎ (g ≡ f)
-    only g (inl c) = inl c
-    only g (inr e) = inr (sym e)
 
 pub tried_none : AreTriedOf [] []
 tried_none = record { each = λ f c. absurd (Contains-nil f c); only = λ f c. c }

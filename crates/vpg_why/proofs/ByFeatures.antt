@@ -1,5 +1,5 @@
 -- A search by features alone: what is shown of the products that are left.
-use Rattle.std.proofs.Common.{◌≡◌, ◌≢◌, ◌↔◌, ℕ, zero, suc, ◌+◌, ◌-◌, ◌<◌, ◌≤◌, ◌⊎◌, inl, inr, Bool, true, false, not, IsTrue, List, [], ◌∷◌, ◌++◌, count_by, length, map, replicate, take, get_or, slice_index_or, refl, sym, ap, ◌∙◌, subst, arith}
+use Rattle.std.proofs.Common.{◌≡◌, ℕ, zero, suc, ◌+◌, ◌-◌, ◌<◌, ◌≤◌, Bool, true, false, List, [], ◌∷◌, ◌++◌, count_by, length, map, take, get_or, slice_index_or, refl, sym, ap, ◌∙◌, subst, arith}
 use Rattle.std.specs.List.{AllByRecursion}
 use Rattle.std.proofs.Math.ListN.{set, length-set}
 use Rattle.std.proofs.lemmas.List.{ext_get_or, get_or-map, get_or-set_same, length-append, length-map, take-map}
@@ -19,7 +19,7 @@ use Rattle.vpg_partial.specs.TableLaws.{AreChoicesOf, IsKnownTable, IsOnlyRemain
 use Rattle.vpg_partial.specs.declared.decision.Decision.{Decision}
 use Rattle.vpg_partial.proofs.KnownLemmas.{no_set_with_conflict}
 use Rattle.vpg_partial.proofs.Tables.{remaining_products_complete}
-use Rattle.vpg_products.specs.Growing.{GrowsBy, LeavesNone, AreRefuted, AreShown, tri_of}
+use Rattle.vpg_products.specs.Growing.{LeavesNone, AreRefuted, AreShown, tri_of}
 use Rattle.vpg_products.proofs.Growth.{meets_all, set_finer, set_with}
 use Rattle.vpg_why.specs.Explained.{choices}
 use Rattle.vpg_why.specs.declared.question.Aim.TheVariants as aims
@@ -39,15 +39,6 @@ clash e = cc
 
 pub shown_of_table : (lines : List Line) (chosen : List Literal) (known : List Tri) → IsDiagram lines → IsKnownTable lines chosen known → AreShown lines chosen known
 shown_of_table lines chosen known is t = record { length_is = t.length_is; agree = λ features r. remaining_products_complete lines chosen known features is t r }
-
-pub shown_by_conflict : (lines : List Line) (chosen : List Literal) (known : List Tri) → IsDiagram lines → length known ≡ feature_count lines → HasConflictOf lines chosen → AreShown lines chosen known
-shown_by_conflict lines chosen known is e conflict = record {
-  length_is = e;
-  agree = λ features r. absurd (no_set_with_conflict (clauses_of lines) (counts_of lines) chosen features (meets_all lines features is r.product) r.agrees conflict);
-}
-
-pub grown_shown : (lines : List Line) (chosen : List Literal) (old new : List Tri) → AreShown lines chosen old → GrowsBy lines old new → AreShown lines chosen new
-grown_shown lines chosen old new s g = record { length_is = g.same_length ∙ s.length_is; agree = λ features r. g.kept features r.product (s.agree features r) }
 
 pub none_left : (game : NamedGame) (diagram : NamedDiagram) (chosen : List Literal) (known : List Tri) → AreShown diagram.lines chosen known → LeavesNone diagram.lines known → NoneMeets game diagram aims.Any chosen
 none_left game diagram chosen known s none features r m = none features r.product (s.agree features r)

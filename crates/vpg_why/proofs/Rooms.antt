@@ -20,10 +20,7 @@ use Rattle.vpg_partial.proofs.Tables.{tables_refine}
 use Rattle.vpg_why.specs.declared.question.Aim.{Aim}
 use Rattle.vpg_why.specs.declared.question.Limits.{Limits}
 use Rattle.vpg_why.specs.declared.question.Question.TheVariants as asks
-use Rattle.vpg_why.specs.declared.searching.Example.{Example}
-use Rattle.vpg_why.specs.declared.searching.Found.{Found}
-use Rattle.vpg_why.specs.declared.searching.Found.TheVariants as founds
-use Rattle.vpg_why.specs.Found.{IsOpen, HasRoom, IsFoundExact}
+use Rattle.vpg_why.specs.Found.{IsOpen, HasRoom}
 use Rattle.vpg_why.specs.Suffices.{choice, is_open, most_trials, AreOpenUpTo, HasTrials, AimSettles, AimSettlesUnder, IsSettled}
 use Rattle.vpg_why.proofs.Monotone.{earlier}
 
@@ -199,12 +196,6 @@ open_spent most trials after left one both = spent (most + 1) most trials after 
 pub one_spent : (most trials left : ℕ) → trials ≤ suc left → trials ≤ left + most_trials (most + 1)
 one_spent most trials left one = let h = trials_grow 1 (most + 1) (omega arith) in omega (arith, one, h)
 
--- what was neither found nor ruled out met a limit
-pub not_exact : (found : Found) → IsFoundExact found → ((x : Example) → found ≡ founds.Product x → ⊥) → (found ≡ founds.Nothing → ⊥) → ⊥
-not_exact (founds.Product x) exact a b = a x refl
-not_exact founds.Nothing exact a b = b refl
-not_exact founds.Unsettled exact a b = exact
-
 -- what is left for a first half suffices for it, if at most half is kept for the second
 pub enough_kept : (most trials kept : ℕ) → suc (most_trials most + most_trials most) ≤ trials → kept + kept ≤ trials - 1 → most_trials most ≤ (trials - 1) - kept
 enough_kept most trials kept room half = omega (arith, room, half)
@@ -259,9 +250,6 @@ module _ (known : List Tri) (f cases : ℕ) (inside : f < length known) (are : c
       let m = cases_more is in
       let g = trials_grow (count_by is_open (take (f + 1) known) + 1) (count_by is_open known + 1) (let c = count_front known (f + 1) in omega (arith, c)) in
       omega (arith, m, g, over, enough)
-
-pub no_trial : (n : ℕ) → most_trials (n + 1) ≤ 0 → ⊥
-no_trial n h = let e = trials_step n in omega (arith, e, h)
 
 -- the trials that suffice for a page's open features are those that are counted
 pub page_trials : (lines : List Line) (choices : List Literal) (known : List Tri) (trials : ℕ) → IsKnownTable lines choices known → HasTrials lines choices trials → most_trials (count_by is_open known + 1) ≤ trials

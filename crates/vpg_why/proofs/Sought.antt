@@ -17,10 +17,6 @@ use Rattle.vpg_why.specs.Suffices.{choice}
 use Rattle.vpg_why.proofs.OpenFeatures.{either_value}
 use Rattle.vpg_why.proofs.Splits.{lost_either_way}
 
--- what was found met no limit
-pub product_settled : (x : Example) → founds.Product x ≢ founds.Unsettled
-product_settled x e = cc
-
 -- what was neither found nor ruled out met a limit
 pub not_settled : (found : Found) → found ≢ founds.Unsettled → ((x : Example) → found ≡ founds.Product x → ⊥) → (found ≡ founds.Nothing → ⊥) → ⊥
 not_settled (founds.Product x) settled a b = a x refl

@@ -12,7 +12,7 @@ use Rattle.vpg_diagram.specs.declared.clause.Literal.{Literal}
 use Rattle.vpg_diagram.proofs.Lists.{All-append, All-front, All-back}
 use Rattle.vpg_game.specs.Game.{NamedGame}
 use Rattle.vpg_partial.specs.KnownLaws.{IsRemaining}
-use Rattle.vpg_partial.specs.TableLaws.{AreChoicesOf, IsKnownTable}
+use Rattle.vpg_partial.specs.TableLaws.{IsKnownTable}
 use Rattle.vpg_sets.specs.declared.node.Set.{Set}
 use Rattle.vpg_sets.specs.Firsts.{IsFirstOf}
 use Rattle.vpg_sets.specs.Sets.{Arena, IsGrown, IsInside, IsSetOf, has}
@@ -20,7 +20,6 @@ use Rattle.vpg_why.specs.declared.foreseeing.Findings.{Findings}
 use Rattle.vpg_why.specs.declared.question.Aim.{Aim}
 use Rattle.vpg_why.specs.declared.searching.Example.{Example}
 use Rattle.vpg_why.specs.Foreseen.{AreFindings}
-use Rattle.vpg_why.specs.Found.{AllMeet}
 use Rattle.vpg_why.specs.Products.{AreNeeds, Meets, NoneMeets}
 use Rattle.vpg_why.specs.Suffices.{choice}
 use Rattle.vpg_why.proofs.Ahead.{found_with, product_learned, loss_learned}
@@ -137,16 +136,6 @@ module _ (game : NamedGame) (diagram : NamedDiagram) (aim : Aim) (own : List Lit
   next_open listed more feature unknown (none lost longer) to =
       forced_next (Unit {0}) game diagram aim own product remaining meets listed feature true to known table unknown more
       (longer ∙ ap (λ (b : Bool). listed ++ choice feature b ∷ []) (not_not (slice_index_or product feature false))) lost
-
--- where none meets the aim, each literal is forced
-pub all_barred : (game : NamedGame) (diagram : NamedDiagram) (aim : Aim) (own : List Literal) (findings : Findings) (ls : List Literal) →
-    findings.met.items ≡ [] → findings.forced.items ≡ ls → AreChoicesOf diagram.lines ls → NoneMeets game diagram aim own →
-    AreFindings game diagram aim own findings
-all_barred game diagram aim own findings ls bare are named lost = record {
-  met = subst (λ (es : List Example). AllMeet game diagram aim own es) (sym bare) tt;
-  named = subst (λ (ls : List Literal). AreChoicesOf diagram.lines ls) (sym are) named;
-  forced = λ l h p r m. absurd (lost p r m);
-}
 
 -- the empty set
 pub none_met : (game : NamedGame) (diagram : NamedDiagram) (aim : Aim) (own : List Literal) (arena : Arena) (set : Set) →

@@ -351,11 +351,6 @@ module _ (measure : PartView → ℕ) (f : ℕ) where
   abbrev High : PartView → ℕ
   High part = measure (cut_by (choice f true) part)
 
-  pub item_numbered : (parts : List Part) (i : ℕ) (x : Part) → i < length parts → x ≡ get_or parts i x →
-      AreNumberedBy Low parts → IsNumberedBy Low x
-  item_numbered parts i x inside is many =
-      subst (IsNumberedBy Low) (sym is) (All-from_recursion (IsNumberedBy Low) parts many i x inside)
-
   pub numbers_same : IsAdditive measure → (left fewer : List Part) (part new taken : Part) (place : ℕ) →
       IsFirstSame (views left) (view_of part) place → taken ≡ get_or left place taken → fewer ≡ remove left place →
       new.number ≡ sum_of taken.number part.number → view_of new ≡ view_of part → AreNumberedBy High left →
@@ -444,13 +439,6 @@ cut_each_next literal parts i x new inside is v =
     ∙ ap (λ (ps : List Part). views (take i parts) ++ map (cut_by literal) (views ps))
     (sym (drop_more parts i x inside ∙ ap (λ (p : Part). p ∷ drop (i + 1) parts) (sym is)))
 
-pub cut_each_end : (literal : Literal) (parts : List Part) (i : ℕ) → length parts ≤ i →
-    views (take i parts) ++ map (cut_by literal) (views (drop i parts)) ≡ views parts
-cut_each_end literal parts i past =
-    ap (λ (ps : List Part). views ps ++ map (cut_by literal) (views (drop i parts))) (take_all i parts past)
-    ∙ ap (λ (ps : List Part). views parts ++ map (cut_by literal) (views ps)) (drop_all i parts past)
-    ∙ append-nil (views parts)
-
 pub numbers_last : (measure : PartView → ℕ) (items old : List Part) (i n : ℕ) → length items ≤ i →
     length items ≡ length old → n ≡ length old → AreNumberedBy measure (take i items) →
     AreNumberedBy measure (take n (items ++ drop (length items) old))
@@ -460,13 +448,6 @@ numbers_last measure items old i n past same e all = subst (AreNumberedBy measur
 pub numbers_first : (measure : PartView → ℕ) (items old : List Part) → items ≡ old → AreNumberedBy measure old →
     AreNumberedBy measure items
 numbers_first measure items old e all = subst (AreNumberedBy measure) (sym e) all
-
-pub cut_each_last : (literal : Literal) (items old : List Part) (i n : ℕ) (all : List PartView) → length items ≤ i →
-    length items ≡ length old → n ≡ length old →
-    views (take i items) ++ map (cut_by literal) (views (drop i items)) ≡ all →
-    views (take n (items ++ drop (length items) old)) ≡ all
-cut_each_last literal items old i n all past same e so =
-    ap (λ (ps : List Part). views ps) (written_back items old n same e) ∙ sym (cut_each_end literal items i past) ∙ so
 
 pub number_here : (measure : PartView → ℕ) (literal : Literal) (parts : List Part) (i : ℕ) (x new : Part) →
     x ≡ get_or parts i x → new.number ≡ (get_or parts i x).number →

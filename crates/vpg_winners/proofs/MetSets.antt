@@ -21,9 +21,9 @@ use Rattle.vpg_why.specs.Found.{IsFound, IsFoundExact}
 use Rattle.vpg_why.specs.Products.{Meets}
 use Rattle.vpg_winners.specs.declared.two_sets.TwoSets.{TwoSets}
 use Rattle.vpg_winners.specs.Cutting.{StandFor}
-use Rattle.vpg_winners.specs.Decided.{IsDecidedAs, IsDecidedExact, decided_by}
+use Rattle.vpg_winners.specs.Decided.{IsDecidedAs, decided_by}
 use Rattle.vpg_winners.specs.Finding.{IsSetOfMet, IsFirstFound}
-use Rattle.vpg_winners.proofs.OneWins.{decided_is, decided_exactly}
+use Rattle.vpg_winners.proofs.OneWins.{decided_is}
 
 module _ (game : NamedGame) (diagram : NamedDiagram) (vertex : ℕ) (choices : List Literal) (arena : Arena) (even odd : Set)
     (count : feature_count diagram.lines ≡ arena.features)
@@ -92,9 +92,6 @@ module _ (game : NamedGame) (diagram : NamedDiagram) (vertex : ℕ) (choices : L
       (won_met game diagram vertex choices arena even odd count stand) won first)
       (first_is_found game diagram (aims.Won Dual vertex) choices arena odd
       (lost_met game diagram vertex choices arena even odd count stand) lost also)
-
-  pub firsts_decide_exactly : IsDecidedExact (decided_by won lost)
-  firsts_decide_exactly = decided_exactly won lost (first_is_exact arena even won first) (first_is_exact arena odd lost also)
 
 -- if there are two sets
 module _ (game : NamedGame) (diagram : NamedDiagram) (vertex : ℕ) (choices : List Literal) where

@@ -4,7 +4,6 @@ use Rattle.std.specs.Global.{Vec}
 use Rattle.std.specs.List.{All}
 use Rattle.std.proofs.lemmas.Bool.{cases_Bool, cases_eq, cases_lt}
 use Rattle.std.proofs.lemmas.List.{get_or_append_left, get_or-take, get_or-drop, take-map, drop-map}
-use Rattle.std.proofs.lemmas.List.Elements.{All-take, All-drop}
 use Rattle.std.proofs.Math.Seq.{get_or-append_seam}
 use Rattle.vpg_sides.specs.declared.player.Player.{Player}
 use Rattle.vpg_sides.specs.declared.player.Player.TheVariants.{Even, Odd}
@@ -92,11 +91,6 @@ module _ (products : List (Vec Bool)) (start count : ℕ) where
   distinct_between are = subst (λ (xs : List (List Bool)). AreDistinct xs) (sym lists_between)
       (distinct_take count (drop start (lists_of products)) (distinct_drop start (lists_of products) are))
 
-  pub long_between : (n : ℕ) → All (λ (p : Vec Bool). length p.items ≡ n) products →
-      All (λ (p : Vec Bool). length p.items ≡ n) (take count (drop start products))
-  long_between n long = All-take (λ (p : Vec Bool). length p.items ≡ n) count (drop start products)
-      (All-drop (λ (p : Vec Bool). length p.items ≡ n) start products long)
-
 -- words stay what they are
 pub listing_stays : (listing : Listing) (universe : Universe) → Grows (Listed listing) universe →
     universe ≡ Listed listing
@@ -140,9 +134,6 @@ module _ (graph : GuardedGame Formula) (vertex : ℕ) where
         where
           back : length found + (k - length found) ≡ k
           back = omega (arith, after)
-
-  pub first_none : (products : List (List Bool)) → AreFirstWinners graph vertex products []
-  first_none products = record { count = omega arith; each = λ k l. absurd (omega arith) }
 
   -- the first ones are all of them
   pub first_all : (products : List (List Bool)) (winners : List Player) → length products ≤ length winners →

@@ -65,9 +65,6 @@ IsConfinedTo old new edges part drawn set kept numbers i =
     ConfinesBy old edges part drawn p (get_or numbers j 0)))
 
 module _ (old : Universe) (edges : List Edge) (part drawn : List Subset) (set : Subset) (numbers : List ℕ) where
-  pub confined_none : IsConfinedTo old old edges part drawn set set numbers 0
-  confined_none p = (λ e. (e, λ j l. absurd (omega arith)), λ h. h.0)
-
   pub confined_more : (a b : Universe) → IsGrown old a → (kept next : Subset) (i k : ℕ) → get_or numbers i 0 ≡ k →
       IsInside old (edge_at edges k).products → IsInside old (set_at part (edge_at edges k).to) →
       IsInside old (set_at drawn (edge_at edges k).to) →

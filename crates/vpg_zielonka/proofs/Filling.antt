@@ -1,5 +1,5 @@
 -- A set of products at each vertex: how parts are made, and what they are in one product.
-use Rattle.std.proofs.Common.{◌≡◌, ℕ, ◌+◌, ◌<◌, ◌≤◌, ◌⊎◌, inl, inr, List, [], ◌∷◌, ◌++◌, Bool, true, false, ◌&&◌, length, nat_lt, refl, sym, ◌∙◌, ap, subst, length-append, arith}
+use Rattle.std.proofs.Common.{◌≡◌, ℕ, ◌+◌, ◌<◌, ◌≤◌, ◌⊎◌, inl, inr, List, [], ◌∷◌, ◌++◌, Bool, true, false, ◌&&◌, length, nat_lt, sym, ◌∙◌, ap, subst, length-append, arith}
 use Rattle.std.proofs.lemmas.Bool.{cases_eq, cases_lt, lt-ltb, le-ltb}
 use Rattle.std.proofs.lemmas.List.{get_or_append_left}
 use Rattle.std.proofs.Math.Seq.{get_or-append_seam}
@@ -59,9 +59,6 @@ sets_grown a b g count sets are = record {
 
 -- ---- parts that are made
 
-pub nothing_made : (universe : Universe) (test : ℕ → List Bool → Bool) → AreMade universe test 0 []
-nothing_made universe test = record { count_is = refl; each = λ v l. absurd (omega arith) }
-
 pub made_grown : (a b : Universe) → IsGrown a b → (test : ℕ → List Bool → Bool) (count : ℕ) (made : List Subset) →
     AreMade a test count made → AreMade b test count made
 made_grown a b g test count made are = record {
@@ -107,13 +104,6 @@ made_more old a b g h f x y set x_in y_in is test count made tested are = (
   where
     same : (s t u w : Bool) → s ≡ u → t ≡ w → f s t ≡ f u w
     same s t u w d e = ap (λ (c : Bool). f c t) d ∙ ap (λ (c : Bool). f u c) e
-
-pub made_sets : (universe : Universe) (test : ℕ → List Bool → Bool) (count : ℕ) (made : List Subset) →
-    AreMade universe test count made → AreSets universe count made
-made_sets universe test count made are = record {
-  count_is = are.count_is;
-  inside = λ v l. (are.each v (subst (λ n. v < n) are.count_is l)).inside;
-}
 
 pub made_part : (universe : Universe) (test : ℕ → List Bool → Bool) (count : ℕ) (made : List Subset) →
     AreMade universe test count made → (p : List Bool) (v : ℕ) → part_in universe made p v ≡ (nat_lt v count && test v p)

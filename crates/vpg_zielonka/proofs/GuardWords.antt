@@ -28,23 +28,8 @@ pub record IsOrSoFar (qs : List (List Bool)) (made : ℕ) (whole rest : List Boo
   pub each : (p : List Bool) → IsListed qs p → whole p ≡ (in_word qs made p || rest p)
 
 module _ (qs : List (List Bool)) (made : ℕ) (whole rest : List Bool → Bool) where
-  pub and_first : IsWordAmong qs (λ p. true) made → IsAndSoFar qs made rest rest
-  and_first is = record { inside = is.inside; each = λ p l. sym (ap (λ (x : Bool). x && rest p) (is.each p l)) }
-
   pub or_first : Fits qs made → ((p : List Bool) → in_word qs made p ≡ false) → IsOrSoFar qs made rest rest
   or_first fits none = record { inside = fits; each = λ p l. sym (ap (λ (x : Bool). x || rest p) (none p)) }
-
-  pub and_end_word : IsAndSoFar qs made whole rest → ((p : List Bool) → rest p ≡ true) → IsWordAmong qs whole made
-  and_end_word so end = record {
-    inside = so.inside;
-    each = λ p l. sym (so.each p l ∙ ap (λ (x : Bool). in_word qs made p && x) (end p) ∙ and_end (in_word qs made p));
-  }
-
-  pub or_end_word : IsOrSoFar qs made whole rest → ((p : List Bool) → rest p ≡ false) → IsWordAmong qs whole made
-  or_end_word so end = record {
-    inside = so.inside;
-    each = λ p l. sym (so.each p l ∙ ap (λ (x : Bool). in_word qs made p || x) (end p) ∙ or_end (in_word qs made p));
-  }
 
   module _ (word next : ℕ) (item behind : List Bool → Bool) (is : IsWordAmong qs item word) where
     pub and_next : IsAndSoFar qs made whole rest →

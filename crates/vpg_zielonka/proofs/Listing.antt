@@ -1,5 +1,5 @@
 -- The list of the edges of a game grows by one edge at a time.
-use Rattle.std.proofs.Common.{◌≡◌, ℕ, zero, suc, ◌+◌, ◌<◌, ◌≤◌, ◌⊎◌, inl, inr, ◌↔◌, List, [], ◌∷◌, ◌++◌, Bool, true, false, length, get_or, map, filter, replicate, refl, sym, ◌∙◌, ap, subst, length-append, Contains, arith}
+use Rattle.std.proofs.Common.{◌≡◌, ℕ, zero, suc, ◌+◌, ◌<◌, ◌≤◌, ◌⊎◌, inl, inr, ◌↔◌, List, [], ◌∷◌, ◌++◌, Bool, true, false, length, get_or, map, filter, refl, sym, ◌∙◌, ap, subst, length-append, Contains, arith}
 use Rattle.std.proofs.lemmas.Bool.{cases_eq, cases_lt, cases_Bool}
 use Rattle.std.proofs.lemmas.List.{get_or_append_left, get_or_default}
 use Rattle.std.proofs.Math.Seq.{get_or-append_seam}
@@ -155,25 +155,6 @@ listed_grown a b g graph Wanted edges leaving entering are = record {
         holds = g.same (edge_at edges k.0).products (are.inside k.0 k.1.inside) p ∙ k.1.holds;
       },
     )
-
--- at first there is no edge
-pub none_listed : (universe : Universe) (graph : GuardedGame Formula) (n : ℕ) → n ≡ length graph →
-    ((v : ℕ) → numbers_at (replicate n []) v ≡ []) → length (replicate {A = List ℕ} n []) ≡ n →
-    AreListed universe graph (λ p v w. (v < 0) × HasEdge (game_in graph p) v w) [] (replicate n []) (replicate n [])
-none_listed universe graph n e empty count = record {
-  inside = λ k l. absurd (omega arith);
-  from_inside = λ k l. absurd (omega arith);
-  to_inside = λ k l. absurd (omega arith);
-  sound = λ p k v w h. absurd (none k h.inside);
-  complete = λ p v w k h. absurd (omega (arith, h.0));
-  leave_count = count ∙ e;
-  enter_count = count ∙ e;
-  leave = λ v k. (λ c. absurd (not_in_nil k (subst (λ (l : List ℕ). Contains l k) (empty v) c)), λ h. absurd (none k h.0));
-  enter = λ v k. (λ c. absurd (not_in_nil k (subst (λ (l : List ℕ). Contains l k) (empty v) c)), λ h. absurd (none k h.0));
-}
-  where
-    none : (k : ℕ) → k < 0 → ⊥
-    none k l = omega arith
 
 module _ (universe : Universe) (graph : GuardedGame Formula) (Wanted : List Bool → ℕ → ℕ → Type 0) (edges : List Edge)
     (leaving entering more_leaving more_entering : List (List ℕ)) (new : Edge) (guard : Formula)

@@ -9,7 +9,7 @@ use Rattle.vpg_hope.specs.Games.{priority_of}
 use Rattle.vpg_zielonka.specs.declared.subset.Subset.{Subset}
 use Rattle.vpg_zielonka.specs.declared.universe.Universe.{Universe}
 use Rattle.vpg_zielonka.specs.Universes.{IsGrown}
-use Rattle.vpg_zielonka.proofs.Growing.{grown_self, grown_then}
+use Rattle.vpg_zielonka.proofs.Growing.{grown_then}
 use Rattle.vpg_zielonka.specs.Attractors.{Vertices}
 use Rattle.vpg_zielonka.specs.Parts.{game_in, part_in, AreSets}
 use Rattle.vpg_zielonka.specs.Rounds.{IsLive, IsBelowTops, IsGivenAway}
@@ -17,7 +17,7 @@ use Rattle.vpg_zielonka.specs.Solutions.{IsSolution}
 use Rattle.vpg_zielonka.specs.Winners.{AreWinners, sets_of, wins_in}
 use Rattle.vpg_zielonka.specs.declared.winners.Winners.{Winners}
 use Rattle.vpg_zielonka.proofs.Filling.{part_below, part_grown}
-use Rattle.vpg_zielonka.proofs.Recursion.{Continues, continues_begin, continues_end, continues_round, left_lives, given_within}
+use Rattle.vpg_zielonka.proofs.Recursion.{Continues, continues_end, continues_round, left_lives, given_within}
 
 -- what the players have stays what it is when the universe grows
 pub wins_grown : (a b : Universe) → IsGrown a b → (n : ℕ) (winners : Winners) → AreWinners a n winners →
@@ -41,20 +41,6 @@ module _ (old : Universe) (graph : GuardedGame Formula) (first : List Subset) (b
     pub below : (p : List Bool) (v : ℕ) → part_in now part p v ≡ true → priority_of (game_in graph p) v < bound
     pub continues : (p : List Bool) → Continues (game_in graph p) (part_in old first p) (part_in now part p)
         (wins_in now winners p)
-
-  pub loop_start : (winners : Winners) → AreWinners old (length graph) winners → AreSets old (length graph) first →
-      ((p : List Bool) → IsLive (game_in graph p) (part_in old first p)) →
-      ((p : List Bool) (v : ℕ) → part_in old first p v ≡ true → priority_of (game_in graph p) v < bound) →
-      ((p : List Bool) (player : Player) (v : ℕ) → wins_in old winners p player v ≡ false) →
-      IsSolvedSoFar old first winners
-  loop_start winners given sets live below none = record {
-    grown = grown_self old;
-    given = given;
-    sets = sets;
-    live = live;
-    below = below;
-    continues = λ p. continues_begin (game_in graph p) (part_in old first p) (wins_in old winners p) (none p);
-  }
 
   pub loop_end : (now : Universe) (part : List Subset) (winners : Winners) → IsSolvedSoFar now part winners →
       ((p : List Bool) (v : ℕ) → part_in now part p v ≡ false) → (p : List Bool) →

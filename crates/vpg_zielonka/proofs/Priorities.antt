@@ -32,9 +32,6 @@ module _ (universe : Universe) (graph : GuardedGame Formula) (part : List Subset
   abbrev pub IsGreatest : ℕ → Option ℕ → Type 0
   IsGreatest i greatest = MatchOption greatest (NoneBelow i) (λ d. AllBelow i d × IsTaken universe graph part d)
 
-  pub greatest_none : IsGreatest 0 None
-  greatest_none p v l = absurd (omega arith)
-
   -- a vertex without products changes nothing
   pub greatest_skip : (i : ℕ) (greatest : Option ℕ) → ((p : List Bool) → part_in universe part p i ≡ false) →
       IsGreatest i greatest → IsGreatest (i + 1) greatest

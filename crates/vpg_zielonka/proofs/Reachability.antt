@@ -68,26 +68,6 @@ module _ (graph : GuardedGame Formula) where
       LeadInto graph some count v → LeadInto graph more count v
   lead_more some more up count v lead k d l m = up (get_or (edges_at v) k d).to (lead k d l m)
 
-  -- the first vertex waits
-  pub closed_start : (n vertex : ℕ) (found waiting : List Bool) → vertex < n →
-      found ≡ set (replicate n false) vertex true → WaitsIfNew (replicate n false) vertex (replicate n false) waiting →
-      IsClosedBut graph (flagged found) (λ u. flagged waiting u ≡ true)
-  closed_start n vertex found waiting l found_is (inl h) u e = absurd (none_up n vertex h.0)
-  closed_start n vertex found waiting l found_is (inr h) u e = inl (
-      ap (λ (list : List Bool). flagged list u) (h ∙ sym found_is) ∙ e)
-
-  -- a vertex that was taken from those that wait is looked at
-  pub closed_pop : (set_found : Vertices) (waiting left : List Bool) (v : ℕ) → left ≡ set waiting v false →
-      IsClosedBut graph set_found (λ u. flagged waiting u ≡ true) →
-      IsClosedBut graph set_found (λ u. (u ≡ v) ⊎ (flagged left u ≡ true))
-  closed_pop set_found waiting left v left_is closed u e = of (closed u e) (cases_eq u v)
-    where
-      of : (flagged waiting u ≡ true) ⊎ LeadInto graph set_found (length (edges_at u)) u → (u ≡ v) ⊎ (u ≡ v → ⊥) →
-          ((u ≡ v) ⊎ (flagged left u ≡ true)) ⊎ LeadInto graph set_found (length (edges_at u)) u
-      of (inr lead) s = inr lead
-      of (inl w) (inl s) = inl (inl s)
-      of (inl w) (inr n) = inl (inr (ap (λ (l : List Bool). flagged l u) left_is ∙ set_there waiting v u false false n ∙ w))
-
   -- so many edges of a vertex lead into the set
   pub record IsFound (v : ℕ) (before found waiting : List Bool) (count : ℕ) : Type 0 where
     pub found_count : length found ≡ length graph
@@ -146,17 +126,6 @@ module _ (graph : GuardedGame Formula) where
       at k d l m (inl s) = ap (λ n. flagged more (get_or (edges_at v) n d).to) s ∙ ap (λ n. flagged more n) (here d)
           ∙ here_up
       at k d l m (inr n) = up (get_or (edges_at v) k d).to (is.front k d (omega (arith, l, n)) m)
-
-  pub found_all : (v : ℕ) (before found waiting : List Bool) →
-      IsFound v before found waiting (length (edges_at v)) →
-      IsClosedBut graph (flagged found) (λ u. flagged waiting u ≡ true)
-  found_all v before found waiting is u e = of (is.rest u e)
-    where
-      of : ((u ≡ v) ⊎ (flagged waiting u ≡ true)) ⊎ LeadInto graph (flagged found) (length (edges_at u)) u →
-          (flagged waiting u ≡ true) ⊎ LeadInto graph (flagged found) (length (edges_at u)) u
-      of (inl (inl s)) = inr (subst (λ n. LeadInto graph (flagged found) (length (edges_at n)) n) (sym s) is.front)
-      of (inl (inr w)) = inl w
-      of (inr lead) = inr lead
 
   -- if none waits, no edge leads out
   pub closed_end : (found waiting : List Bool) → ((v : ℕ) → flagged waiting v ≡ false) →

@@ -14,7 +14,7 @@ use Rattle.vpg_zielonka.specs.Parts.{game_in, part_in, AreSets}
 use Rattle.vpg_zielonka.specs.Rounds.{IsLive, IsLiveOrSeed, AreTops, AreStuck, IsBelowTops, IsGivenAway, IsWithoutStuck}
 use Rattle.vpg_zielonka.specs.Winners.{AreWinners, wins_in}
 use Rattle.vpg_zielonka.specs.declared.winners.Winners.{Winners}
-use Rattle.vpg_zielonka.proofs.Filling.{part_grown, sets_grown}
+use Rattle.vpg_zielonka.proofs.Filling.{part_grown}
 use Rattle.vpg_zielonka.proofs.Looping.{wins_grown}
 
 -- a part is the same in each product when the universe grows
@@ -39,13 +39,6 @@ pub live_or_seed : (universe : Universe) (graph : GuardedGame Formula) (player :
     ((p : List Bool) → IsLive (game_in graph p) (part_in universe part p)) → (p : List Bool) →
     IsLiveOrSeed (game_in graph p) player (part_in universe part p) (part_in universe seeds p)
 live_or_seed universe graph player part seeds live p = λ v m o f. live p v m
-
-pub winners_grown : (a b : Universe) → IsGrown a b → (n : ℕ) (winners : Winners) → AreWinners a n winners →
-    AreWinners b n winners
-winners_grown a b g n winners are = record {
-  won = sets_grown a b g n winners.won.items are.won;
-  lost = sets_grown a b g n winners.lost.items are.lost;
-}
 
 -- ---- below the tops
 

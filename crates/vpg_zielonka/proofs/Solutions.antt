@@ -72,14 +72,6 @@ module _ (both one two : Mask) (is : IsJoined both one two) where
 
 -- ---- parts of a game
 
--- the sets matter, not how they are made
-pub same_solution : (game : Game) (mask other : Mask) (wins more : Player → Mask) →
-    ((v : ℕ) → mask v ≡ other v) → ((p : Player) (v : ℕ) → wins p v ≡ more p v) →
-    IsSolution game mask wins → IsSolution game other more
-same_solution game mask other wins more e f s =
-    subst (λ (w : Player → Mask). IsSolution game other w) (λ i p v. f p v i)
-    (subst (λ (m : Mask). IsSolution game m wins) (λ i v. e v i) s)
-
 -- from each vertex of the player in the part some edge leads to the part
 abbrev pub IsLiveFor : Game → Player → Mask → Type 0
 IsLiveFor game player part =

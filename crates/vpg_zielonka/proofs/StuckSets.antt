@@ -1,5 +1,5 @@
 -- The vertices of a player that have no move, in all products at once.
-use Rattle.std.proofs.Common.{◌≡◌, ℕ, ◌+◌, ◌<◌, ◌⊎◌, inl, inr, ◌↔◌, List, [], ◌∷◌, ◌++◌, Bool, true, false, length, refl, sym, ◌∙◌, ap, subst, length-append, arith}
+use Rattle.std.proofs.Common.{◌≡◌, ℕ, ◌+◌, ◌<◌, ◌⊎◌, inl, inr, ◌↔◌, List, [], ◌∷◌, ◌++◌, Bool, true, false, length, sym, ◌∙◌, ap, subst, length-append, arith}
 use Rattle.std.proofs.lemmas.Bool.{cases_eq}
 use Rattle.std.proofs.lemmas.List.{get_or_append_left}
 use Rattle.std.proofs.Math.Seq.{get_or-append_seam}
@@ -29,16 +29,6 @@ module _ (old : Universe) (graph : GuardedGame Formula) (player : Player) (part 
     pub count_is : length seeds ≡ count
     pub inside : (v : ℕ) → v < count → IsInside now (set_at seeds v)
     pub each : (v : ℕ) → v < count → (p : List Bool) → (has now (set_at seeds v) p ≡ true) ↔ IsStuckAt v p
-
-  pub stuck_none : (now : Universe) → AreStuckUpTo now 0 []
-  stuck_none now = record {
-    count_is = refl;
-    inside = λ v l. absurd (omega arith);
-    each = λ v l p. absurd (none v l);
-  }
-    where
-      none : (v : ℕ) → v < 0 → ⊥
-      none v l = omega arith
 
   pub stuck_more : (a b : Universe) → IsGrown a b → (count : ℕ) (seeds : List Subset) (new : Subset) → IsInside b new →
       ((p : List Bool) → (has b new p ≡ true) ↔ IsStuckAt count p) → AreStuckUpTo a count seeds →
@@ -70,12 +60,6 @@ module _ (old : Universe) (graph : GuardedGame Formula) (player : Player) (part 
       of v l (inr n) p = subst (λ (s : Subset). (has b s p ≡ true) ↔ IsStuckAt v p) (sym (stays v (omega (arith, n))))
           (subst (λ (c : Bool). (c ≡ true) ↔ IsStuckAt v p)
           (sym (g.same (set_at seeds v) (are.inside v (omega (arith, n))) p)) (are.each v (omega (arith, n)) p))
-
-  pub stuck_sets : (now : Universe) (count : ℕ) (seeds : List Subset) → AreStuckUpTo now count seeds → AreSets now count seeds
-  stuck_sets now count seeds are = record {
-    count_is = are.count_is;
-    inside = λ v l. are.inside v (subst (λ n. v < n) are.count_is l);
-  }
 
   pub stuck_all : (now : Universe) (seeds : List Subset) → AreSets old (length graph) part →
       AreStuckUpTo now (length graph) seeds → (p : List Bool) →

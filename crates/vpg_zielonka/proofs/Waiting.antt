@@ -36,9 +36,6 @@ pub record AreWaiting (universe : Universe) (part : List Subset) (n i : ℕ) (wa
   pub waits : (p : List Bool) (v : ℕ) → v < i → part_in universe part p v ≡ true → get_or waiting v false ≡ true
 
 module _ (universe : Universe) (part : List Subset) (n : ℕ) where
-  pub waiting_none : (waiting : List Bool) → length waiting ≡ n → AreWaiting universe part n 0 waiting
-  waiting_none waiting count = record { count = count; waits = λ p v l. absurd (omega arith) }
-
   pub waiting_add : (i : ℕ) (waiting later : List Bool) → i < n → later ≡ set waiting i true →
       AreWaiting universe part n i waiting → AreWaiting universe part n (i + 1) later
   waiting_add i waiting later l e are = subst (λ (xs : List Bool). AreWaiting universe part n (i + 1) xs) (sym e) (record {

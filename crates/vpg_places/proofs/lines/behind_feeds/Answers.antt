@@ -1,5 +1,5 @@
 use Rattle.std.proofs.Common.{◌≡◌, ◌-◌, ◌∙◌, sym, arith, length, rules}
-use Rattle.vpg_places.proofs.Feeds.{feeds_in_nothing, next_feed, no_feed_left}
+use Rattle.vpg_places.proofs.Feeds.{feeds_in_nothing, next_feed}
 use Rattle.vpg_places.proofs.lines.behind_feeds.Goals as goal
 
 pub loop-preserved : goal.loop-preserved

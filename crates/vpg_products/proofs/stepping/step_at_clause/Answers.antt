@@ -3,7 +3,7 @@ use Rattle.std.proofs.lemmas.List.{take_all, take_more}
 use Rattle.std.proofs.lemmas.Option.{slice_get-get_or}
 use Rattle.vpg_diagram.specs.declared.clause.Literal.{Literal}
 use Rattle.vpg_diagram.proofs.Lists.{All-at}
-use Rattle.vpg_products.proofs.Rules.{IsScanned, scanned_none, scanned_open, scanned_false, scanned_adds, scanned_fails}
+use Rattle.vpg_products.proofs.Rules.{IsScanned, scanned_open, scanned_false, scanned_adds, scanned_fails}
 use Rattle.vpg_products.proofs.stepping.step_at_clause.Goals as goal
 use Rattle.vpg_products.proofs.stepping.step_at_clause.Goals.{then-not-is_known+in-None, else-not-is_known}
 
