@@ -227,10 +227,11 @@ pub(crate) const BUDGET: u64 = 1_000_000;
 /// Vertex 0 keeps going round priority 1, vertex 3 does until it leaves for priority 3.
 const EXIT: &[u8] = b"0 1 0 0; 1 3 0 2; 2 4 0 2; 3 1 0 3,1;";
 
-/// A budget of 1 is used up once vertex 0 is raised to the top. One round of lifts follows, and vertex 3 climbs still.
+/// A budget of 1 is used up by the lifts after vertex 0 is raised to the top. One more round follows, and vertex 3
+/// climbs still.
 const AT_EXIT: &[Row] = &[
     (Hopeful, 0, Guess(BUDGET, true), Some(&[6, 3, 0, 4])),
-    (Hopeful, 0, Guess(1, false), Some(&[6, 3, 0, 1])),
+    (Hopeful, 0, Guess(1, false), Some(&[6, 3, 0, 2])),
     (Dual, 0, Guess(BUDGET, true), Some(&[0, 2, 2, 2])),
 ];
 
