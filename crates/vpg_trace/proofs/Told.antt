@@ -14,11 +14,10 @@ use Rattle.vpg_checking.specs.Behaviours.{Behaviour}
 use Rattle.vpg_partial.specs.TableLaws.{IsKnownTable}
 use Rattle.vpg_measure.specs.Orders.{OrderView, other_table}
 use Rattle.vpg_sides.specs.declared.which.Which.{Which}
-use Rattle.vpg_sides.specs.declared.which.Which.TheVariants.{Hopeful, Dual}
 use Rattle.vpg_why.specs.Explained.{choices}
 use Rattle.vpg_why.specs.Moves.{AreWinning}
 use Rattle.vpg_why.specs.declared.question.Limits.{Limits}
-use Rattle.vpg_trace.specs.Answering.{Appends, HasVerdict, IsTooShort, IsWalkTold, Page, TellsTrace, TellsWon, family_on, head_line, identifier_of, neither_line, page_of, unsettled_line, walk_along, walk_text}
+use Rattle.vpg_trace.specs.Answering.{Appends, IsTooShort, IsWalkTold, Page, TellsTrace, TellsWon, family_on, head_line, identifier_of, page_of, unsettled_line, walk_along, walk_text}
 use Rattle.vpg_parts.specs.declared.part.Part.{Part}
 use Rattle.vpg_model.specs.Departures.{Departure}
 use Rattle.vpg_trace.specs.Texts.{family_of, trace_text}
@@ -105,17 +104,3 @@ module _ (order : OrderView) (behaviour : Behaviour) (vertex : ℕ) (beside befo
 
     pub tells_short : (mover : Which) → IsTooShort page limits mover → after ≡ before ++ unsettled_line → Won mover
     tells_short mover short appended = (unsettled_line, inr (short, refl), appended)
-
-    pub tells_hopeless : HasVerdict page Hopeful vertex → Won Dual → Told
-    tells_hopeless high (text, won, appended) = (text, inl (high, won), appended)
-
-    pub tells_sure : ¬ (HasVerdict page Hopeful vertex) → HasVerdict page Dual vertex → Won Hopeful → Told
-    tells_sure low high (text, won, appended) = (text, inr (inl (low, high, won)), appended)
-
-    pub tells_neither : ¬ (HasVerdict page Hopeful vertex) → ¬ (HasVerdict page Dual vertex) → (identifier : ℕ) → identifier ≡ identifier_of page vertex →
-        after ≡ before ++ neither_line identifier beside → Told
-    tells_neither low also identifier same appended = (
-      neither_line (identifier_of page vertex) beside,
-      inr (inr (low, also, refl)),
-      appended ∙ ap (λ (n : ℕ). before ++ neither_line n beside) same,
-    )

@@ -13,12 +13,11 @@ use Rattle.vpg_partial.specs.KnownLaws.{IsRemaining}
 use Rattle.vpg_partial.specs.TableLaws.{IsKnownTable, IsOnlyRemaining}
 use Rattle.vpg_partial.proofs.Tables.{remaining_products_complete}
 use Rattle.vpg_why.specs.declared.question.Aim.{Aim}
-use Rattle.vpg_why.specs.declared.searching.Found.{Found}
 use Rattle.vpg_why.specs.declared.searching.Found.TheVariants as founds
 use Rattle.vpg_why.specs.Products.{AgreeBelow, NoneMeets, Meets, IsFirst}
 use Rattle.vpg_why.specs.Suffices.{choice}
-use Rattle.vpg_why.specs.Found.{IsFoundProduct, IsFound}
-use Rattle.vpg_why.proofs.Splits.{lost_either_way, decided as has_or_lacks}
+use Rattle.vpg_why.specs.Found.{IsFoundProduct}
+use Rattle.vpg_why.proofs.Splits.{decided as has_or_lacks}
 
 same_where_known : (t : Tri) (a b : Bool) → t ≢ Unknown → Agrees t a → Agrees t b → a ≡ b
 same_where_known No a b known h k = h ∙ sym k
@@ -95,12 +94,6 @@ module _ (game : NamedGame) (diagram : NamedDiagram) (aim : Aim) (choices : List
       meets = p.meets;
       is_first = λ t. absurd (in_and_out false t refl);
     }
-
-    -- where none with it meets the aim, what was found without it was found among all
-    pub found_without_it : (found : Found) → NoneMeets game diagram aim (choices ++ choice f true ∷ []) → IsFound game diagram aim (choices ++ choice f false ∷ []) found → IsFound game diagram aim choices found
-    found_without_it (founds.Product example) lost p = found_without example.features.items example.first lost p
-    found_without_it founds.Nothing lost p = lost_either_way game diagram aim choices f lost p
-    found_without_it founds.Unsettled lost p = tt
 
   pub found_here : (set : List Bool) → IsOnlyRemaining diagram.lines choices set → Meets game aim set → IsFoundProduct game diagram aim choices set true
   found_here set is meets = record { remaining = is.remaining; meets = meets; is_first = λ t. only_is_first set is }

@@ -1,5 +1,5 @@
 -- A search for any product, and products that show that something is not forced.
-use Rattle.std.proofs.Common.{◌≡◌, ◌≢◌, ℕ, ◌⊎◌, inl, inr, Bool, true, false, not, List, [], ◌∷◌, ◌++◌, slice_index_or, refl}
+use Rattle.std.proofs.Common.{◌≡◌, ◌≢◌, ℕ, ◌⊎◌, inl, inr, Bool, false, not, List, [], ◌∷◌, ◌++◌, slice_index_or, refl}
 use Rattle.std.specs.List.{AllByRecursion}
 use Rattle.vpg_diagram.specs.DiagramText.{NamedDiagram}
 use Rattle.vpg_diagram.specs.Clauses.{IsTrueIn}
@@ -15,7 +15,6 @@ use Rattle.vpg_why.specs.Found.{IsSought, AllMeet}
 use Rattle.vpg_why.specs.Products.{Meets, NoneMeets}
 use Rattle.vpg_why.specs.Suffices.{choice}
 use Rattle.vpg_why.proofs.OpenFeatures.{either_value}
-use Rattle.vpg_why.proofs.Splits.{lost_either_way}
 
 -- what was neither found nor ruled out met a limit
 pub not_settled : (found : Found) → found ≢ founds.Unsettled → ((x : Example) → found ≡ founds.Product x → ⊥) → (found ≡ founds.Nothing → ⊥) → ⊥
@@ -32,13 +31,6 @@ module _ (game : NamedGame) (diagram : NamedDiagram) (aim : Aim) (choices : List
     pub sought_with : (value : Bool) (example : Example) → IsSought game diagram aim (choices ++ choice f value ∷ []) (founds.Product example) → IsSought game diagram aim choices (founds.Product example)
     sought_with value example (left, meets) = (fewer value example.features.items left, meets)
 
-    -- where none with the one value meets the aim, what was found with the other was found among all
-    pub sought_other : (value : Bool) (found : Found) → NoneMeets game diagram aim (choices ++ choice f value ∷ []) → IsSought game diagram aim (choices ++ choice f (not value) ∷ []) found → IsSought game diagram aim choices found
-    sought_other value (founds.Product e) lost s = sought_with (not value) e s
-    sought_other true founds.Nothing lost s = lost_either_way game diagram aim choices f lost s
-    sought_other false founds.Nothing lost s = lost_either_way game diagram aim choices f s lost
-    sought_other value founds.Unsettled lost s = tt
-
     with_choice : (value : Bool) (set : List Bool) → IsRemaining diagram.lines choices set → IsTrueIn set (choice f value) → IsRemaining diagram.lines (choices ++ choice f value ∷ []) set
     with_choice value set remains e = record { product = remains.product; agrees = All-append (λ d. IsTrueIn set d) choices (choice f value ∷ []) remains.agrees (e, tt) }
 
@@ -51,10 +43,6 @@ module _ (game : NamedGame) (diagram : NamedDiagram) (aim : Aim) (choices : List
         of : IsTrueIn e.features.items (choice f value) ⊎ IsTrueIn e.features.items (choice f (not value)) → slice_index_or e.features.items f false ≡ not value
         of (inl h) = absurd (lost e.features.items (with_choice value e.features.items are.0.0 h) are.0.1)
         of (inr h) = h
-
-    -- a product with the choice shows that some do
-    pub sought_meets : (value : Bool) (example : Example) → IsSought game diagram aim (choices ++ choice f value ∷ []) (founds.Product example) → NoneMeets game diagram aim (choices ++ choice f value ∷ []) → ⊥
-    sought_meets value example (left, meets) lost = lost example.features.items left meets
 
   pub one_more : (found : List Example) (e : Example) → AllMeet game diagram aim choices found → IsSought game diagram aim choices (founds.Product e) → AllMeet game diagram aim choices (found ++ e ∷ [])
   one_more found e are sought = All-append (λ x. IsRemaining diagram.lines choices x.features.items × Meets game aim x.features.items) found (e ∷ []) are (sought, tt)

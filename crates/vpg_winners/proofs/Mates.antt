@@ -5,7 +5,7 @@ use Rattle.std.proofs.lemmas.Bool.{cases_eq}
 use Rattle.std.proofs.lemmas.List.{length-map, get_or-map, map-append, drop_more, drop_all}
 use Rattle.vpg_diagram.specs.declared.clause.Literal.{Literal}
 use Rattle.vpg_winners.specs.declared.parts.Part.{Part}
-use Rattle.vpg_winners.specs.Joined.{PartView, JoinsAt, CanJoin, HasNoMate, IsFirstMate, IsPut, alone, joined, ArePut, done, next, cut_by, without_literal}
+use Rattle.vpg_winners.specs.Joined.{PartView, CanJoin, HasNoMate, IsFirstMate, IsPut, alone, joined, ArePut, done, next, cut_by, without_literal}
 use Rattle.vpg_winners.specs.Winners.{view_of, views}
 use Rattle.vpg_winners.proofs.Differing.{place_within}
 
@@ -35,13 +35,6 @@ module _ (parts : List Part) (part : PartView) where
         of (inl e) can = not (subst (λ (v : PartView). CanJoin v part)
             (ap (λ j. get_or (views parts) j d) e ∙ view_at parts n x d inside is) can)
         of (inr e) can = none k d (omega (arith, less, e)) can
-
-    pub first_mate : (literal : ℕ) → JoinsAt (view_of x) part literal → IsFirstMate (views parts) part n literal
-    first_mate literal joins = record {
-      within = subst (λ m. n < m) (sym (length-map parts view_of)) inside;
-      joins = λ d. subst (λ (v : PartView). JoinsAt v part literal) (sym (view_at parts n x d inside is)) joins;
-      before = none;
-    }
 
   pub no_mate : (n : ℕ) → length parts ≤ n → HasNoneBefore n → HasNoMate (views parts) part
   no_mate n all none k d less = none k d (let e = length-map parts view_of in omega (arith, less, all, e))

@@ -17,7 +17,7 @@ use Rattle.vpg_why.specs.declared.question.Aim.{Aim}
 use Rattle.vpg_why.specs.declared.question.Aim.TheVariants as aims
 use Rattle.vpg_why.specs.declared.searching.Found.{Found}
 use Rattle.vpg_why.specs.declared.searching.Found.TheVariants as founds
-use Rattle.vpg_why.specs.Found.{IsFound, IsFoundExact}
+use Rattle.vpg_why.specs.Found.{IsFound}
 use Rattle.vpg_why.specs.Products.{Meets}
 use Rattle.vpg_winners.specs.declared.two_sets.TwoSets.{TwoSets}
 use Rattle.vpg_winners.specs.Cutting.{StandFor}
@@ -74,11 +74,6 @@ module _ (game : NamedGame) (diagram : NamedDiagram) (aim : Aim) (choices : List
       }
   first_is_found founds.Nothing none = λ p r m. both_ways (has arena set p) (none p) (met.all p r m)
   first_is_found founds.Unsettled none = absurd none
-
-pub first_is_exact : (arena : Arena) (set : Set) (found : Found) → IsFirstFound arena set found → IsFoundExact found
-first_is_exact arena set (founds.Product example) (first, told) = told
-first_is_exact arena set founds.Nothing none = tt
-first_is_exact arena set founds.Unsettled none = absurd none
 
 -- the winner by the first products of both sets
 module _ (game : NamedGame) (diagram : NamedDiagram) (vertex : ℕ) (choices : List Literal) (arena : Arena) (even odd : Set)

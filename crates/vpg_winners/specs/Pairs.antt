@@ -13,7 +13,7 @@ use Rattle.vpg_winners.specs.Winners.{view_of}
 unfoldable pub marked : ℕ → Literal → ℕ
 marked mark l = ((mark * 1000003) % 2 ^ 64 + (2 * l.feature + cond l.value 1 0)) % 2 ^ 64
 
--- a number that equal lists share, behind another number
+-- a number that equal lists share, after another number
 unfoldable pub mark_from : ℕ → List Literal → ℕ
 mark_from mark [] = mark
 mark_from mark (l ∷ ls) = mark_from (marked mark l) ls

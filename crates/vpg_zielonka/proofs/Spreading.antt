@@ -13,7 +13,7 @@ use Rattle.vpg_zielonka.specs.Drawing.{IsSettled, IsDrawnFrom}
 use Rattle.vpg_zielonka.specs.Parts.{game_in, part_in, AreSets}
 use Rattle.vpg_zielonka.specs.Rounds.{IsLiveOrSeed}
 use Rattle.vpg_zielonka.proofs.Drawing.{drawn_self, drawn_then, settled_later, settled_start, attractor_end}
-use Rattle.vpg_zielonka.proofs.Draws.{set_there, set_count}
+use Rattle.vpg_zielonka.proofs.Draws.{set_there}
 use Rattle.vpg_zielonka.proofs.Filling.{part_grown}
 
 module _ (old : Universe) (graph : GuardedGame Formula) (player : Player) (part seeds : List Subset) where
@@ -62,10 +62,6 @@ module _ (old : Universe) (graph : GuardedGame Formula) (player : Player) (part 
         of : (x : ℕ) → get_or waiting x false ≡ true → (x ≡ w) ⊎ (x ≡ w → ⊥) → (get_or left x false ≡ true) ⊎ (x ≡ w)
         of x h (inl s) = inr s
         of x h (inr n) = inl (ap (λ (l : List Bool). get_or l x false) e ∙ set_there waiting w x false false n ∙ h)
-
-    pub popped_count : (waiting left : List Bool) (w : ℕ) → length waiting ≡ length graph → left ≡ set waiting w false →
-        length left ≡ length graph
-    popped_count waiting left w count e = ap (λ (l : List Bool). length l) e ∙ set_count waiting w false ∙ count
 
     -- it was looked at
     pub spread_more : (a b : Universe) (drawn more : List Subset) (waiting later : List Bool) → IsSpread a drawn waiting →
