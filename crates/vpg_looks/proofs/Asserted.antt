@@ -17,7 +17,7 @@ use Rattle.vpg_winners.specs.declared.deciding.Decided.{Decided}
 use Rattle.vpg_winners.specs.declared.deciding.Decided.TheVariants as decides
 use Rattle.vpg_looks.specs.Answers.{HasDoubt}
 use Rattle.vpg_looks.specs.Asserted.{HasExact, TellsExact, answer_by, exact_answer, exact_word, failing}
-use Rattle.vpg_looks.specs.Room.{BothSearchesEnd, bare}
+use Rattle.vpg_looks.specs.Room.{BothSearchesEnd, unlabelled}
 use Rattle.vpg_looks.proofs.Facts.{no_even, no_odd, one_each, some_left}
 
 module _ (scene : Scene) (chosen : List Literal) (vertex : ℕ) where
@@ -49,10 +49,10 @@ module _ (labels : List (List ℕ)) (order : OrderView) (limits : Limits) (verte
   abbrev Tells : Answer → Type 0
   Tells = TellsExact page limits asserted vertex order.decisions
 
-  told : (found : ExactVerdict) → HasExact (bare page) (choices order.decisions) vertex found → Tells (exact_answer asserted found)
-  told found has = of (exact_answer asserted found) (compares (bare page) (choices order.decisions) vertex asserted found has)
+  told : (found : ExactVerdict) → HasExact (unlabelled page) (choices order.decisions) vertex found → Tells (exact_answer asserted found)
+  told found has = of (exact_answer asserted found) (compares (unlabelled page) (choices order.decisions) vertex asserted found has)
     where
-      of : (answer : Answer) → Compares (bare page) (choices order.decisions) vertex asserted answer → Tells answer
+      of : (answer : Answer) → Compares (unlabelled page) (choices order.decisions) vertex asserted answer → Tells answer
       of answer (inl a) = inl a
       of answer (inr b) = inr (inl b)
 
@@ -78,10 +78,10 @@ of_kinds : {A H R N Q S : Type 0} (held fails empty short one other : A) → (H 
 of_kinds held fails empty short one other has left sure also a b = grind arith
 
 module _ (scene : Scene) (limits others : Limits) (asserted : ExactVerdict) (vertex : ℕ) (decisions : List Decision) where
-  has_none : HasExact (bare scene) (choices decisions) vertex asserted → NoneRemains scene.lines (choices decisions) → ⊥
-  has_none has none = let some = has_some (bare scene) (choices decisions) vertex asserted has in none some.0 some.1
+  has_none : HasExact (unlabelled scene) (choices decisions) vertex asserted → NoneRemains scene.lines (choices decisions) → ⊥
+  has_none has none = let some = has_some (unlabelled scene) (choices decisions) vertex asserted has in none some.0 some.1
 
   pub exact_one : (one other : Answer) → TellsExact scene limits asserted vertex decisions one → TellsExact scene others asserted vertex decisions other → ¬ (HasDoubt one.text) → ¬ (HasDoubt other.text) → one ≡ other
   exact_one one other a b sure also =
       of_kinds holding (failing (exact_word asserted)) (failing (codes "empty")) (failing (codes "unsettled")) one other
-      has_none (some_left (bare scene) (choices decisions) vertex) (λ e. sure (unsettled_doubt one e)) (λ e. also (unsettled_doubt other e)) a b
+      has_none (some_left (unlabelled scene) (choices decisions) vertex) (λ e. sure (unsettled_doubt one e)) (λ e. also (unsettled_doubt other e)) a b

@@ -1,4 +1,4 @@
--- Both players don't win from a vertex in each product left, nor where none is left.
+-- No vertex is won by both players, in one product or in each product left; and none is won where no product is left.
 use Rattle.std.proofs.Common.{◌≡◌, ◌≢◌, ℕ, Bool, List, refl}
 use Rattle.vpg_sides.specs.declared.player.Player.{Player}
 use Rattle.vpg_sides.specs.declared.player.Player.TheVariants.{Even, Odd}

@@ -20,7 +20,7 @@ use Rattle.vpg_looks.specs.declared.offers.Offered.{Offered}
 use Rattle.vpg_looks.specs.declared.offers.Prospect.{Prospect}
 use Rattle.vpg_looks.specs.declared.offers.Prospect.TheVariants as prospects
 use Rattle.vpg_looks.specs.Offers.{IsVerdictShown, IsProspect, IsOffered, open_choices}
-use Rattle.vpg_looks.specs.Room.{bare}
+use Rattle.vpg_looks.specs.Room.{unlabelled}
 use Rattle.vpg_looks.specs.Texts.{fact_word, shown_word, offer_words, offer_line, offers_text}
 use Rattle.vpg_looks.specs.Answers.{TellsOffers, HasDoubt}
 use Rattle.vpg_looks.proofs.Facts.{fact_one}
@@ -130,6 +130,6 @@ offers_one scene limits others vertex decisions one other a b sure also =
     let known : a.0 ≡ b.0 = known_is_one scene.lines (choices decisions) a.0 b.0 a.2 b.2 in
     a.4
     ∙ ap (offers_text scene.names)
-    (listed_one (bare scene) limits others vertex decisions a.1 b.1 (a.3.each ∙ ap (λ (k : List Tri). open_choices k (length k)) known ∙ sym b.3.each) a.3.offered b.3.offered
+    (listed_one (unlabelled scene) limits others vertex decisions a.1 b.1 (a.3.each ∙ ap (λ (k : List Tri). open_choices k (length k)) known ∙ sym b.3.each) a.3.offered b.3.offered
     (without_doubt scene.names a.1 one a.4 sure) (without_doubt scene.names b.1 other b.4 also))
     ∙ sym b.4

@@ -43,7 +43,7 @@ module _ (scene : Scene) (limits others : Limits) (decisions : List Decision) (i
     abbrev line : List Decision → Bool → List ℕ
     line listed exact = verdict_line scene.names which (identifier_of scene vertex) (label_in scene vertex) listed exact
 
-    -- what is told without a doubt
+    -- the text is one without a doubt
     abbrev IsTold : List ℕ → Type 0
     IsTold text =
         (IsHigh × ((listed : List Decision) × IsReason scene (asks.Verdict which vertex) decisions listed true × (text ≡ line listed true)))

@@ -20,7 +20,7 @@ use Rattle.vpg_why.proofs.Monotone.{more_choices_suffice}
 use Rattle.vpg_why.proofs.OneRepair.{repairs_are_one}
 use Rattle.vpg_looks.specs.Answers.{HasDoubt, HasSingle, TellsForced, TellsRepair, TellsRetractions, TellsSeveral, all_shown, forced_word, identifier_of, label_in}
 use Rattle.vpg_looks.specs.Repairs.{AreTried, HasWinner, HaveEffects, IsEffect, IsHopelessBy, IsLostBy, is_listed, is_shown, is_winning, without}
-use Rattle.vpg_looks.specs.Room.{SearchEnds, bare}
+use Rattle.vpg_looks.specs.Room.{SearchEnds, unlabelled}
 use Rattle.vpg_looks.specs.Texts.{choice_line, forced_text, lines_at, marked_text, reason_text, several_text, singles_text, total_line, other_line, unsettled_line}
 use Rattle.vpg_looks.specs.declared.retracting.Effect.{Effect}
 use Rattle.vpg_looks.specs.declared.retracting.Effect.TheVariants as effects
@@ -115,7 +115,7 @@ module _ (scene : Scene) (vertex : ℕ) (was_hopeless : Bool) (decisions : List 
   all_lost : IsLostBy scene vertex [] → (cs : List Literal) → IsLostBy scene vertex cs
   all_lost h cs = more_choices_suffice scene.game scene.lines (asks.Lost (aims.Won Hopeful vertex)) [] cs is tt (λ c k. absurd (Contains-nil c k)) h
 
-  -- what is told of decisions that were tried
+  -- the text about decisions that were tried
   abbrev Says : Limits → List Tried → List ℕ → Type 0
   Says limits tried text =
       (HasSingle tried × (text ≡ singles_text scene.names tried (all_shown tried))) ⊎ (¬ (HasSingle tried) × TellsSeveral scene limits vertex decisions tried text)
@@ -140,17 +140,17 @@ module _ (scene : Scene) (vertex : ℕ) (was_hopeless : Bool) (decisions : List 
   several_one limits others tried one other (inr a) b clear also = absurd (false≢true (all_told scene.names [] 0 tried false one a.1 clear))
 
   -- where Even wins no product, nothing is told of those that were tried
-  not_lost : (limits : Limits) (tried : List Tried) (text : List ℕ) → AreTried (bare scene) limits vertex was_hopeless decisions (length decisions) tried → Says limits tried text → ¬ (HasDoubt text) →
+  not_lost : (limits : Limits) (tried : List Tried) (text : List ℕ) → AreTried (unlabelled scene) limits vertex was_hopeless decisions (length decisions) tried → Says limits tried text → ¬ (HasDoubt text) →
       IsLostBy scene vertex [] → ⊥
   not_lost limits tried text are (inl (some, text_is)) clear lost =
-      false≢true (sym (none_wins (bare scene) vertex was_hopeless decisions (all_lost lost) limits 0 tried are.effects) ∙ some)
+      false≢true (sym (none_wins (unlabelled scene) vertex was_hopeless decisions (all_lost lost) limits 0 tried are.effects) ∙ some)
   not_lost limits tried text are (inr (none, inl a)) clear lost = a.3.possible (all_lost lost (choices a.0))
   not_lost limits tried text are (inr (none, inr (short, text_is))) clear lost = false≢true (all_told scene.names [] 0 tried false text text_is clear)
 
   retractions_one : (limits others : Limits) (one other : List ℕ) → TellsRetractions scene limits vertex was_hopeless decisions one → TellsRetractions scene others vertex was_hopeless decisions other →
       ¬ (HasDoubt one) → ¬ (HasDoubt other) → one ≡ other
   retractions_one limits others one other (inl (tried, are, a)) (inl (same, also_are, b)) clear also =
-      let tried_is : same ≡ tried = tried_one (bare scene) vertex was_hopeless decisions others limits (length decisions) same tried also_are are
+      let tried_is : same ≡ tried = tried_one (unlabelled scene) vertex was_hopeless decisions others limits (length decisions) same tried also_are are
       (shown others same other b also) (shown limits tried one a clear) in
       either_one a (subst (λ (ts : List Tried). Says others ts other) tried_is b) (λ x y. x ∙ sym y) (λ x y. several_one limits others tried one other x y clear also)
   retractions_one limits others one other (inl (tried, are, a)) (inr b) clear also = absurd (not_lost limits tried one are a clear b.0)
@@ -158,7 +158,7 @@ module _ (scene : Scene) (vertex : ℕ) (was_hopeless : Bool) (decisions : List 
   retractions_one limits others one other (inr a) (inr b) clear also = a.1 ∙ sym b.1
 
 module _ (scene : Scene) (limits others : Limits) (vertex : ℕ) (decisions : List Decision) (is : IsDiagram scene.lines) (named : AreChoicesOf scene.lines (choices decisions)) where
-  -- what is told where the page has the vertex possible
+  -- the text where the page has the vertex possible
   abbrev Possible : Limits → List ℕ → Type 0
   Possible limits text =
       (IsLostBy scene vertex (choices decisions) × TellsRetractions scene limits vertex false decisions text)

@@ -27,19 +27,19 @@ use Rattle.vpg_looks.specs.declared.retracting.Effect.{Effect}
 use Rattle.vpg_looks.specs.declared.retracting.Effect.TheVariants as effects
 use Rattle.vpg_looks.specs.declared.retracting.Tried.{Tried}
 
--- what is given up is of the decisions
+-- what holds of all choices holds of those given up
 pub given_named : (Suffices : List Literal → Type 0) (P : Literal → Type 0) {exact : Bool} {before rest kept given : List Decision} → KeepsOldest Suffices exact before rest kept given →
     AllByRecursion P (choices rest) → AllByRecursion P (choices given)
 given_named Suffices P ends named = tt
 given_named Suffices P (keeps a) named = given_named Suffices P a named.1
 given_named Suffices P (gives_up so a) named = (named.0, given_named Suffices P a named.1)
 
--- so is what was tried
+-- each retraction that was tried is of one of so many features
 of_decisions : (n : ℕ) (tried : List Tried) → AllByRecursion (λ c. c.feature < n) (choices (map (λ t. t.decision) tried)) → AllByRecursion (λ t. t.decision.feature < n) tried
 of_decisions n [] named = tt
 of_decisions n (t ∷ tried) named = (named.0, of_decisions n tried named.1)
 
--- it names features that have names
+-- each retraction that was tried is of a feature with a name
 pub tried_below : (diagram : NamedDiagram) → IsNamedDiagram diagram → (decisions : List Decision) → AreChoicesOf diagram.lines (choices decisions) → (tried : List Tried) →
     map (λ t. t.decision) tried ≡ take (length decisions) decisions → All (λ t. t.decision.feature < length diagram.names) tried
 tried_below diagram is decisions named tried each =

@@ -35,7 +35,7 @@ use Rattle.vpg_looks.specs.Texts.{marked_text, verdict_line, other_line, lost_he
 use Rattle.vpg_looks.specs.Numbers.{AreAmounts, IsAmount, looks_each}
 use Rattle.vpg_looks.specs.Offers.{AreOffers}
 use Rattle.vpg_looks.specs.Repairs.{AreTried, HasWinner, IsLostBy, is_shown, is_winning}
-use Rattle.vpg_looks.specs.Room.{BothSearchesEnd, EachSearchEnds, RoundsSettleEach, SearchEnds, bare}
+use Rattle.vpg_looks.specs.Room.{BothSearchesEnd, EachSearchEnds, RoundsSettleEach, SearchEnds, unlabelled}
 use Rattle.vpg_looks.specs.Winners.{AreWinners, IsExample}
 
 -- these choices alone are the question's reason, in the scene's game and diagram
@@ -150,10 +150,10 @@ TellsLost scene limits aim decisions text =
 abbrev pub TellsOffers : Scene → Limits → (vertex : ℕ) → List Decision → (text : List ℕ) → Type 0
 TellsOffers scene limits vertex decisions text =
     (known : List Tri) × (listed : List Offered) × IsKnownTable scene.lines (choices decisions) known ×
-    AreOffers (bare scene) limits vertex decisions known (length known) listed
+    AreOffers (unlabelled scene) limits vertex decisions known (length known) listed
     × (text ≡ offers_text scene.names listed)
 
--- ---- what is forced, or needed
+-- ---- forced and needed features
 
 abbrev pub forced_word : Aim → List ℕ
 forced_word aims.Any = codes "forced"
@@ -170,7 +170,7 @@ TellsForced scene limits aim decisions text =
     ⊎ (NoneMeetsIn scene.game scene.lines aim (choices decisions) × (text ≡ none_line))
     ⊎ (¬ (SearchEnds scene limits aim (choices decisions)) × (text ≡ unsettled_line))
 
--- ---- what to retract
+-- ---- retractions
 
 -- some decision leaves a product that Even wins if it alone is retracted
 abbrev pub HasSingle : List Tried → Type 0
@@ -195,7 +195,7 @@ TellsSeveral scene limits vertex decisions tried text =
 abbrev pub TellsRetractions : Scene → Limits → (vertex : ℕ) → (was_hopeless : Bool) → List Decision →
     (text : List ℕ) → Type 0
 TellsRetractions scene limits vertex was_hopeless decisions text =
-    ((tried : List Tried) × AreTried (bare scene) limits vertex was_hopeless decisions (length decisions) tried ×
+    ((tried : List Tried) × AreTried (unlabelled scene) limits vertex was_hopeless decisions (length decisions) tried ×
     ((HasSingle tried × (text ≡ singles_text scene.names tried (all_shown tried)))
     ⊎ (¬ (HasSingle tried) × TellsSeveral scene limits vertex decisions tried text)))
     ⊎ (IsLostBy scene vertex [] × (text ≡ none_line))
@@ -300,7 +300,7 @@ TellsDecided scene limits vertex decisions text =
     ⊎ (NoneRemains scene.lines (choices decisions) × (text ≡ empty_line))
     ⊎ (¬ (BothSearchesEnd scene limits vertex (choices decisions)) × (text ≡ unsettled_line))
 
--- ---- how many
+-- ---- numbers
 
 -- the number of products left, or a lower bound if a limit was met
 abbrev pub TellsNumber : Scene → Limits → List Decision → (text : List ℕ) → Type 0
@@ -313,7 +313,7 @@ TellsNumber scene limits decisions text =
 abbrev pub Appends : (List ℕ → Type 0) → (before after : List ℕ) → Type 0
 Appends Holds before after = (text : List ℕ) × (Holds text × (after ≡ before ++ text))
 
--- some line ends in this mark, and perhaps in a name behind it
+-- some line ends in this mark, and perhaps in a name after it
 abbrev pub EndsIn : (mark text : List ℕ) → Type 0
 EndsIn mark text = (before : List ℕ) × (name : List ℕ) × (behind : List ℕ)
     × (text ≡ before ++ mark ++ beside name ++ codes "\n" ++ behind)

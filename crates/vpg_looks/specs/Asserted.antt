@@ -15,7 +15,7 @@ use Rattle.vpg_why.specs.declared.question.Limits.{Limits}
 use Rattle.vpg_winners.specs.Decided.{HasRemaining, NoneRemains, WinsEach, WinsProduct}
 use Rattle.vpg_winners.specs.declared.deciding.Decided.{Decided}
 use Rattle.vpg_winners.specs.declared.deciding.Decided.TheVariants as decides
-use Rattle.vpg_looks.specs.Room.{BothSearchesEnd, bare}
+use Rattle.vpg_looks.specs.Room.{BothSearchesEnd, unlabelled}
 
 -- the player wins from the vertex in some product that agrees with the choices
 abbrev pub WinsSome : Scene → List Literal → Player → (vertex : ℕ) → Type 0
@@ -50,7 +50,7 @@ is_same _ _ = false
 abbrev pub exact_answer : (asserted found : ExactVerdict) → Answer
 exact_answer asserted found = if is_same asserted found then holding else failing (exact_word asserted)
 
--- the answer, by who wins at the vertex
+-- the answer to an assertion, by who wins at the vertex
 abbrev pub answer_by : (asserted : ExactVerdict) → (found : Decided) → Answer
 answer_by asserted decides.Won = exact_answer asserted exacts.Won
 answer_by asserted decides.Lost = exact_answer asserted exacts.Lost
@@ -62,8 +62,8 @@ answer_by asserted decides.Unsettled = failing (codes "unsettled")
 -- the limits leave no room.
 abbrev pub TellsExact : Scene → Limits → ExactVerdict → (vertex : ℕ) → List Decision → Answer → Type 0
 TellsExact scene limits asserted vertex decisions answer =
-    (HasExact (bare scene) (choices decisions) vertex asserted × (answer ≡ holding))
-    ⊎ (HasRemaining scene.lines (choices decisions) × ¬ (HasExact (bare scene) (choices decisions) vertex asserted)
-    × (answer ≡ failing (exact_word asserted)))
+    (HasExact (unlabelled scene) (choices decisions) vertex asserted × (answer ≡ holding))
+    ⊎ (HasRemaining scene.lines (choices decisions)
+    × ¬ (HasExact (unlabelled scene) (choices decisions) vertex asserted) × (answer ≡ failing (exact_word asserted)))
     ⊎ (NoneRemains scene.lines (choices decisions) × (answer ≡ failing (codes "empty")))
     ⊎ (¬ (BothSearchesEnd scene limits vertex (choices decisions)) × (answer ≡ failing (codes "unsettled")))

@@ -15,7 +15,7 @@ use Rattle.vpg_winners.specs.Decided.{HasRemaining, NoneRemains}
 use Rattle.vpg_looks.specs.declared.left.Left.{Left}
 use Rattle.vpg_looks.specs.declared.left.Left.TheVariants as lefts
 use Rattle.vpg_looks.specs.Asserted.{failing}
-use Rattle.vpg_looks.specs.Room.{SearchEnds, bare}
+use Rattle.vpg_looks.specs.Room.{SearchEnds, unlabelled}
 
 -- some product agrees with the choices, or none does; or the limits leave no room to find out
 abbrev pub IsLeft : Scene → Limits → List Literal → Left → Type 0
@@ -34,16 +34,16 @@ TellsClaims scene limits vertex claims decisions hopeful dual answer =
 
 -- ---- count
 
--- the mark behind the last line of `count`
+-- the mark at the end of the last line of `count`
 abbrev pub left_mark : Left → List ℕ
 left_mark lefts.Product = []
 left_mark lefts.Nothing = codes " empty"
 left_mark lefts.Unsettled = codes " unsettled"
 
--- The counts of a page. The last line tells if no product is left, or if the limits leave no room to find one.
+-- The counts of a page. The last line says if no product is left, or if the limits leave no room to find one.
 abbrev pub IsCountAnswer : Scene → Limits → List Decision → (hopeful dual : List ℕ) → Answer → Type 0
 IsCountAnswer scene limits decisions hopeful dual answer =
-    (left : Left) × (IsLeft (bare scene) limits (choices decisions) left
+    (left : Left) × (IsLeft (unlabelled scene) limits (choices decisions) left
     × IsDone (IsCounted scene decisions hopeful dual (left_mark left)) answer)
 
 -- ---- limits

@@ -53,7 +53,7 @@ IsOne ordered Tells =
     Tells seen limits one → Tells seen others other →
     ¬ (IsDoubtfulIf ordered one) → ¬ (IsDoubtfulIf ordered other) → one ≡ other
 
--- A look's meaning: what its answer tells, and that there is one such answer.
+-- A look's meaning: what its answer says, and that there is one such answer.
 pub record Meaning (ordered : Bool) : Type 1 where
   pub tells : Seen → Limits → Answer → Type 0
   pub one : IsOne ordered tells

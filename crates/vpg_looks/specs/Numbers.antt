@@ -1,4 +1,4 @@
--- How many products there are, by answers. This project's own.
+-- Numbers of products, by answers. This project's own.
 use Rattle.std.specs.Prelude.{ℕ, ◌+◌, ◌/◌, ◌^◌, ◌≤◌, ⊤, List, [], ◌∷◌, ◌++◌}
 use Rattle.vpg_guards.specs.declared.tri.Tri.{Tri}
 use Rattle.vpg_diagram.specs.FeatureDiagram.{Line}

@@ -15,9 +15,9 @@ use Rattle.vpg_why.specs.declared.question.Aim.TheVariants as aims
 use Rattle.vpg_why.specs.declared.question.Limits.{Limits}
 use Rattle.vpg_winners.specs.Winners.{most_looks}
 
--- the scene without names of vertices beside lines: searches, and their limits, are the same with them
-abbrev pub bare : Scene → Scene
-bare scene = record scene { labels = [] }
+-- the scene without names of vertices, which no search reads
+abbrev pub unlabelled : Scene → Scene
+unlabelled scene = record scene { labels = [] }
 
 -- under what these choices make known, this many rounds of lifts from zeros leave a progress table
 abbrev pub RoundsSettle : Scene → (rounds : ℕ) → Which → List Literal → Type 0

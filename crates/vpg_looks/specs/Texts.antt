@@ -109,13 +109,13 @@ none_line = codes "none\n"
 abbrev pub unsettled_line : List ℕ
 unsettled_line = codes "unsettled\n"
 
--- a product that was found, or that there is none
+-- a product that was found, or that there is none, or that a limit was met
 abbrev pub found_text : List (List ℕ) → Found → List ℕ
 found_text names (founds.Product found) = product_line names found.features.items found.first
 found_text names founds.Nothing = none_line
 found_text names founds.Unsettled = unsettled_line
 
--- why no product was found, or one that was, with the fact before the reason
+-- the decisions that leave no product, after this head; or a product that was found; or that a limit was met
 abbrev pub why_text : (head label : List ℕ) → List (List ℕ) → WhyLost → List ℕ
 why_text head label names (whys.Because found) = lost_line head label names found.decisions.items found.exact
 why_text head label names (whys.Unless example) = product_line names example.features.items example.first
@@ -176,7 +176,7 @@ abbrev pub forced_text : (word : List ℕ) → List (List ℕ) → List Literal 
 forced_text word names listed exact =
     flat_map (choice_line word names) listed ++ total_line word (length listed) exact
 
--- what is needed, after a word, or that no product needs it
+-- the choices that are needed, each after this word; or that no product meets the aim; or that a limit was met
 abbrev pub demand_text : (word : List ℕ) → List (List ℕ) → Demand → List ℕ
 demand_text word names (demands.These found) = forced_text word names found.literals.items found.exact
 demand_text word names demands.Nothing = none_line
@@ -242,7 +242,7 @@ moves_text word identifiers labels moves =
     move_lines word identifiers labels moves (length moves)
     ++ word ++ codes "s" ++ blank_number (count_by is_some moves) ++ 10 ∷ []
 
--- ---- how many
+-- ---- numbers
 
 -- a number of products; ` or more` if a limit was met
 abbrev pub amount_text : Count → List ℕ
@@ -323,7 +323,7 @@ abbrev pub mixed_text : List (List ℕ) → (identifier : ℕ) → (label : List
 mixed_text names identifier label won first lost second =
     mixed_head identifier label ++ product_line names won first ++ product_line names lost second
 
--- who wins at a vertex, as it was found
+-- who wins at a vertex, or that no product is left, or that a limit was met
 abbrev pub decided_text : List (List ℕ) → (identifier : ℕ) → (label : List ℕ) → Decided → List ℕ
 decided_text names identifier label decides.Won = fact_line Dual identifier label
 decided_text names identifier label decides.Lost = fact_line Hopeful identifier label

@@ -65,7 +65,7 @@ fn compared(
     }
 }
 
-/// Appends whether an assertion holds, by who wins at the vertex.
+/// Appends whether an assertion holds, by who wins at the vertex, and returns the answer's tone.
 fn answered(asserted: ExactVerdict, found: &Decided, out: &mut Vec<u8>) -> Result<Tone, AllocError>
     ensures { IfOk result (λ tone. IsGiven (answer_by asserted found.now) tone out.old.items out.new.items) }
 {

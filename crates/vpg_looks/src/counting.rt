@@ -23,7 +23,7 @@ use vpg_texts::count;
 use vpg_trail::Page;
 use vpg_why::Limits;
 
-/// Returns the mark behind the last line of `count`.
+/// Returns the mark at the end of the last line of `count`.
 fn mark_of(left: Left) -> &'static [u8]
     ensures { result.now ≡ left_mark left }
 {

@@ -51,7 +51,7 @@ fn mixed(
     lines::product(names, &lost.features, lost.first, out)
 }
 
-/// Appends who wins at the vertex, as it was found.
+/// Appends who wins at the vertex, or that no product is left, or that a limit was met.
 fn tell(
     names: &Names,
     identifier: u32,

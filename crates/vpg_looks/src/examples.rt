@@ -15,7 +15,7 @@ use vpg_script::{Tone, done};
 use vpg_why::{Aim, Found, Limits};
 use vpg_winners::find;
 
-/// Appends a product that was found, or that there is none.
+/// Appends a product that was found, or that there is none, or that a limit was met.
 fn tell(names: &Names, found: &Found, out: &mut Vec<u8>) -> Result<(), AllocError>
     ensures { OnOk result (out.new.items ≡ out.old.items ++ found_text names.now found.now) }
 {

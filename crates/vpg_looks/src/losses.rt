@@ -45,7 +45,7 @@ fn tell(
     }
 }
 
-/// Appends the decisions that leave no product that meets the aim, or a product that does, as it was found.
+/// Appends the decisions that leave no product that meets the aim, or a product that does, or that a limit was met.
 fn tell_why(
     order: &Order,
     labels: &VertexNames,

@@ -53,7 +53,7 @@ fn tell(
     lines::total(word, listed.len(), exact, out)
 }
 
-/// Appends what is needed, as it was found.
+/// Appends the choices that are needed, or that no product meets the aim, or that a limit was met.
 fn tell_demand(order: &Order, aim: Aim, found: &Demand, out: &mut Vec<u8>) -> Result<(), AllocError>
     requires { AreFoundNeeds order.now.game order.now.diagram aim (choices order.now.decisions) found.now }
     ensures { OnOk result (out.new.items ≡
