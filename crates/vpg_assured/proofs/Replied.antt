@@ -20,7 +20,7 @@ use Rattle.vpg_engine.specs.Requests.{Continues, Serves, call_or_missing}
 use Rattle.vpg_engine.specs.Line.{Between}
 use Rattle.vpg_report.specs.Run.{answering}
 use Rattle.vpg_report.specs.Winners.{IsRefusal}
-use Rattle.vpg_report.proofs.Histories.{Goes, asked, family_in, ordered_is}
+use Rattle.vpg_report.proofs.Histories.{Goes, asked, family_at, ordered_is}
 
 module _ (behaviour : Option Behaviour) (labels : List (List ℕ)) (game : NamedGame) (diagram : NamedDiagram) (look : VertexLook) (book : Book)
     (named : script.Vertex) (answer : Answer) where
@@ -66,13 +66,13 @@ module _ (behaviour : Option Behaviour) (labels : List (List ℕ)) (game : Named
     replied : IsRefusal answer ⊎ Goes scene held book label Order Rests answer new → IsReplied
     replied (inl refusal) = inl refusal
     replied (inr (Ordered decisions hopeful dual, rest, told, more, so)) =
-        answered decisions hopeful dual (ordered_is (family_in scene) book decisions hopeful dual told).0 so.0.0 so.0.1.0 so.0.1.1
+        answered decisions hopeful dual (ordered_is (family_at scene) book decisions hopeful dual told).0 so.0.0 so.0.1.0 so.0.1.1
     replied (inr (PageIs page, rest, (None, (refuses, told)), more, so)) = absurd (cc told)
     replied (inr (PageIs page, rest, (Some r, (refuses, told)), more, so)) = absurd (cc told)
     replied (inr (reply, rest, told, more, so)) = absurd so
 
     -- a look at a vertex takes an order
-    begins : (answerable : Bool) (found : Option ℕ) (before : ℕ) (calls : List Event) → IsLegalFrom (family_in scene) book calls →
+    begins : (answerable : Bool) (found : Option ℕ) (before : ℕ) (calls : List Event) → IsLegalFrom (family_at scene) book calls →
         Begins scene held before label Rests (call_or_missing (topic_if answerable look found)) calls answer new → IsReplied
     begins false found before calls legal so = inl (own_text NoSystem, so.1)
     begins true None before calls legal so = inl (own_text NoVertex, so.1)

@@ -9,6 +9,7 @@ use Rattle.vpg_faults.specs.Refusals.{never_refused}
 use Rattle.vpg_faults.specs.declared.refusal.Refusal.{Refusal}
 use Rattle.vpg_desk.specs.Desk.{family_of}
 use Rattle.vpg_desk.specs.History.{Event, IsLegalFrom, book_after}
+use Rattle.vpg_office.specs.Fronts.{event}
 use Rattle.vpg_desk.specs.Setting.{Setting}
 use Rattle.vpg_desk.specs.State.{setting_between, setting_of}
 use Rattle.vpg_script.specs.Answer.{Answer, IsGiven, done, refused as refusal_of}
@@ -44,9 +45,6 @@ on_view_by (Ok tone) P seen old new lifters request before after same f p = subs
 on_view_by (Err e) P seen old new lifters request before after same f p = tt
 
 -- ---- calls of a client
-
-abbrev event : ℕ → Call → Reply → Event
-event label call reply = record { session = label; call = call; reply = reply }
 
 -- the desk replies so to these calls, and is left so
 pub record Calls (old : ClientState) (calls : List Event) (new : ClientState) : Type 0 where

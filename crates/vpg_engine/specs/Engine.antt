@@ -113,7 +113,7 @@ IsNamedWithin count (Conflicts f) = f < count
 IsNamedWithin count (Outdated f) = f < count
 IsNamedWithin count _ = ⊤
 
--- so is the one that a fault's refusal names
+-- the feature that a fault's refusal names, if it names one, is one of so many
 abbrev pub IsFaultWithin : {F : Type 0} → ℕ → (F → Option Refusal) → ClientFault F → Type 0
 IsFaultWithin count refusal (Refused fault) = IfSome (refusal fault) (IsNamedWithin count)
 IsFaultWithin count refusal _ = ⊤

@@ -28,7 +28,8 @@ engine_in client undos redos harvests seen =
       held = record { undos = serials undos; redos = serials redos; harvests = harvests_of harvests; seen = seen };
     }
 
--- a kept harvest: its order has this game and this diagram, and decides features of the diagram
+-- a harvest of this game and this diagram: its order has both, and decides features of the diagram, each of which has
+-- a name
 pub record IsOwnHarvest (of_game : NamedGame) (of_diagram : NamedDiagram) (harvest : HarvestView) : Type 0 where
   pub game : harvest.order.game ≡ of_game
   pub diagram : harvest.order.diagram ≡ of_diagram

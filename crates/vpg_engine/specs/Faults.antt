@@ -14,8 +14,8 @@ use Rattle.vpg_engine.specs.declared.fault.ClientFault.TheVariants.{LogFull, Ref
 abbrev pub HasStrayed : ClientState → ℕ → ClientState → Type 0
 HasStrayed old label new = HasForeignCall old new ⊎ IsUnseated old label new
 
--- A line strayed over its calls: the log grew by a call that no session of the client made; or the session of the
--- label, or of one before it, has another number.
+-- A call strayed: the log grew by a call that no session of the client made; or the session of the label, or of one
+-- before it, has another number.
 abbrev pub IsAstray : ClientState → ℕ → ClientState → Type 0
 IsAstray old label new = HasForeignCall old new ⊎ IsBeyond label new.unseated
 
@@ -49,7 +49,7 @@ UnlessStray fault P = P
 
 -- ---- how the office's faults are sorted
 
--- There is no session for the label. The first label whose session has another number isn't behind it; or the client
+-- There is no session for the label. The first label whose session has another number isn't after it; or the client
 -- is out of memory, and that first label stays the same.
 abbrev pub IsAbsent : {F : Type 0} → ℕ → (old new : Option ℕ) → ClientFault F → Type 0
 IsAbsent label old new Stray = IsBeyond label new

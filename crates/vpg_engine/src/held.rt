@@ -48,7 +48,7 @@ pub(crate) fn redo_place<L: Terms>(redos: &[Redo<L>], serial: Option<u64>) -> Op
     }
 }
 
-/// Takes out the token at the place that a command means.
+/// Takes out the token at the place that a command means, and returns it.
 pub(crate) fn take<L: Terms, T: Kind>(tokens: &mut Vec<Token<L, T>>, place: usize) -> Token<L, T>
     requires { (meant : Option ℕ) × IsPlaceOf meant (serials tokens.old.items) (Some place) }
     ensures taken { (meant : Option ℕ) → IsPlaceOf meant (serials tokens.old.items) (Some place) →

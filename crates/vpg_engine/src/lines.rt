@@ -120,7 +120,8 @@ fn full(out: &mut Vec<u8>) -> Result<Tone, ServeFault>
     refused(b"LogFull", out)
 }
 
-/// Writes the answer to a line with a call that is not made: the desk's refusal, or that the log is full.
+/// Writes the answer to a line with a call that is not made: the desk's refusal, or that the log is full. Other faults,
+/// `Memory` and `Stray`, are returned.
 pub(crate) fn put_fault<F: Refuses>(
     names: &Names,
     fault: ClientFault<F>,

@@ -7,6 +7,7 @@ use Rattle.vpg_features.specs.Names.{index_of}
 use Rattle.vpg_trail.specs.Page.{Decision, Hopeful, Dual, decisions_of, table_of}
 use Rattle.vpg_desk.specs.Book.{Family, Book, Harvest, next, opened, Call, Decide, Retract, Undo, Redo, Keep, Forget, Order, Commit, Settled, Page, Reply, Changed, Undone, Redone, Spent, Ordered, Added, IsSettled, PageIs, Refused, IsReply}
 use Rattle.vpg_desk.specs.History.{Event, IsLegal, IsLegalFrom, book_after}
+use Rattle.vpg_office.specs.Fronts.{event}
 use Rattle.vpg_desk.specs.Desk.{family_of}
 use Rattle.vpg_desk.specs.Lawful.{IsLawful, HandsIn, AllHandIn}
 use Rattle.vpg_desk.proofs.UndoRedo.{book_after-append}
@@ -27,8 +28,8 @@ use Rattle.vpg_report.specs.Run.{answering, as_meant, Asked, asking, AnswersAreH
 use Rattle.vpg_report.specs.Winners.{IsRefusal}
 use Rattle.vpg_engine.specs.Setting.{setting_in}
 
-abbrev pub family_in : Scene → Family
-family_in scene = family_of (setting_in scene)
+abbrev pub family_at : Scene → Family
+family_at scene = family_of (setting_in scene)
 
 legal_more : (family : Family) (book : Book) (events more : List Event) → IsLegalFrom family book events → IsLegalFrom family (book_after family book events) more → IsLegalFrom family book (events ++ more)
 legal_more family book [] more first rest = rest
@@ -54,9 +55,6 @@ module _ (L : Harvest → Type 0) where
 
 -- ---- a call
 
-abbrev pub event : ℕ → Call → Reply → Event
-event label call reply = record { session = label; call = call; reply = reply }
-
 -- an order's reply tells of the present page
 pub ordered_is : (family : Family) (book : Book) (decisions : List Decision) (hopeful dual : List ℕ) → IsReply family book Order (Ordered decisions hopeful dual) →
     (decisions ≡ decisions_of book.present) × (hopeful ≡ table_of Hopeful book.present family.vertices) × (dual ≡ table_of Dual book.present family.vertices)
@@ -69,11 +67,11 @@ module _ (scene : Scene) (held : Held) where
     pub reply : Reply
     pub rest : List Event
     pub is : calls ≡ event label call reply ∷ rest
-    pub told : IsReply (family_in scene) book call reply
-    pub legal : IsLegalFrom (family_in scene) (next (family_in scene) book label call reply) rest
+    pub told : IsReply (family_at scene) book call reply
+    pub legal : IsLegalFrom (family_at scene) (next (family_at scene) book label call reply) rest
     pub goes : Follows scene held P reply rest answer new
 
-  pub first : (book : Book) (label : ℕ) (call : Call) (P : Reply → Rest) (calls : List Event) (answer : Answer) (new : Held) → IsLegalFrom (family_in scene) book calls →
+  pub first : (book : Book) (label : ℕ) (call : Call) (P : Reply → Rest) (calls : List Event) (answer : Answer) (new : Held) → IsLegalFrom (family_at scene) book calls →
       Makes scene held label call P calls answer new → First book label call P calls answer new
   first book label call P [] answer new legal so = absurd so
   first book label call P (e ∷ calls) answer new legal so =
@@ -82,17 +80,17 @@ module _ (scene : Scene) (held : Held) where
         reply = e.reply;
         rest = calls;
         is = ap (λ (x : Event). x ∷ calls) same;
-        told = subst (λ (c : Call). IsReply (family_in scene) book c e.reply) so.1 legal.0;
-        legal = subst (λ (x : Event). IsLegalFrom (family_in scene) (next (family_in scene) book x.session x.call x.reply) calls) same legal.1;
+        told = subst (λ (c : Call). IsReply (family_at scene) book c e.reply) so.1 legal.0;
+        legal = subst (λ (x : Event). IsLegalFrom (family_at scene) (next (family_at scene) book x.session x.call x.reply) calls) same legal.1;
         goes = so.2;
       }
 
   -- what comes after its reply answers the line
   abbrev pub Goes : (book : Book) (label : ℕ) (call : Call) (P : Reply → Rest) (answer : Answer) (new : Held) → Type 0
-  Goes book label call P answer new = (reply : Reply) × (rest : List Event) × IsReply (family_in scene) book call reply
-      × IsLegalFrom (family_in scene) (next (family_in scene) book label call reply) rest × P reply rest answer new
+  Goes book label call P answer new = (reply : Reply) × (rest : List Event) × IsReply (family_at scene) book call reply
+      × IsLegalFrom (family_at scene) (next (family_at scene) book label call reply) rest × P reply rest answer new
 
-  pub asked : (book : Book) (before label : ℕ) (call : Call) (P : Reply → Rest) (calls : List Event) (answer : Answer) (new : Held) → IsLegalFrom (family_in scene) book calls →
+  pub asked : (book : Book) (before label : ℕ) (call : Call) (P : Reply → Rest) (calls : List Event) (answer : Answer) (new : Held) → IsLegalFrom (family_at scene) book calls →
       Asks scene held before label call P calls answer new → IsRefusal answer ⊎ Goes book label call P answer new
   asked book before label call P calls answer new legal (inr (full, so)) = inl (codes "LogFull", so.1)
   asked book before label call P calls answer new legal (inl (less, so)) = go f.reply f.told f.legal f.goes
@@ -100,7 +98,7 @@ module _ (scene : Scene) (held : Held) where
       f : First book label call P calls answer new
       f = first book label call P calls answer new legal so
 
-      go : (reply : Reply) → IsReply (family_in scene) book call reply → IsLegalFrom (family_in scene) (next (family_in scene) book label call reply) f.rest → Follows scene held P reply f.rest answer new →
+      go : (reply : Reply) → IsReply (family_at scene) book call reply → IsLegalFrom (family_at scene) (next (family_at scene) book label call reply) f.rest → Follows scene held P reply f.rest answer new →
           IsRefusal answer ⊎ Goes book label call P answer new
       go (Refused r) told rest goes = inl (refusal_text scene.names r, goes.1)
       go reply told rest goes = inr (reply, f.rest, told, rest, goes)
@@ -111,7 +109,7 @@ module _ (scene : Scene) (held : Held) where
 module _ (behaviour : Option Behaviour) (scene : Scene) (held : Held) (L : Harvest → Type 0) (Q : Book → Rest → Type 0) (book : Book) (made label : ℕ) where
   -- if it holds of a commit that this comes after, it holds of a rest after the order
   abbrev OfOrder : (Reply → Rest) → (Reply → Rest) → Type 0
-  OfOrder P R = (decisions : List Decision) (hopeful dual : List ℕ) → IsReply (family_in scene) book Order (Ordered decisions hopeful dual) →
+  OfOrder P R = (decisions : List Decision) (hopeful dual : List ℕ) → IsReply (family_at scene) book Order (Ordered decisions hopeful dual) →
       ((harvest : Harvest) → HandsIn L (Commit harvest) → Q book (Asks scene held (made + 1) label (Commit harvest) P)) → Q book (R (Ordered decisions hopeful dual))
 
   abbrev pub Shows : script.Command → Type 0
@@ -127,13 +125,13 @@ module _ (behaviour : Option Behaviour) (scene : Scene) (held : Held) (L : Harve
     (none : (book : Book) (P : Rest) → ((calls : List Event) (answer : Answer) (new : Held) → P calls answer new → ⊥) → Q book P)
     (ends : (book : Book) (given : Answer) (after : Held) → AreLawful L after.harvests → Q book (Ends given after))
     (makes : (book : Book) (made label : ℕ) (call : Call) (P : Reply → Rest) → HandsIn L call →
-    ((reply : Reply) → IsReply (family_in scene) book call reply → Q (next (family_in scene) book label call reply) (Follows scene held P reply)) → Q book (Asks scene held made label call P)) where
+    ((reply : Reply) → IsReply (family_at scene) book call reply → Q (next (family_at scene) book label call reply) (Follows scene held P reply)) → Q book (Asks scene held made label call P)) where
   follows : (book : Book) (P : Reply → Rest) (reply : Reply) → Q book (P reply) → Q book (Follows scene held P reply)
   follows book P (Refused r) so = ends book _ held all
   follows book P reply so = so
 
   asks : (book : Book) (made label : ℕ) (call : Call) (P : Reply → Rest) → HandsIn L call →
-      ((reply : Reply) → IsReply (family_in scene) book call reply → Q (next (family_in scene) book label call reply) (P reply)) → Q book (Asks scene held made label call P)
+      ((reply : Reply) → IsReply (family_at scene) book call reply → Q (next (family_at scene) book label call reply) (P reply)) → Q book (Asks scene held made label call P)
   asks book made label call P hands so = makes book made label call P hands (λ reply told. follows _ P reply (so reply told))
 
   tells_settled : (book : Book) (n : ℕ) (reply : Reply) → Q book (TellsSettled held n reply)
@@ -180,15 +178,15 @@ module _ (behaviour : Option Behaviour) (scene : Scene) (held : Held) (L : Harve
 
   module _ (book : Book) (made label : ℕ) where
     -- only an order is answered by an order, and leaves the book
-    at_order : (R : Book → Type 0) (call : Call) (decisions : List Decision) (hopeful dual : List ℕ) → IsReply (family_in scene) book call (Ordered decisions hopeful dual) →
-        (IsReply (family_in scene) book Order (Ordered decisions hopeful dual) → R book) → R (next (family_in scene) book label call (Ordered decisions hopeful dual))
+    at_order : (R : Book → Type 0) (call : Call) (decisions : List Decision) (hopeful dual : List ℕ) → IsReply (family_at scene) book call (Ordered decisions hopeful dual) →
+        (IsReply (family_at scene) book Order (Ordered decisions hopeful dual) → R book) → R (next (family_at scene) book label call (Ordered decisions hopeful dual))
     at_order R Order decisions hopeful dual told so = so told
     at_order R Settled decisions hopeful dual (None, (refuses, told)) so = absurd (cc told.1.1)
     at_order R call decisions hopeful dual (None, (refuses, told)) so = absurd (cc told)
     at_order R call decisions hopeful dual (Some r, (refuses, told)) so = absurd (cc told)
 
-    continues : (command : script.Command) → Shows behaviour scene held L Q book made label command → (call : Call) (reply : Reply) → IsReply (family_in scene) book call reply →
-        Q (next (family_in scene) book label call reply) (Continues behaviour scene held (made + 1) label command reply)
+    continues : (command : script.Command) → Shows behaviour scene held L Q book made label command → (call : Call) (reply : Reply) → IsReply (family_at scene) book call reply →
+        Q (next (family_at scene) book label call reply) (Continues behaviour scene held (made + 1) label command reply)
     continues (script.Select name) shows call (Changed s) told = ends _ _ (after_change held s) all
     continues (script.Exclude name) shows call (Changed s) told = ends _ _ (after_change held s) all
     continues (script.Retract name) shows call (Changed s) told = ends _ _ (after_change held s) all
@@ -223,11 +221,11 @@ module _ (behaviour : Option Behaviour) (scene : Scene) (held : Held) (L : Harve
 
 module _ (behaviour : Option Behaviour) (scene : Scene) (held : Held) where
   abbrev L : Harvest → Type 0
-  L = IsLawful (family_in scene)
+  L = IsLawful (family_at scene)
 
   -- what the calls hand in is lawful, and so is what is kept then
   abbrev IsFine : Book → Rest → Type 0
-  IsFine book R = (calls : List Event) (answer : Answer) (new : Held) → IsLegalFrom (family_in scene) book calls → R calls answer new → AllHandIn L calls × AreLawful L new.harvests
+  IsFine book R = (calls : List Event) (answer : Answer) (new : Held) → IsLegalFrom (family_at scene) book calls → R calls answer new → AllHandIn L calls × AreLawful L new.harvests
 
   ends_fine : (book : Book) (given : Answer) (after : Held) → AreLawful L after.harvests → IsFine book (Ends given after)
   ends_fine book given after all calls answer new legal so =
@@ -235,7 +233,7 @@ module _ (behaviour : Option Behaviour) (scene : Scene) (held : Held) where
 
   module _ (all : AreLawful L held.harvests) where
     makes_fine : (book : Book) (made label : ℕ) (call : Call) (P : Reply → Rest) → HandsIn L call →
-        ((reply : Reply) → IsReply (family_in scene) book call reply → IsFine (next (family_in scene) book label call reply) (Follows scene held P reply)) → IsFine book (Asks scene held made label call P)
+        ((reply : Reply) → IsReply (family_at scene) book call reply → IsFine (next (family_at scene) book label call reply) (Follows scene held P reply)) → IsFine book (Asks scene held made label call P)
     makes_fine book made label call P hands fine calls answer new legal (inl (less, so)) =
         let f = first scene held book label call P calls answer new legal so in
         let rest = fine f.reply f.told f.rest answer new f.legal f.goes in
@@ -272,11 +270,11 @@ module _ {S : Type 0} (one other : Machine S) (I : S → Type 0)
 
 -- the calls so far are a history
 pub record IsSoFar (scene : Scene) (old : Between) (before : List Event) : Type 0 where
-  pub leaves : old.book ≡ book_after (family_in scene) opened before
-  pub legal : IsLegal (family_in scene) before
-  pub lawful : AllHandIn (IsLawful (family_in scene)) before
+  pub leaves : old.book ≡ book_after (family_at scene) opened before
+  pub legal : IsLegal (family_at scene) before
+  pub lawful : AllHandIn (IsLawful (family_at scene)) before
   pub counted : old.calls ≡ length before
-  pub kept : AreLawful (IsLawful (family_in scene)) old.held.harvests
+  pub kept : AreLawful (IsLawful (family_at scene)) old.held.harvests
 
 module _ (behaviour : Option Behaviour) (scene : Scene) (lifters : ℕ) where
   abbrev so_far : List Event → Between → Asked
@@ -289,8 +287,8 @@ module _ (behaviour : Option Behaviour) (scene : Scene) (lifters : ℕ) where
       let fine = serves_fine behaviour scene old.held here.kept old.book old.calls request.label request.command calls answer new.held so.1 so.0 in (
         before ++ calls,
         record {
-          leaves = so.2 ∙ ap (λ (b : Book). book_after (family_in scene) b calls) here.leaves ∙ sym (book_after-append (family_in scene) opened before calls);
-          legal = legal_more (family_in scene) opened before calls here.legal (subst (λ (b : Book). IsLegalFrom (family_in scene) b calls) here.leaves so.1);
+          leaves = so.2 ∙ ap (λ (b : Book). book_after (family_at scene) b calls) here.leaves ∙ sym (book_after-append (family_at scene) opened before calls);
+          legal = legal_more (family_at scene) opened before calls here.legal (subst (λ (b : Book). IsLegalFrom (family_at scene) b calls) here.leaves so.1);
           lawful = All-append _ before calls here.lawful fine.0;
           counted = omega (arith, so.3, here.counted, length-append before calls);
           kept = fine.1;

@@ -32,7 +32,8 @@ use Rattle.vpg_report.specs.Run.{as_meant}
 use Rattle.vpg_report.specs.Settling.{settling, TellsSettle, AreChecked, SettledAnswersAreOne}
 use Rattle.vpg_texts.proofs.Planned.{known_is_one}
 use Rattle.vpg_report.specs.Winners.{IsRefusal}
-use Rattle.vpg_report.proofs.Histories.{AreLawful, Goes, Shows, asked, event, family_in, first, ordered_is, serves}
+use Rattle.vpg_office.specs.Fronts.{event}
+use Rattle.vpg_report.proofs.Histories.{AreLawful, Goes, Shows, asked, family_at, first, ordered_is, serves}
 use Rattle.vpg_report.proofs.LeastHarvests.{same_harvests, checked_are_one, settling_are_one}
 use Rattle.vpg_engine.specs.Setting.{setting_in}
 
@@ -69,11 +70,11 @@ not_unsettled : (m n : ℕ) → settled_text false m ≡ settled_text true n →
 not_unsettled m n e = let same : 117 ≡ 115 = ap first_byte e in absurd (omega (arith, same))
 
 module _ (scene : Scene) (held : Held) (answer : Answer) (new : Held) (m : ℕ) (is : answer.text ≡ settled_text true m) where
-  told_settled : (book : Book) (made label n : ℕ) (calls : List Event) → IsLegalFrom (family_in scene) book calls → Asks scene held made label Settled (TellsSettled held n) calls answer new →
-      IsSettledPage (family_in scene) book.present
+  told_settled : (book : Book) (made label n : ℕ) (calls : List Event) → IsLegalFrom (family_at scene) book calls → Asks scene held made label Settled (TellsSettled held n) calls answer new →
+      IsSettledPage (family_at scene) book.present
   told_settled book made label n calls legal a = go (asked scene held book made label Settled (TellsSettled held n) calls answer new legal a)
     where
-      go : IsRefusal answer ⊎ Goes scene held book label Settled (TellsSettled held n) answer new → IsSettledPage (family_in scene) book.present
+      go : IsRefusal answer ⊎ Goes scene held book label Settled (TellsSettled held n) answer new → IsSettledPage (family_at scene) book.present
       go (inl refusal) = absurd (not_refusal answer m refusal is)
       go (inr (IsSettled true, rest, (None, (refuses, told)), more, goes)) = told.1.0.0 (cc told.1.1)
       go (inr (IsSettled true, rest, (Some r, (refuses, told)), more, goes)) = absurd (cc told)
@@ -81,14 +82,14 @@ module _ (scene : Scene) (held : Held) (answer : Answer) (new : Held) (m : ℕ) 
       go (inr (reply, rest, told, more, goes)) = absurd goes
 
   -- where the commit of a harvest is followed by `settled`, it settles the page
-  settles : (book : Book) (harvest : Harvest) (made label : ℕ) (calls : List Event) → IsLegalFrom (family_in scene) book calls →
-      Asks scene held made label (Commit harvest) (AsksSettled scene held (made + 1) label) calls answer new → IsSettledPage (family_in scene) (book.present ++ raises_of (family_in scene) harvest book.present)
+  settles : (book : Book) (harvest : Harvest) (made label : ℕ) (calls : List Event) → IsLegalFrom (family_at scene) book calls →
+      Asks scene held made label (Commit harvest) (AsksSettled scene held (made + 1) label) calls answer new → IsSettledPage (family_at scene) (book.present ++ raises_of (family_at scene) harvest book.present)
   settles book harvest made label calls legal a = go (asked scene held book made label (Commit harvest) (AsksSettled scene held (made + 1) label) calls answer new legal a)
     where
       go : IsRefusal answer ⊎ Goes scene held book label (Commit harvest) (AsksSettled scene held (made + 1) label) answer new →
-          IsSettledPage (family_in scene) (book.present ++ raises_of (family_in scene) harvest book.present)
+          IsSettledPage (family_at scene) (book.present ++ raises_of (family_at scene) harvest book.present)
       go (inl refusal) = absurd (not_refusal answer m refusal is)
-      go (inr (Added n, rest, told, more, goes)) = told_settled (next (family_in scene) book label (Commit harvest) (Added n)) (made + 1) label n rest more goes
+      go (inr (Added n, rest, told, more, goes)) = told_settled (next (family_at scene) book label (Commit harvest) (Added n)) (made + 1) label n rest more goes
       go (inr (reply, rest, told, more, goes)) = absurd goes
 
 topic_one : (found : Result Topic Missing) (one other : Topic) → found ≡ Ok one → found ≡ Ok other → one ≡ other
@@ -108,7 +109,7 @@ any_kept (Some made ∷ harvests) = (tt, any_kept harvests)
 -- with what is told of the line's answer
 module _ (behaviour : Option Behaviour) (scene : Scene) (held : Held) (Told : Answer → Type 0) where
   abbrev all : Family
-  all = family_in scene
+  all = family_at scene
 
   -- what the machine asks of calls
   record Fits (book : Book) (calls : List Event) (answer : Answer) (new : Held) : Type 0 where
