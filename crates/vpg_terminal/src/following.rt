@@ -31,7 +31,7 @@ pub(crate) const FIRST: OfGoal = OfGoal {
     asked: Asked::Show,
 };
 
-/// What follows the answer to a line.
+/// The session's next step after the answer to a line.
 #[derive(Drop)]
 pub(crate) enum Following {
     Nothing,
@@ -120,8 +120,8 @@ pub(crate) fn next_of(place: OfGoal, heard: Heard) -> OfGoal {
     OfGoal { goal, asked }
 }
 
-/// Returns the line of a question about one of the goals, if there are so many. A line `goals V ..` names them. Before
-/// there is one, the vertex of this identifier is the only one; without it the session asks for `count`, once.
+/// Returns the line of a question about the goal of this place, if there is one. A line `goals V ..` names the goals.
+/// Before it, the vertex of this identifier is the only one; without it the session asks for `count`, once.
 pub(crate) fn line_about(
     alloc: Global,
     goals: &Option<Vec<u8>>,

@@ -52,8 +52,8 @@ fn command_of<'a>(alloc: Global, verb: &Verb) -> Result<Command<'a>, AllocError>
         Some(usage) => command.override_usage(usage),
         None => command,
     };
-    let command = with_arguments(alloc, command, verb.files)?;
-    with_arguments(alloc, command, verb.options)
+    let command = with_arguments(alloc, command, verb.first)?;
+    with_arguments(alloc, command, verb.rest)
 }
 
 /// Returns the command with everything that the program may be called with. Its long help ends with this text.
@@ -105,7 +105,7 @@ struct Files<'a> {
     unexpected: Option<&'a str>,
 }
 
-/// Returns a game that is of a system and its requirements.
+/// Returns the files of a game that is made of a system and its requirements.
 fn model_of<'a>(system: &'a str, requirements: &'a str) -> GamePaths<'a> {
     GamePaths::Model(ModelPaths {
         system,
@@ -245,7 +245,7 @@ fn task_of<'a>(
 }
 
 /// Returns the request of a command. The parser accepts a sign before the number of lifters, and a line feed in the
-/// vertex of a trace. The faults of `lint` and `desk` are always explained.
+/// vertex of a trace: both are refused here. The faults of `lint` and `desk` are always explained.
 fn asked<'a>(alloc: Global, name: &str, matches: &ArgMatches<'a>) -> Result<Invocation<'a>, Error> {
     let (lifters, trace) = (matches.get_str("lifters"), matches.get_str("trace"));
     let (kind, why) = if lifters.is_some_and(|word| word.starts_with('+')) {

@@ -28,7 +28,7 @@ enum SessionWord<'l> {
     Help,
     /// Help on the commands of this word.
     HelpOf(&'l [u8]),
-    /// The words behind it name the goals.
+    /// The words after it name the goals.
     Goals,
     Quit,
 }
@@ -235,7 +235,7 @@ impl<'c, R: Source, W: Sink> Session<'c, R, W> {
         }
     }
 
-    /// Takes the line of a question about one of the goals, if there are so many. Returns whether there are.
+    /// Takes the line of a question about the goal of a place, if there is one. Returns whether there is.
     fn ask(&mut self, place: OfGoal) -> Result<bool, AllocError> {
         match line_about(self.alloc, &self.goals, self.setting.start, place)? {
             Some(line) => {

@@ -46,10 +46,10 @@ pub(crate) struct Verb {
     pub(crate) about: &'static str,
     /// Its words, if not all arguments stand together.
     pub(crate) usage: Option<&'static str>,
-    /// The words and options that name its files.
-    pub(crate) files: &'static [Argument],
-    /// Its other words and options.
-    pub(crate) options: &'static [Argument],
+    /// Its first arguments, which other commands may share.
+    pub(crate) first: &'static [Argument],
+    /// Its other arguments.
+    pub(crate) rest: &'static [Argument],
 }
 
 const GAME: Argument = Argument {
@@ -87,7 +87,7 @@ const REQUIREMENTS: Argument = Argument {
     help: "A formula as in mCRL2, or entries `live = always can a;`",
 };
 
-const BEHAVIOUR: Argument = Argument {
+const SYSTEM_OPTION: Argument = Argument {
     kind: Kind::Value {
         value: "SYSTEM",
         with: "requirements",
@@ -96,13 +96,13 @@ const BEHAVIOUR: Argument = Argument {
     help: "In place of GAME: the behaviour of the family",
 };
 
-const DRAWN_SYSTEM: Argument = Argument {
+const DRAWN_SYSTEM_OPTION: Argument = Argument {
     kind: Kind::Lone { value: "SYSTEM" },
     name: "system",
     help: "In place of GAME: a system, drawn itself if alone",
 };
 
-const FORMULAS: Argument = Argument {
+const REQUIREMENTS_OPTION: Argument = Argument {
     kind: Kind::Value {
         value: "FILE",
         with: "system",
@@ -201,11 +201,18 @@ const TRACE: Argument = Argument {
     help: "Mark the trace that `trace V` writes on the page",
 };
 
-/// The files of a command on a family, with a script.
-const SCRIPTED: &[Argument] = &[GAME, DIAGRAM, EXPLAIN, SCRIPT, BEHAVIOUR, FORMULAS];
+/// The first arguments of a command on a family, with a script.
+const SCRIPTED: &[Argument] = &[
+    GAME,
+    DIAGRAM,
+    EXPLAIN,
+    SCRIPT,
+    SYSTEM_OPTION,
+    REQUIREMENTS_OPTION,
+];
 
-/// The files of a command on a family, without a script.
-const FAMILY: &[Argument] = &[GAME, LAST_DIAGRAM, BEHAVIOUR, FORMULAS];
+/// The first arguments of a command on a family, without a script.
+const FAMILY: &[Argument] = &[GAME, LAST_DIAGRAM, SYSTEM_OPTION, REQUIREMENTS_OPTION];
 
 /// The commands in the order of the help. All but one are over the files of a family.
 pub(crate) static VERBS: [Verb; 9] = [
@@ -218,8 +225,8 @@ vpgdesk run [OPTIONS] <GAME> <DIAGRAM> <SCRIPT>
        vpgdesk run [OPTIONS] --system <SYSTEM> --requirements <FILE>
                    <DIAGRAM> <SCRIPT>",
         ),
-        files: SCRIPTED,
-        options: &[LIFTERS, CONFIG, STRICT, KEEP_GOING, NAMES, JSON],
+        first: SCRIPTED,
+        rest: &[LIFTERS, CONFIG, STRICT, KEEP_GOING, NAMES, JSON],
     },
     Verb {
         name: "desk",
@@ -229,8 +236,8 @@ vpgdesk run [OPTIONS] <GAME> <DIAGRAM> <SCRIPT>
 vpgdesk desk [OPTIONS] <GAME> <DIAGRAM>
        vpgdesk desk [OPTIONS] --system <SYSTEM> --requirements <FILE> <DIAGRAM>",
         ),
-        files: FAMILY,
-        options: &[LIFTERS, NAMES, JSON],
+        first: FAMILY,
+        rest: &[LIFTERS, NAMES, JSON],
     },
     Verb {
         name: "export",
@@ -241,29 +248,29 @@ vpgdesk export [OPTIONS] <GAME> <DIAGRAM> <SCRIPT>
        vpgdesk export [OPTIONS] --system <SYSTEM> --requirements <FILE>
                       <DIAGRAM> <SCRIPT>",
         ),
-        files: SCRIPTED,
-        options: &[XML],
+        first: SCRIPTED,
+        rest: &[XML],
     },
     Verb {
         name: "model",
         about: "Writes the game of a system and its requirements",
         usage: None,
-        files: &[SYSTEM, REQUIREMENTS, DIAGRAM],
-        options: &[EXPLAIN],
+        first: &[SYSTEM, REQUIREMENTS, DIAGRAM],
+        rest: &[EXPLAIN],
     },
     Verb {
         name: "diagram",
         about: "Writes the diagram that a feature model means",
         usage: None,
-        files: &[MODEL],
-        options: &[EXPLAIN],
+        first: &[MODEL],
+        rest: &[EXPLAIN],
     },
     Verb {
         name: "project",
         about: "Writes the plain parity game of one product",
         usage: None,
-        files: &[GAME, DIAGRAM],
-        options: &[EXPLAIN, FEATURE],
+        first: &[GAME, DIAGRAM],
+        rest: &[EXPLAIN, FEATURE],
     },
     Verb {
         name: "check",
@@ -273,8 +280,8 @@ vpgdesk export [OPTIONS] <GAME> <DIAGRAM> <SCRIPT>
 vpgdesk check [OPTIONS] <GAME> <DIAGRAM>
        vpgdesk check [OPTIONS] --system <SYSTEM> --requirements <FILE> <DIAGRAM>",
         ),
-        files: FAMILY,
-        options: &[EXPLAIN],
+        first: FAMILY,
+        rest: &[EXPLAIN],
     },
     Verb {
         name: "lint",
@@ -284,8 +291,8 @@ vpgdesk check [OPTIONS] <GAME> <DIAGRAM>
 vpgdesk lint <GAME> <DIAGRAM>
        vpgdesk lint --system <SYSTEM> --requirements <FILE> <DIAGRAM>",
         ),
-        files: FAMILY,
-        options: &[],
+        first: FAMILY,
+        rest: &[],
     },
     Verb {
         name: "draw",
@@ -297,8 +304,14 @@ vpgdesk draw [OPTIONS] <GAME> <DIAGRAM> [SCRIPT]
                     <DIAGRAM> [SCRIPT]
        vpgdesk draw [OPTIONS] --system <SYSTEM> <DIAGRAM>",
         ),
-        files: &[GAME, LAST_DIAGRAM, EXPLAIN, DRAWN_SCRIPT, DRAWN_SYSTEM],
-        options: &[FORMULAS, FEATURES, STATES, TRACE],
+        first: &[
+            GAME,
+            LAST_DIAGRAM,
+            EXPLAIN,
+            DRAWN_SCRIPT,
+            DRAWN_SYSTEM_OPTION,
+        ],
+        rest: &[REQUIREMENTS_OPTION, FEATURES, STATES, TRACE],
     },
 ];
 
