@@ -175,9 +175,9 @@ fn rank_along(
     )
 }
 
-// Whether zeros are ranks of these vertices along Odd's choices: all have odd priorities, and Odd has each of its
-// choices.
-fn are_of_odd_priorities(ground: &GuessGround, choice: &Choices, vertices: &[u32]) -> bool {
+// Whether zeros are ranks of these vertices along Odd's choices: all have odd priorities, and Odd has a choice at each
+// of its own.
+fn zeros_are_ranks(ground: &GuessGround, choice: &Choices, vertices: &[u32]) -> bool {
     for v in vertices {
         let is_stuck = ground.graph.owner(*v) == Player::Odd && choice.get(*v).is_none();
         if is_stuck || ground.odd.is_strict(*v) {
@@ -196,7 +196,7 @@ fn ranks_along(
     budget: &mut Budget,
 ) -> Result<PerVertex<u64>, AllocError> {
     let mut ranks = PerVertex::of(alloc, ground.graph.vertices(), 0)?;
-    if !are_of_odd_priorities(ground, choice, raised) {
+    if !zeros_are_ranks(ground, choice, raised) {
         rank_along(alloc, ground, choice, raised, &mut ranks, budget)?;
     }
     Ok(ranks)

@@ -1,7 +1,8 @@
 //! The least values of Even's region, by strategy improvement. Each strategy is valued exactly, and then changed if
 //! that is better. A better move lowers the value at once, and those of the vertices that move there: so most choices
 //! are found before the next valuation. Only the vertices that lead to a changed choice are valued again, and only
-//! those that move to a changed value are looked at again.
+//! those that move to a changed value are looked at again. Where all open vertices have odd priorities, lowering leaves
+//! the values of the choices, and none is valued again.
 use crate::even_cycles::Level;
 use crate::ground::{GuessGround, value_in};
 use crate::scale::Scale;

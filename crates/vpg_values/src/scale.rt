@@ -84,8 +84,8 @@ impl Scale {
             .min(self.top)
     }
 
-    /// Returns `prog` over an edge from v to w, where the value is a number at w's priority. Nothing is cut off unless
-    /// w's weight is less than v's.
+    /// Returns `prog` over an edge from v to w, whose value is the top or a multiple of w's weight. Nothing is cut off
+    /// unless w's weight is less than v's.
     pub fn prog_to(&self, v: u32, w: u32, value: u64) -> u64 {
         if self.weight(w) < self.weight(v) {
             return self.prog(v, value);
