@@ -5,7 +5,7 @@
 //! `answer` appends them. The others take the page with its games, and `look` appends them. Each look is a module of
 //! `vpg_looks`, or a text of `vpg_texts`. The layer above answers lines of scripts by these; they change nothing.
 //!
-//! Each look has one entry in `specs/Told`: its meaning, which is what its answer tells of the page, with the law that
+//! Each look has one entry in `specs/Told`: its meaning, which is what its answer says of the page, with the law that
 //! there is one such answer. And it has one arm in `answer` or `look`.
 //!
 //! Both take names of vertices, none if none are asked for. A line about a vertex, or about a move of two, ends with

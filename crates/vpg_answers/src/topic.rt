@@ -51,7 +51,7 @@ fn feature_at(names: &Names, name: &[u8]) -> Option<u16>
     names.get(name)
 }
 
-/// Whether there is a system over so many features.
+/// Whether there is a system over this number of features.
 fn is_over(features: usize, behaviour: &Option<Behaviour>) -> bool
     ensures { result ≡ is_over features behaviour.now }
 {

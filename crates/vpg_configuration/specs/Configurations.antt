@@ -24,7 +24,7 @@ says_nothing line = begins_nothing (drop (prefix_len is_blank line) line)
 abbrev pub selection : List ℕ → List ℕ
 selection line = (if says_nothing line then [] else codes "select ") ++ (line ++ 10 ∷ [])
 
--- what the text behind the last line feed selects: nothing if it is empty
+-- the selection of the text after the last line feed: nothing if it is empty
 abbrev pub last_selection : List ℕ → List ℕ
 last_selection [] = []
 last_selection (b ∷ line) = selection (b ∷ line)

@@ -1,6 +1,6 @@
 //! Configurations as other tools write them: a text with one selected feature a line, or FeatureIDE's XML.
 //!
-//! The end of a file's name tells the `ConfigurationForm`, by `form_of`. `selecting` returns the lines of a script that
+//! The end of a file's name gives the `ConfigurationForm`, by `form_of`. `selecting` returns the lines of a script that
 //! select what a list of names has, and `deciding` those that decide what a person decided in a document of XML.
 //!
 //! `exported` writes the configuration of a page: as names the features that are known to be in, and as XML for each

@@ -70,7 +70,7 @@ fn lines(alloc: Global, text: &[u8]) -> Result<Vec<&[u8]>, AllocError>
     text.split(|b| is_line_end(*b)).collect(alloc)
 }
 
-/// Appends the line of a script for the text behind the last line feed of a configuration.
+/// Appends the line of a script for the text after the last line feed of a configuration.
 fn put_last(line: &[u8], out: &mut Vec<u8>) -> Result<(), AllocError>
     ensures { OnOk result (out.new.items ≡ out.old.items ++ last_selection line.now) }
 {

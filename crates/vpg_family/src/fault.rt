@@ -70,7 +70,7 @@ pub enum Fault {
     DiagramUnreadable,
     #[error("diagram {fault}")]
     Diagram { fault: DiagramFault },
-    /// The file of the diagram is no feature model in the language that its name tells.
+    /// The file of the diagram is no feature model in the language of its name.
     #[error("{fault}")]
     FeatureModel { fault: FormFault },
     #[error("game unreadable")]
@@ -91,7 +91,7 @@ pub enum Fault {
     /// The game of a system and its requirements is beyond the limits of games.
     #[error("model {fault}")]
     Model { fault: ModelFault },
-    /// The file of a configuration is no configuration in the language that its name tells.
+    /// The file of a configuration is no configuration in the language of its name.
     #[error("configuration {fault}")]
     Configuration { fault: ConfigurationFault },
     #[error("script unreadable")]

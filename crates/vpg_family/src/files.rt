@@ -369,7 +369,7 @@ fn with_model(read: Result<Texts, Unread>, model: Vec<u8>) -> Result<Texts, Unre
 }
 
 /// Returns the texts of a family's files. That of the diagram is read, and refused, before any other is. It may be a
-/// feature model, which means a diagram: the end of its name tells that. If a system and its requirements stand in
+/// feature model, which means a diagram: the end of its name says so. If a system and its requirements stand in
 /// place of the game, it is made: they are read, and then the system is refused before the requirements are. A file of
 /// more than 268,435,456 bytes is refused as one that cannot be read is, and so is that of a game with more than
 /// 8,388,608 signs `!`, `&` and `|`. The fault is that of the texts that come back with it.

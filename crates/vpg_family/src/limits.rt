@@ -23,7 +23,7 @@ fn is_sign(byte: u8) -> bool
     byte == b'!' || byte == b'&' || byte == b'|'
 }
 
-/// Returns the place of the first sign above the limit, if there are so many.
+/// Returns the place of the first sign above the limit, if there is one.
 fn surplus(text: &[u8]) -> Option<usize>
     ensures found { IfSome result (IsSurplus text.now) }
     ensures none { IfNone result (signs_in text.now ≤ 8388608) }

@@ -86,7 +86,7 @@ fn diagram_meant(alloc: Global, form: Form, model: Vec<u8>) -> Result<DiagramFil
     }
 }
 
-/// Returns the diagram of a file. The end of the file's name tells whether it is a diagram or a feature model, which
+/// Returns the diagram of a file. The end of the file's name says whether it is a diagram or a feature model, which
 /// means one. The fault is that of the texts that come back with it.
 pub fn read_diagram_file<R: Files + AllocGlobal>(
     rt: &R,

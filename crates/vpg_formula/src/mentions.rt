@@ -137,7 +137,7 @@ fn behind_inside(word: &[u8], depth: usize) -> Region
 }
 
 impl Region {
-    /// What follows the word.
+    /// Returns the region after the word.
     pub(crate) fn behind(self, word: &[u8]) -> Region
         requires { depth_of self + 1 < 2 ^ 64 }
         ensures region { region_of result ≡ region_behind (region_of self) word.now }

@@ -48,7 +48,7 @@ fn put_queue(rt: &impl Abort, text: &mut String, more: u32) {
     }
 }
 
-/// Whether a harvest is settled, and all vertices have the top of the first table.
+/// Whether a harvest is settled, and all vertices have the top of the hopeful table.
 fn is_at_top(harvest: &Harvest) -> bool {
     harvest.check()
         && harvest

@@ -19,7 +19,7 @@ use vpg_measure::{Harvest, Order};
 use vpg_sides::Which;
 use vpg_sides::Which::{Dual, Hopeful};
 
-/// Three vertices of Even in a ring, of priority 1: the top of the first table is 4, that of the second is 1.
+/// Three vertices of Even in a ring, of priority 1: the top of the hopeful table is 4, that of the dual one is 1.
 const RING: &[u8] = b"0 1 0 1; 1 1 0 2; 2 1 0 0;";
 
 /// The number of the ring's vertices.

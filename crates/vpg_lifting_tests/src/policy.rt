@@ -20,13 +20,13 @@ use vpg_small_family::{DIAGRAM, F, G};
 /// The number of even priorities in a game whose dual climbs, each of one vertex.
 const LEVELS: u32 = 20;
 
-/// The top of its second table.
+/// The top of its dual table.
 const DUAL_TOP: u64 = 1 << LEVELS;
 
 /// A game that few rounds of lifts do not settle: vertices of priorities of their own lead to a cycle.
 #[derive(Clone, Copy)]
 enum Climb {
-    /// Odd wins it: the first table climbs. All priorities are odd.
+    /// Odd wins it: the hopeful table climbs. All priorities are odd.
     Odd,
     /// Even wins it: the table of the dual climbs. All priorities are even.
     Even,

@@ -38,7 +38,7 @@ fn is_joined(words: &[Word<'_>], place: usize) -> bool {
     }
 }
 
-/// Whether the word at a place closes what another one opened. A `>` behind `=` does not.
+/// Whether the word at a place closes what another one opened. A `>` after `=` does not.
 fn closes(words: &[Word<'_>], place: usize) -> bool {
     match sign(words, place) {
         b')' | b']' => true,
@@ -89,7 +89,7 @@ fn is_behind(words: &[Word<'_>], place: usize, others: &[&str]) -> bool {
 /// The words that an action comes after.
 const TAKES: [&str; 3] = ["can", "will", "after"];
 
-/// Whether only actions may stand behind the word before a place.
+/// Whether only actions may stand after the word before a place.
 fn is_of_actions(words: &[Word<'_>], place: usize) -> bool {
     matches!(sign(words, place.saturating_sub(1)), b'!' | b'&' | b'|')
 }

@@ -151,7 +151,8 @@ impl Shape {
         }
     }
 
-    // The formula in mixed radix: the part below the priority is cut off, and an odd priority adds one at its place.
+    // The formula in mixed radix: the part below the priority is cut off, and an odd priority adds one at its place. At
+    // weight 1 nothing is cut off.
     fn cut(&self, priority: u64, value: u64) -> u64
         requires { value ≤ top_of self.now }
         ensures prog { result ≡ prog_of self.now priority value }

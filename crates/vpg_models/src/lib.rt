@@ -1,6 +1,6 @@
 //! Feature models in files, read as the diagrams that they mean.
 //!
-//! The end of a file's name tells its `Form`: a diagram, UVL, or FeatureIDE's XML. A layer above uses `form_of`, and
+//! The end of a file's name gives its `Form`: a diagram, UVL, or FeatureIDE's XML. A layer above uses `form_of`, and
 //! `diagram_of`, which returns the text of the diagram that a text means. `put_form_fault` appends the fault of a
 //! model, `explain_model` returns a message on it, and `features_in` the places where a model names features,
 //! `attributes_in` those of attributes that are read over. The layer above reads that text as a diagram.

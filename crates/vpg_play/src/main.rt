@@ -4,8 +4,8 @@
 //!
 //! On an office on the files' game 1 to 63 sessions take STEPS steps each, 16,000 at most. Their dice, by SEED, choose
 //! each step. A session decides, retracts, undoes, redoes, keeps, forgets, commits or asks. It takes an order and lifts
-//! it by one lifter or several. It asks with a front that is too short, reads by a watch, or watches anew. It leaves a
-//! token, a harvest or a front for any session. HOW is `free`, or `turns` for sessions in turn and equal runs.
+//! it by one lifter or several. It asks with a front that is too short, reads by a watch, or begins to watch again. It
+//! leaves a token, a harvest or a front for any session. HOW is `free`, or `turns` for sessions in turn and equal runs.
 //!
 //! Each session prints its calls, a line for each: its number, the call, the answer, and the place in the log. Among
 //! them stand what is no call of the log, with the length of the front then: how an order was raised, reads of a watch

@@ -409,7 +409,7 @@ fn empty<L: Terms, R: Wait>(
 /// The number of times that a session asks for its first watch.
 const MOST_ASKS: u32 = 1_000_000;
 
-/// Returns a watch, or `None` after many refusals. While others watch anew, there may be no place for it.
+/// Returns a watch, or `None` after many refusals. While others begin to watch again, there may be no place for it.
 fn first_watch<L: Terms, R: Wait>(rt: &R, office: &Office<L>) -> Option<Watch<Front<L>>> {
     for _ in 0..MOST_ASKS {
         if let Ok(watch) = office.watch(rt) {

@@ -59,7 +59,7 @@ impl Trail {
         self.waiting.pop()
     }
 
-    /// Counts the visits of so many rules.
+    /// Counts the visits of this number of rules.
     pub(crate) fn count(&mut self, visits: usize) {
         self.work = self.work.saturating_add(visits as u64);
     }

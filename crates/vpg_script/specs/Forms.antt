@@ -1,4 +1,4 @@
--- The forms of commands: the word that names each, the arguments behind it, and what it looks at. This project's own.
+-- The forms of commands: the word that names each, the arguments after it, and what it looks at. This project's own.
 use Rattle.std.specs.Prelude.{◌≡◌, ℕ, Bool, List, [], ◌∷◌, map, Option, Some, None, codes, bytes_eq}
 use Rattle.std.specs.List.{find}
 use Rattle.vpg_sides.specs.declared.which.Which.TheVariants as tables

@@ -368,7 +368,7 @@ abbrev pub exact_or : Vertex → Option ExactVerdict → List Argument → Optio
 exact_or vertex (Some verdict) verdicts = Some (Looks (OfVertex (vertex_looks.Is verdict) vertex))
 exact_or vertex None verdicts = option_map (verdicts_command vertex) (claims_in verdicts)
 
--- the assertion of a word alone, or of a vertex: an exact verdict stands alone behind it, others in any number
+-- the assertion of a word alone, or of a vertex: an exact verdict stands alone after it, others in any number
 abbrev pub asserted : Option PageLook → Vertex → List Argument → Option Command
 asserted state vertex [] = option_map (λ look. Looks (OfPage look)) state
 asserted state vertex (verdict ∷ []) = exact_or vertex (exact_in verdict) (verdict ∷ [])

@@ -1,7 +1,7 @@
 //! The program `vpgdesk`, on rows of words and then on its own words.
 //!
 //! Each line of the file `rows`, in the folder that the program runs in, has the words of a call. The program writes
-//! the line, and carries the words out as `vpgdesk` does. Then it writes `ends: ` and the end that its status tells:
+//! the line, and carries the words out as `vpgdesk` does. Then it writes `ends: ` and the end that its status means:
 //! all is done, a fault, the line at which a strict script was refused, an assertion that failed, or wrong words. At
 //! last it does what its own words ask for: they end its stored run with status 3, after the refusal of a strict
 //! script. It ends with status 1 if the rows can't be read or written.

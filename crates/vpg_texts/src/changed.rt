@@ -93,7 +93,7 @@ fn change(
     Ok(())
 }
 
-/// Appends the line of a vertex with another verdict than was seen, and returns the number of lines.
+/// Appends the line of a vertex if its verdict differs from the one seen, and returns the number of lines appended.
 fn change_if(
     id: u32,
     label: &[u8],

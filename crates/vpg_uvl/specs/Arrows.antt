@@ -34,7 +34,7 @@ opened text = replicate (arrows text) 40
 abbrev pub is_front : ℕ → ℕ → ℕ → Bool
 is_front earlier before b = b == 40 || (b == 62 && before == 61 && earlier == 60)
 
--- a byte with the parentheses around it, by the two bytes before it and the text behind it
+-- a byte with the parentheses around it, by the two bytes before it and the text after it
 abbrev pub with_parentheses : ℕ → ℕ → ℕ → List ℕ → List ℕ
 with_parentheses earlier before b behind =
     if is_front earlier before b then b ∷ opened behind

@@ -3,13 +3,13 @@ use Rattle.std.specs.Prelude.{ℕ, ◌+◌, ◌-◌, Bool, ◌==◌, if◌then�
 use Rattle.vpg_uvl.specs.Rows.{Row, rows, after_blanks, is_head}
 use Rattle.vpg_uvl.specs.Items.{first_byte, behind_name, is_quoted_name, behind_quote}
 
--- what stands behind the name at the front of a row, plain or between quotes
+-- the text after the name at the front of a row, plain or between quotes
 abbrev pub behind_feature : List ℕ → List ℕ
 behind_feature body =
     if first_byte body == 34 then (if is_quoted_name (drop 1 body) then behind_quote (drop 1 body) else [])
     else behind_name body
 
--- attributes stand behind the row's feature
+-- attributes stand after the row's feature
 abbrev pub has_attributes : Row → Bool
 has_attributes row = first_byte (behind_feature (after_blanks row.bytes)) == 123
 

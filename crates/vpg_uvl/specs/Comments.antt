@@ -21,7 +21,7 @@ next_place Opening b bs = Inside
 next_place Inside b bs = if b == 42 && begins 47 bs then Closing else Inside
 next_place Closing b bs = Outside
 
--- a place within a comment, behind its first byte
+-- a place within a comment, after its first byte
 abbrev pub is_comment : Place → Bool
 is_comment Outside = false
 is_comment (Quoted mark) = false

@@ -113,35 +113,35 @@ first_byte (b ∷ bs) = b
 abbrev pub stopped : {A : Type 0} → Reason → List ℕ → Result A Stop
 stopped reason left = Err (record { reason = reason; left = left })
 
--- A feature, and attributes behind it: from `{` up to a `}` that ends the row. They are read over, if none of them is a
+-- A feature, and attributes after it: from `{` up to a `}` that ends the row. They are read over, if none of them is a
 -- constraint.
 abbrev pub with_attributes : List ℕ → List ℕ → Result Item Stop
 with_attributes name behind =
     if names_constraint behind then stopped AttributeConstraint behind
     else (if last_visible 0 behind == 125 then Ok (named name) else stopped Attributes behind)
 
--- a feature with this name, and what stands behind it
+-- a feature with this name, and the text after it
 abbrev pub named_before : List ℕ → List ℕ → Result Item Stop
 named_before name behind =
     if is_nothing behind then Ok (named name)
     else (if first_byte behind == 123 then with_attributes name behind
     else stopped (if bytes_eq (name_at behind) (codes "cardinality") then FeatureCardinality else Syntax) behind)
 
--- what stands behind an opening quote is a feature's name and a quote
+-- the text after an opening quote is a feature's name and a quote
 abbrev pub is_quoted_name : List ℕ → Bool
 is_quoted_name text =
     is_feature_name (name_at text) && first_byte (drop (prefix_len is_name_byte text) text) == 34
 
--- what stands behind a closing quote and the blanks after it, where a name comes before the quote
+-- the text after a closing quote and its blanks, where a name comes before the quote
 abbrev pub behind_quote : List ℕ → List ℕ
 behind_quote text = after_blanks (drop 1 (drop (prefix_len is_name_byte text) text))
 
--- A feature whose name stands between double quotes: what stands behind the first one.
+-- A feature whose name stands between double quotes: the text after the first one.
 abbrev pub quoted_feature : List ℕ → List ℕ → Result Item Stop
 quoted_feature body text =
     if is_quoted_name text then named_before (name_at text) (behind_quote text) else stopped Quotes body
 
--- A feature whose name stands there, and what stands behind it.
+-- A feature whose name stands there, and the text after it.
 abbrev pub plain_feature : List ℕ → List ℕ → List ℕ → Result Item Stop
 plain_feature body name behind =
     if is_nothing name then stopped Syntax body

@@ -1,5 +1,5 @@
 -- The rows of a text in the Universal Variability Language (UVL; Sundermann et al. 2021): its lines without their
--- comments, and of these the ones that are not blank. A comment over several lines joins what stands before and behind
+-- comments, and of these the ones that are not blank. A comment over several lines joins what stands before and after
 -- it to one row.
 use Rattle.std.specs.Prelude.{ℕ, ◌+◌, ◌*◌, ◌/◌, ◌^◌, min, Bool, true, false, not, ◌&&◌, ◌||◌, ◌==◌, if◌then◌else◌, List, [], ◌∷◌, length, take, drop, bytes_eq}
 use Rattle.std.specs.List.{list_all, prefix_len, slice_split}
@@ -56,7 +56,7 @@ is_visible b = not (is_blank b)
 abbrev pub word_at : List ℕ → List ℕ
 word_at text = take (prefix_len is_visible text) text
 
--- what stands behind that word and the blanks after it
+-- the text after that word and its blanks
 abbrev pub behind_word : List ℕ → List ℕ
 behind_word text = after_blanks (drop (prefix_len is_visible text) text)
 

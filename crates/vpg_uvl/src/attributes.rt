@@ -9,7 +9,7 @@ use crate::row::{Cursor, next_row};
 use crate::words::{after_blanks, is_head, split_front, split_name};
 use std::alloc::{AllocError, Global};
 
-/// Returns what stands behind the name at the front of a row, or nothing if quotes stand around something else.
+/// Returns the text after the name at the front of a row, or nothing if quotes stand around something else.
 fn behind_feature(body: &[u8]) -> &[u8]
     ensures { result.now ≡ behind_feature body.now }
 {

@@ -68,7 +68,7 @@ fn next_place(place: Place, b: u8, behind: &[u8]) -> Place
     if ends { Place::Outside } else { place }
 }
 
-/// Whether a place is within a comment, behind its first byte.
+/// Whether a place is within a comment, after its first byte.
 fn is_comment(place: Place) -> bool
     ensures { result ≡ is_comment place }
 {

@@ -15,7 +15,7 @@ use std::alloc::Global;
 use vpg_features::{Names, constant_of, is_name_byte};
 use vpg_rules::{Rule, RuleFault, parse_rule};
 
-/// Returns the byte at a place, or a blank behind the end.
+/// Returns the byte at a place, or a blank after the end.
 fn byte_at(bytes: &[u8], at: usize) -> u8 {
     match bytes.get(at) {
         Some(b) => *b,
@@ -69,8 +69,8 @@ fn visible_len(bytes: &[u8]) -> usize
     len
 }
 
-/// Returns the fault of a row for a reason at a place, which counts the row's bytes from 0. A place behind the last
-/// word is told directly behind it.
+/// Returns the fault of a row for a reason at a place, which counts the row's bytes from 0. A place after the last
+/// word is reported directly after it.
 fn refused(row: Row, reason: Reason, at: usize) -> TextFault
     requires { row.start + length row.bytes.now < 2 ^ 64 }
     ensures placed { IsPlaced (row_of row.entry) result }
@@ -82,7 +82,7 @@ fn refused(row: Row, reason: Reason, at: usize) -> TextFault
     }
 }
 
-/// Returns the fault of a row that spells no rule. Its reason tells what stands where the rule ends.
+/// Returns the fault of a row that spells no rule. Its reason names the text where the rule ends.
 fn fault_of(row: Row, fault: RuleFault) -> TextFault
     requires { row.start + length row.bytes.now < 2 ^ 64 }
     ensures placed { fault ≢ RuleFault.Memory → IsPlaced (row_of row.entry) result }

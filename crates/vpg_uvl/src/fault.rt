@@ -4,7 +4,7 @@ use thiserror::Error;
 /// Why a row of a text is refused.
 #[derive(Clone, Copy, Debug, PartialEq, Eq)]
 pub enum Reason {
-    /// What cannot stand there.
+    /// A text that cannot stand there.
     Syntax,
     /// A row that is indented neither more than the row above it nor as one of the open rows, a root that is not
     /// indented, or a constraint that is not.

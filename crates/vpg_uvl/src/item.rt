@@ -197,7 +197,7 @@ pub(crate) fn first_byte(text: &[u8]) -> u8
     }
 }
 
-/// Returns the feature with attributes behind it.
+/// Returns the feature with attributes after it.
 fn with_attributes<'t>(name: &'t [u8], behind: &'t [u8]) -> Result<Item<'t>, Stop<'t>>
     requires { IsFeatureName name.now }
     ensures gives { GivesItem result (with_attributes name.now behind.now) }
@@ -219,7 +219,7 @@ fn with_attributes<'t>(name: &'t [u8], behind: &'t [u8]) -> Result<Item<'t>, Sto
     }
 }
 
-/// Returns the feature with this name, or why what stands behind it is refused.
+/// Returns the feature with this name, or why the text after it is refused.
 fn named_before<'t>(name: &'t [u8], behind: &'t [u8]) -> Result<Item<'t>, Stop<'t>>
     requires { IsFeatureName name.now }
     ensures gives { GivesItem result (named_before name.now behind.now) }
@@ -261,7 +261,7 @@ pub(crate) fn is_quoted_name(text: &[u8]) -> bool
     is_feature_name(word) && first_byte(rest) == b'"'
 }
 
-/// Returns the feature whose name stands between double quotes, by the text behind the first one.
+/// Returns the feature whose name stands between double quotes, by the text after the first one.
 fn quoted_feature<'t>(body: &'t [u8], text: &'t [u8]) -> Result<Item<'t>, Stop<'t>>
     ensures gives { GivesItem result (quoted_feature body.now text.now) }
     ensures item { IfOk result (λ item. IsItem (item_in item)) }
@@ -276,7 +276,7 @@ fn quoted_feature<'t>(body: &'t [u8], text: &'t [u8]) -> Result<Item<'t>, Stop<'
     })
 }
 
-/// Returns the feature whose name stands there, by what stands behind the name.
+/// Returns the feature whose name stands there, by the text after the name.
 fn plain_feature<'t>(body: &'t [u8], name: &'t [u8], behind: &'t [u8]) -> Result<Item<'t>, Stop<'t>>
     ensures gives { GivesItem result (plain_feature body.now name.now behind.now) }
     ensures item { IfOk result (λ item. IsItem (item_in item)) }

@@ -3,7 +3,7 @@
 //!
 //! A layer above uses `read`, which returns the `Tree` of `vpg_tree` that a text spells, or the first fault with its
 //! line and column. It writes the tree's diagram with `Tree::write`, and says what a `Reason` means. `attribute_places`
-//! tells where the attributes are that are read over.
+//! says where the attributes are that are read over.
 //!
 //! Read are `features` with groups (`mandatory`, `optional`, `alternative`, `or`, `[n]`, `[n..m]`, `[n..*]`), nested by
 //! indentation, and `constraints`, one a row. A name may stand between double quotes. Chains of arrows group to the

@@ -145,7 +145,7 @@ fn read_constraints(alloc: Global, tree: &mut Tree, cursor: Cursor) -> Result<()
     Ok(())
 }
 
-/// Returns the tree of the features with the constraints behind them.
+/// Returns the tree of the features with the constraints after them.
 fn with_constraints(alloc: Global, features: Features) -> Result<Tree, TextFault>
     requires room { features.behind.start + length features.behind.rest.now < 2 ^ 64 }
     requires none { features.tree.constraints ≡ [] }

@@ -8,7 +8,7 @@ ghost use Rattle.vpg_uvl.specs.Items.{name_at, behind_name, digits_at, behind_di
 
 use vpg_features::is_name_byte;
 
-/// The greatest column that is told from those above it.
+/// The greatest column that is told apart from those above it.
 const WIDEST: u64 = 1 << 32;
 
 /// Whether a byte is a space or a tab.
@@ -74,7 +74,7 @@ pub(crate) fn after_blanks(text: &[u8]) -> &[u8]
     &text[blanks_len(text)..]
 }
 
-/// Returns the word at the front, and what stands behind it and the blanks after it.
+/// Returns the word at the front, and the text after it and its blanks.
 #[tactic(auto, using(crate::proofs::Fronts::front_within))]
 pub(crate) fn split_word(text: &[u8]) -> (&[u8], &[u8])
     ensures word { result.0.now ≡ word_at text.now }
@@ -93,7 +93,7 @@ pub(crate) fn split_front(text: &[u8]) -> (&[u8], &[u8])
     text.split_at(name_len(text))
 }
 
-/// Returns the name at the front, and what stands behind it and the blanks after it.
+/// Returns the name at the front, and the text after it and its blanks.
 #[tactic(auto, using(crate::proofs::Fronts::front_within))]
 pub(crate) fn split_name(text: &[u8]) -> (&[u8], &[u8])
     ensures name { result.0.now ≡ name_at text.now }
@@ -103,7 +103,7 @@ pub(crate) fn split_name(text: &[u8]) -> (&[u8], &[u8])
     (name, after_blanks(behind))
 }
 
-/// Returns the digits at the front, and what stands behind them.
+/// Returns the digits at the front, and the text after them.
 #[tactic(auto, using(crate::proofs::Fronts::front_within))]
 pub(crate) fn split_digits(text: &[u8]) -> (&[u8], &[u8])
     ensures digits { result.0.now ≡ digits_at text.now }
@@ -112,7 +112,7 @@ pub(crate) fn split_digits(text: &[u8]) -> (&[u8], &[u8])
     text.split_at(digits_len(text))
 }
 
-/// Whether a text is this word and nothing else, but for blanks behind it.
+/// Whether a text is this word and nothing else, but for blanks after it.
 pub(crate) fn is_head(text: &[u8], word: &[u8]) -> bool
     ensures { result ≡ is_head word.now text.now }
 {
