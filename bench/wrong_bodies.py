@@ -612,7 +612,8 @@ class Lanes:
 
     def shares(self, name):
         """Cuts the crate's wrong bodies into shares, those of one function into several, since they are not tried at once."""
-        bodies = sorted(self.left[name], key=lambda it: (it.alone, it.place))
+        # (by place alone: a process that tries several shares marks bodies as alone meanwhile)
+        bodies = sorted(self.left[name], key=lambda it: it.place)
         number = 1 if self.asked.beside == 1 else max(1, round(len(bodies) / SHARE))
         return [bodies[at::number] for at in range(number)]
 
