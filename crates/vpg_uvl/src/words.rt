@@ -8,7 +8,7 @@ ghost use Rattle.vpg_uvl.specs.Items.{name_at, behind_name, digits_at, behind_di
 
 use vpg_features::is_name_byte;
 
-/// The greatest column that is told apart from those above it.
+/// The greatest column of an indentation. Greater ones count as this one.
 const WIDEST: u64 = 1 << 32;
 
 /// Whether a byte is a space or a tab.
