@@ -1,8 +1,8 @@
 //! Names of vertices.
-ghost use Rattle.std.specs.Prelude.{◌≡◌, [], None, slice_index_or};
+ghost use Rattle.std.specs.Prelude.{◌≡◌, ◌++◌, ◌∷◌, [], None, OnOk, OnErr, slice_index_or};
 ghost use Rattle.vpg_game.specs.SpelledNames.{Told};
 
-use std::alloc::Global;
+use std::alloc::{AllocError, Global};
 use std::marker::Model;
 
 /// The bytes of one name.
@@ -46,6 +46,27 @@ impl VertexNames {
             names: Vec::new(alloc),
             start: None,
         }
+    }
+
+    /// Returns no names yet, and the identifier where the game starts, if it has one.
+    pub fn starting(alloc: Global, start: Option<u64>) -> VertexNames
+        ensures names { result.names ≡ [] }
+        ensures start { result.start ≡ start }
+    {
+        VertexNames {
+            names: Vec::new(alloc),
+            start,
+        }
+    }
+
+    /// Adds the name of the next vertex. If memory is short, nothing changes.
+    pub fn add(&mut self, name: Vec<u8>) -> Result<(), AllocError>
+        ensures names { OnOk result (self.new.names ≡ self.old.names ++ name.items ∷ []) }
+        ensures start { self.new.start ≡ self.old.start }
+        ensures unchanged { OnErr result (self.new ≡ self.old) }
+    {
+        self.names.push(Name { bytes: name })?;
+        Ok(())
     }
 
     /// Returns the name of a vertex, empty if it has none, or if there are fewer names.
