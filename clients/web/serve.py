@@ -22,6 +22,7 @@ import os
 import queue
 import re
 import secrets
+import select
 import shutil
 import socket
 import sys
@@ -32,6 +33,7 @@ from typing import NamedTuple
 from urllib.parse import parse_qs, urlsplit
 
 sys.dont_write_bytecode = True
+from report import report  # pylint: disable=wrong-import-position
 from stand_in import Desk, Refusal, Unusable  # pylint: disable=wrong-import-position
 
 HERE = os.path.dirname(os.path.abspath(__file__))
@@ -173,8 +175,9 @@ class Handler(BaseHTTPRequestHandler):
             return self.answer(200, desk.page())
         if url.path == "/api/ask":
             return self.answer(200, desk.ask(query.get("what", ""), query.get("about", "")))
-        if url.path == "/api/export" and query.get("form") in ("config", "xml", "script"):
-            return self.answer(200, desk.export(query["form"]).encode(), "text/plain")
+        if url.path == "/api/export" and query.get("form") in ("config", "xml", "script", "report"):
+            text = report(desk) if query["form"] == "report" else desk.export(query["form"])
+            return self.answer(200, text.encode(), "text/plain")
         raise Refusal(404, "NotFound", "There is nothing here.")
 
     def post(self, url):
@@ -208,7 +211,7 @@ class Handler(BaseHTTPRequestHandler):
             for name, value in {"Content-Type": "text/event-stream", "Connection": "close", **HEADERS}.items():
                 self.send_header(name, value)
             self.end_headers()
-            while (event := next_of(events))[0] != "end":
+            while (event := self.next_of(events))[0] != "end":
                 kind, body = event
                 text = f"event: {kind}\ndata: {json.dumps(body)}\n\n" if kind else ": still here\n\n"
                 self.wfile.write(text.encode())
@@ -216,16 +219,21 @@ class Handler(BaseHTTPRequestHandler):
             self.server.desk.leave(person, events)
 
 
-def next_of(events):
-    try:
-        return events.get(timeout=QUIET)
-    except queue.Empty:
+    def next_of(self, events):
+        """The next event; none after some time; the end if the client has left, as seen within a second."""
+        for _ in range(QUIET):
+            try:
+                return events.get(timeout=1)
+            except queue.Empty:
+                if select.select([self.connection], [], [], 0)[0] and not self.connection.recv(1):
+                    return "end", None
         return "", None
 
 
 def read(path):
+    """A file of the page as it is sent, without lines that are comments, and its type."""
     with open(path, "rb") as it:
-        return it.read(), KINDS[os.path.splitext(path)[1]]
+        return re.sub(rb"(?m)^ *(//|/\*).*$", b"", it.read()), KINDS[os.path.splitext(path)[1]]
 
 
 def family_of(host):

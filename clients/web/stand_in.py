@@ -458,11 +458,13 @@ class Desk:
         asked = [self.goals[n : n + 300] for n in range(0, len(self.goals), 300)]
         return "".join(letter(line) for part in asked for line in program.ask("show " + " ".join(part)))
 
-    def look(self, program):
-        """The features that are known, and the number of products left."""
-        known, number = program.ask("products"), program.ask("number")[0].split()
-        count = {"count": number[1] if number[1:] else None, "exact": len(number) == 2}
-        return {"in": known[0].split()[1:], "out": known[1].split()[1:], "products": count}
+    def look(self, program, products=None):
+        """The features that are known, and the number of products left, which is asked if it is not given."""
+        known = program.ask("products")
+        if products is None:
+            number = program.ask("number")[0].split()
+            products = {"count": number[1] if number[1:] else None, "exact": len(number) == 2}
+        return {"in": known[0].split()[1:], "out": known[1].split()[1:], "products": products}
 
     def short_page(self, **more):
         undo, redo = ({k: it[-1][k] for k in ("serial", "session", "by")} if it else None for it in (self.done, self.undone))
@@ -556,11 +558,11 @@ class Desk:
         """Carries out a change that was asked for, and answers once it stands in the book."""
         kind, steps = made["steps"][0]["do"], made["steps"]
         stack = {"undo": self.done, "redo": self.undone}.get(kind)
-        if stack is None:
+        if stack is None and len(steps) > 1:  # one step is whole by itself
             tried = self.tried_out(steps)
             if "refused" in tried:
                 raise Refusal(409, **tried["refused"])
-        elif [it["serial"] for it in steps] != [it["serial"] for it in reversed(stack)][: len(steps)]:
+        elif stack is not None and [it["serial"] for it in steps] != [it["serial"] for it in reversed(stack)][: len(steps)]:
             error = "NotNewest" if stack else "NoToken"
             raise Refusal(409, error, TEXTS[error])
         return self.carried_out(made, is_new=True)
@@ -574,7 +576,8 @@ class Desk:
             self.note_step(it, made)
         if is_new:
             self.kept_in_book(made)
-        self.kept, self.seen = {}, self.look(self.main)
+        tried = self.kept.get(json.dumps(made["steps"]), {})
+        self.kept, self.seen = {}, self.look(self.main, tried.get("products"))
         decided = {it["sign"] for it in self.standing}
         known = [sign + it for sign, part in (("+", "in"), ("-", "out")) for it in self.seen[part] if it not in before[part]]
         entry = {it: made[it] for it in ("time", "session", "by", "of", "note")}

@@ -1,10 +1,12 @@
-// The page of a shared desk: begins it, draws what an event changes, saves, and has the keys of the whole page.
-import { $, h, put, count, productsLeft, dim, mark, plain, WORDS } from "./dom.js";
-import { desk, kept, call, ask, saved, follow, say, refused, chip, takeBack, noProduct, forgetPreviews, unlook } from "./desk.js";
+// Begins the page, draws what an event changes, saves, and has the keys of the whole page.
+import { $, h, put, count, productsLeft, dim } from "./dom.js";
+import {
+  desk, kept, call, ask, saved, follow, say, refused, takeBack, noProduct, forgetPreviews, unlook,
+} from "./desk.js";
 import { growTree, drawTree, drawDock } from "./tree.js";
 import { list, choose, drawGoals, drawRows, forgetAnswers } from "./goals.js";
 import { drawCard } from "./card.js";
-import { told, effects, drawPast, drawPeople } from "./past.js";
+import { drawPast, drawPeople } from "./past.js";
 
 // Draws what an event of this kind changes.
 function draw(kind) {
@@ -35,7 +37,7 @@ async function blameNone() {
   const r = await ask("empty").catch(() => ({}));
   if (!r.empty || !noProduct()) return;
   const words = r.because.length > 1 ? "These decisions together leave none: " : "This decision leaves none: ";
-  say(h("b", "No product is left,"), " so no verdict says anything. ", words, r.because.map(s => chip(s, takeBack(s))));
+  say(h("b", "No product is left,"), " so no verdict says anything. ", words, r.because.map(takeBack));
   isBlamed = true;
 }
 
@@ -48,35 +50,20 @@ function save(text, name) {
   setTimeout(() => URL.revokeObjectURL(url), 10000);
 }
 
-// A page for those who have no desk: what is decided, and the verdicts with their reasons. It holds no script.
-async function report() {
-  const { family, page, verdicts } = desk, doc = document.implementation.createHTMLDocument(family.name), because = [];
-  for (const g of family.goals.slice(0, 500)) because.push(await ask("why", g.id).catch(() => ({})));
-  const reason = i => because[i]?.because && verdicts[i] !== "p" && plain(because[i].because.map(s => s[0] + " " + s), 20);
-  const rows = family.goals.map((g, i) => h("tr", ["th", "td", "td", "td"].map((tag, n) =>
-    h(tag, [g.name, WORDS[verdicts[i]], reason(i), g.note || g.text][n]))));
-  put(doc.head, h("meta", { charset: "utf-8" }), h("title", family.name),
-    h("style", "body{font:15px/1.5 sans-serif;margin:2em}th,td{text-align:left;vertical-align:top;padding:2px 1em 2px 0}"));
-  put(doc.body, h("h1", family.name), h("p", new Date().toLocaleString("en"), " · ", count(page.products), productsLeft(page.products)),
-    h("h2", "Decisions"), h("ul", page.decisions.map(d => h("li", d.sign, " by ", d.by))),
-    h("h2", "Requirements"), h("table", rows), h("h2", "History"), h("ol", desk.past.map(e => h("li", told(e), ": ", effects(e), " ", e.note))));
-  return "<!doctype html>" + doc.documentElement.outerHTML;
-}
 for (const b of document.querySelectorAll("[data-save]")) {
-  const form = b.dataset.save, ending = { script: ".script", report: ".html", xml: ".xml", config: ".config" }[form];
-  b.onclick = async () => {
-    try { save(await (form === "report" ? report() : saved(form)), desk.family.name + ending); } catch (e) { refused(e); }
-  };
+  const form = b.dataset.save, name = () => `${desk.family.name}.${form === "report" ? "html" : form}`;
+  b.onclick = () => saved(form).then(text => save(text, name()), e => refused(e));
 }
 
 // --- parts of the page
 
+const tabs = document.querySelectorAll("nav button");
 function tab(name) {
   document.body.dataset.tab = name;
-  for (const b of document.querySelectorAll("nav button")) b.setAttribute("aria-current", String(b.dataset.tab === name));
+  for (const b of tabs) b.setAttribute("aria-current", String(b.dataset.tab === name));
   if (desk.page) drawGoals();
 }
-for (const b of document.querySelectorAll("nav button")) b.onclick = () => tab(b.dataset.tab);
+for (const b of tabs) b.onclick = () => tab(b.dataset.tab);
 $("tfind").oninput = () => desk.page && drawTree();
 $("gfind").oninput = () => desk.page && drawGoals();
 $("more").onchange = () => { kept.set("more", $("more").checked ? "1" : "0"); drawRows(); };
@@ -84,10 +71,13 @@ $("skip").onclick = e => { e.preventDefault(); $("list").focus(); };
 addEventListener("resize", () => desk.page && drawGoals());
 addEventListener("hashchange", () => location.reload());
 addEventListener("keydown", e => {
-  const isTyping = e.target.matches("input:not([type=checkbox])");
-  if ((e.ctrlKey || e.metaKey) && e.key.toLowerCase() === "z" && !isTyping) { e.preventDefault(); $(e.shiftKey ? "redo" : "undo").click(); }
-  else if (e.key === "/" && !isTyping) { e.preventDefault(); $("gfind").focus(); }
-  else if (e.key === "Escape") { say(); unlook(); }
+  if (e.key === "Escape") { say(); unlook(); }
+  if (e.target.matches("input:not([type=checkbox])")) return;
+  const isUndo = (e.ctrlKey || e.metaKey) && e.key.toLowerCase() === "z";
+  if (!isUndo && e.key !== "/") return;
+  e.preventDefault();
+  if (isUndo) $(e.shiftKey ? "redo" : "undo").click();
+  else $("gfind").focus();
 });
 
 async function begin() {

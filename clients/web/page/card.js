@@ -1,5 +1,4 @@
-// The card of the chosen requirement: why it stands as it does, which products meet it, what one more decision does,
-// and how it comes about step by step. Each part is a question to the server, asked in this order.
+// The card of the chosen requirement: each part is a question to the server, asked in the order in which they stand.
 import { $, h, put, dim, mark, digits, plain } from "./dom.js";
 import { desk, known, verb, step, back, ask, act, chip, takeBack } from "./desk.js";
 import { list } from "./goals.js";
@@ -17,16 +16,18 @@ const OFFERED = {
   empty: "leaves no product", unsettled: "not shown",
 };
 const PARTS = { won: "holds", lost: "fails", unsettled: "not shown" };
-const LATE = Symbol("another card was asked for meanwhile");
+const LATE = Symbol("another card is wanted");
 let cards = 0;
 
 const part = name => h("section", { "aria-label": name }, h("h3", name), h("div", dim("Working …")));
 const fill = (section, ...what) => put(section.lastChild, what);
 
-// Draws the card; `anew` if another requirement was chosen. Else what is there stays until its answers have come.
+// Draws the card: `anew` if another one was chosen. Else what is there stays until answers have come.
 export async function drawCard(anew) {
   const mine = ++cards, card = $("card");
-  if (list.chosen == null) return put(card, h("p.dim", "Choose a requirement to see why it is so, what to take back, and which products meet it."));
+  if (list.chosen == null) {
+    return put(card, dim("Choose a requirement to see why it is so, what to take back, and which products meet it."));
+  }
   const g = desk.family.goals[list.chosen], v = desk.verdicts[list.chosen];
   const why = part("Why"), wins = part("Which products"), next = part("What one more decision does");
   const how = part(v === "h" ? "How it fails, step by step" : "How it holds, step by step");
@@ -47,7 +48,7 @@ export async function drawCard(anew) {
     fill(why, d.error ? h("p", d.text) : reasons(v, d, d.decided === "lost" ? await question("repair") : {}));
     card.scrollTop = top;
     fill(wins, products(await question("winners"), await question("needs"), d.example));
-    if (isOpen) fill(next, d.decided === "mixed" ? offers(await question("offer")) : h("p.dim", "Every decision leaves it so."));
+    if (isOpen) fill(next, d.decided === "mixed" ? offers(await question("offer")) : dim("No decision changes that."));
     if (v !== "p") fill(how, trace(await question("trace")));
   } catch (e) { if (e !== LATE) throw e; }
   return card;
@@ -61,16 +62,18 @@ function reasons(v, d, fix) {
   const words = several ? "These decisions alone make it so: " : "This decision alone makes it so: ";
   return [
     h("p", HEAD[v] || HEAD[d.decided]),
-    d.because && (because.length ? h("p", words, because.map(s => chip(s, takeBack(s))), !d.least && dim(" or fewer"))
+    d.because && (because.length ? h("p", words, because.map(takeBack), !d.least && dim(" or fewer"))
       : h("p.dim", "No decision did that: it is so in every product of the family.")),
-    enough.length > 0 && h("p", String(enough) === String(because) ? `Taking ${several ? "any one of them" : "it"} back is enough.`
-      : ["Taking back one of these is enough: ", enough.map(s => chip(s, takeBack(s)))]),
-    set && h("p", "These have to go together: ", set.signs.map(s => chip(s)), act("Take them all back", set.signs.map(back))),
-    fix.state === "none" && because.length > 0 && h("p", "Taking decisions back does not help: no product of the family meets it."),
+    enough.length > 0 && h("p", String(enough) !== String(because)
+      ? ["Taking back one of these is enough: ", enough.map(takeBack)]
+      : `Taking ${several ? "any one of them" : "it"} back is enough.`),
+    set && h("p", "These have to go together: ", set.signs.map(s => chip(s)),
+      act("Take them all back", set.signs.map(back))),
+    fix.state === "none" && because.length > 0 && h("p", "Taking back is no help: no product of the family meets it."),
   ];
 }
 
-// How many of the products left meet it, what these have in common, and the parts in which they fall.
+// How many products meet it, what these have in common, and the parts in which they fall.
 function products(n, needs, example) {
   if (n.error) return h("p", n.text);
   const sums = [n.won, n.lost, n.unsettled].map(BigInt), total = sums[0] + sums[1] + sums[2];
@@ -99,14 +102,13 @@ function partRow(p) {
     h("td", p.who === "won" && steps.length > 0 && act("Take over", steps, { class: "quiet" })));
 }
 function common(signs) {
-  const decide = s => act(verb(s) === "select" ? "Select" : "Exclude", [step(s)], { "aria-label": `${verb(s)} ${s.slice(1)}` });
-  return h("p", "All that meet it have in common: ", signs.length < 4 ? signs.map(s => chip(s, decide(s)))
-    : [plain(signs, 12), " ", act("Decide them all so", signs.map(step))]);
+  return h("p", "All that meet it have in common: ", plain(signs, 12), " ",
+    act(`Decide ${signs.length > 1 ? "them all" : "it"} so`, signs.map(step)));
 }
 function oneOf(example) {
   const open = desk.family.features.map(f => f.name).filter(f => !known(f)), has = open.filter(f => example.includes(f));
-  return h("p", "A product that meets it, of the open features: ", has.length ? plain(has.map(f => "+" + f), 12) : "none", ". ",
-    act("Take it over", open.map(f => step((example.includes(f) ? "+" : "-") + f))));
+  return h("p", "A product that meets it has ", has.length ? plain(has.map(f => "+" + f), 12) : "none",
+    " of the open features. ", act("Take it over", open.map(f => step((example.includes(f) ? "+" : "-") + f))));
 }
 
 // What selecting or excluding each open feature would make of it; only those that make a difference.
@@ -115,16 +117,13 @@ function offers(o) {
   const table = new Map();
   for (const it of o.offers) table.set(it.sign.slice(1), { ...table.get(it.sign.slice(1)), [it.sign[0]]: it });
   const telling = [...table].filter(([, it]) => it["+"]?.decided !== it["-"]?.decided);
-  const same = [...table.keys()].filter(f => !telling.some(it => it[0] === f));
-  return [
-    telling.length ? h("table", h("thead", h("tr", ["Feature", "selected", "excluded"].map(it => h("th", it)))), h("tbody",
-      telling.map(([f, it]) => h("tr", h("th", { scope: "row" }, f), offered(it["+"]), offered(it["-"])))))
-      : h("p.dim", "No single decision settles it."),
-    telling.length > 0 && same.length > 0 && h("p.dim", `Either way the same: ${same.join(", ")}.`),
-  ];
+  if (!telling.length) return h("p.dim", "No single decision makes a difference.");
+  return h("table", h("thead", h("tr", ["Feature", "selected", "excluded"].map(it => h("th", it)))), h("tbody",
+    telling.map(([f, it]) => h("tr", h("th", { scope: "row" }, f), offered(it["+"]), offered(it["-"])))));
 }
 function offered(it) {
   if (!it || it.decided === "conflict") return h("td", dim(it ? OFFERED.conflict : ""));
   const word = OFFERED[it.decided], css = { won: " v-s", lost: " v-h" }[it.decided] || "";
-  return h("td", act(word, [step(it.sign)], { class: "quiet" + css, "aria-label": `${verb(it.sign)} ${it.sign.slice(1)}: ${word}` }));
+  const label = `${verb(it.sign)} ${it.sign.slice(1)}: ${word}`;
+  return h("td", act(word, [step(it.sign)], { class: "quiet" + css, "aria-label": label }));
 }

@@ -1,5 +1,4 @@
-// The desk as this page knows it: what the server said last, and the requests. A change shows only once it has come
-// back as an event, so that all pages show the same.
+// What the server said last, and the requests. A change shows only once it has come back as an event.
 import { $, h, put, dim } from "./dom.js";
 
 export const desk = {
@@ -25,10 +24,7 @@ export const back = sign => ({ do: "retract", feature: sign.slice(1) });
 export const isUndo = s => s.do === "undo" || s.do === "redo";
 
 // Settings of this tab, which a reload keeps.
-export const kept = {
-  get(name) { try { return sessionStorage.getItem(name); } catch { return null; } },
-  set(name, value) { try { sessionStorage.setItem(name, value); } catch { /* a browser that keeps nothing */ } },
-};
+export const kept = { get: name => sessionStorage.getItem(name), set: (name, it) => sessionStorage.setItem(name, it) };
 
 // --- requests
 
@@ -60,8 +56,11 @@ export async function change(steps, of) {
   try {
     await call("change", { steps, of, note });
     if ($("note").value === note) $("note").value = "";
-    say();
-  } catch (e) { refused(e, steps); }
+    if (refused.shown && refused.shown === $("say").firstChild) say();
+  } catch (e) {
+    refused(e, steps);
+    refused.shown = $("say").firstChild;
+  }
 }
 
 // Says why a change was refused, and offers what would make it possible.
@@ -69,13 +68,13 @@ export function refused(e, steps = []) {
   const s = steps[e.step || 0], because = e.because || [];
   if (e.error !== "Conflict" || !s) return say(h("b", e.text || String(e)), " Nothing was changed.");
   const refusal = h("b", `${s.do === "select" ? "Selecting" : "Excluding"} ${s.feature} is refused`);
-  if (!because.length) return say(h("span", refusal, ": the diagram rules it out in every product."), "Nothing was changed.");
+  if (!because.length) return say(h("span", refusal, ": the diagram rules it out."), "Nothing was changed.");
   const label = `Take ${because.length > 1 ? "these" : "it"} back and ${s.do} ${s.feature}`;
   return say(h("span", refusal, ": it contradicts ", because.map(it => chip(it))), "Nothing was changed.",
     act(label, [...because.map(back), ...steps]));
 }
 
-// Shows a message below the header; without one, removes it.
+// Shows a message, or removes it.
 export function say(...what) {
   put($("say"), what.length ? [what, h("button", { class: "quiet", onclick: () => say() }, "Close")] : []);
 }
@@ -95,7 +94,7 @@ export function preview(steps) {
   return previews.get(name);
 }
 
-// Shows in the list what one or two changes would do: `options` has a label and steps for each.
+// Shows in the list what changes would do: `options` has a label and steps for each.
 export async function look(options) {
   const mine = ++looks, got = await Promise.all(options.map(([, steps]) => preview(steps)));
   if (mine === looks && !got.some(p => p.error && p.error !== "Conflict")) looking.show(options, got);
@@ -107,7 +106,7 @@ export function forgetPreviews() { previews.clear(); unlook(); }
 // Does something once the pointer has rested for a moment.
 export function soon(work) { clearTimeout(pause); pause = setTimeout(work, 150); }
 
-// A button that carries out steps. While it is pointed at or has the focus, the list shows what they would do.
+// A button that carries out steps. The list shows what they would do while it is pointed at or has the focus.
 export function act(label, steps, attributes = {}, of) {
   const b = h("button", { ...attributes, onclick: e => { e.stopPropagation(); change(steps, of); } }, label);
   if (!steps.some(isUndo)) {
@@ -117,20 +116,19 @@ export function act(label, steps, attributes = {}, of) {
   return b;
 }
 
-// A sign, with who decided it if it is a decision, and perhaps buttons.
+// A sign, with who decided it, and perhaps a button.
 export function chip(sign, ...more) {
   const d = standing(sign.slice(1)), own = d?.sign === sign;
   const title = done(sign) + (own ? ` by ${d.by}, change ${d.serial}` : "");
   return h("span", { class: sign[0] === "-" ? "s x" : "s", title }, h("b", sign.slice(1)), own && dim(who(d)), more);
 }
 export function takeBack(sign) {
-  const f = sign.slice(1);
-  return standing(f) && act("Take back", [back(sign)], { "aria-label": "Take back " + f });
+  return chip(sign, act("Take back", [back(sign)], { "aria-label": "Take back " + sign.slice(1) }));
 }
 
 // --- the stream of events
 
-// The events of an answer that goes on. It ends if nothing comes for longer than the server is ever silent.
+// The events of an answer that goes on, until it is silent for longer than the server ever is.
 async function* eventsOf(answer, stop) {
   const reader = answer.body.pipeThrough(new TextDecoderStream()).getReader();
   for (let text = ""; ;) {
@@ -170,8 +168,8 @@ const heard = {
   people(p) { desk.page.people = p.people; },
 };
 
-// Follows the stream for as long as the page is there; `drawn` is called after each event, with its kind.
-// A browser has six connections to a server, so a tab that nobody sees gives its one back after five seconds.
+// Follows the stream, and calls `drawn` after each event, with its kind.
+// A browser has six connections to a server: a tab that nobody sees gives its one back after five seconds.
 export async function follow(drawn) {
   let stop, sleep;
   document.addEventListener("visibilitychange", () => {

@@ -43,7 +43,8 @@ export const mark = v => h("span", { class: "v v-" + v, title: LONG[v] }, icon(v
 // The answer of `decide`, which is exact where a verdict is cautious.
 export function exactly(decided) {
   const v = { won: "s", lost: "h" }[decided];
-  return h("span", { class: "v v-" + (v || "p"), title: "Asked exactly, of all products left" }, EXACT[decided], v && icon(v));
+  const title = "Asked exactly, of all products left";
+  return h("span", { class: "v v-" + (v || "p"), title }, EXACT[decided], v && icon(v));
 }
 
 // Numbers of products are digits: there may be more than a number of this language can count.
@@ -56,6 +57,7 @@ export const productsLeft = p => p.count === "1" && p.exact ? " product left" : 
 // The first few of a list of signs, without buttons.
 export function plain(signs, most = 5) {
   const kind = sign => ({ "+": "k y", "-": "k x" }[sign[0]] || "k");
-  const shown = signs.slice(0, most).map((sign, n) => [n ? ", " : "", h("span", { class: kind(sign) }, sign.slice(1))]);
+  const one = (sign, n) => [n ? ", " : "", h("span", { class: kind(sign) }, sign.slice(1))];
+  const shown = signs.slice(0, most).map(one);
   return [shown, signs.length > most && ` and ${signs.length - most} more`];
 }

@@ -15,7 +15,8 @@ let asking = false;
 const answers = new Map(); // what was asked of rows in view: why they are as they are, or exactly
 
 looking.show = (options, got) => {
-  ghost = options.map(([label], n) => ({ label, bad: got[n].error, to: new Map((got[n].changed || []).map(c => [c[0], c[2]])) }));
+  const to = p => new Map((p.changed || []).map(([i, , now]) => [i, now]));
+  ghost = options.map(([label], n) => ({ label, bad: got[n].error, to: to(got[n]) }));
   drawGoals();
 };
 looking.hide = () => { if (ghost) { ghost = null; drawGoals(); } };
@@ -44,8 +45,8 @@ function drawChips() {
   const n = { all: desk.family.goals.length, h: 0, p: 0, s: 0, now: desk.was.size };
   for (const v of desk.verdicts) n[v]++;
   const choose = kind => () => { only = kind; kept.set("only", kind); $("list").scrollTop = 0; drawGoals(); };
-  put($("chips"), CHIPS.map(([kind, word]) =>
-    h("button", { "aria-pressed": String(only === kind), onclick: choose(kind) }, `${word} ${n[kind].toLocaleString("en")}`)));
+  put($("chips"), CHIPS.map(([kind, word]) => h("button",
+    { "aria-pressed": String(only === kind), onclick: choose(kind) }, `${word} ${n[kind].toLocaleString("en")}`)));
   $("tally").textContent = ` ✕ ${n.h} ✓ ${n.s}`;
 }
 
@@ -79,15 +80,16 @@ function row(i, place) {
     "aria-posinset": place + 1, "aria-setsize": rows.length, onclick: () => choose(i),
   },
   mark(desk.verdicts[i]), h("span", { class: "n", title: rest }, g.name, h("i", rest)),
-  ghost ? ghost.map(it => foreseen(it, i)) : [
-    answers.has(i) && h("span.ex", answer(answers.get(i))), desk.was.has(i) && h("span.was", "was " + WORDS[desk.was.get(i)])]);
+  ghost ? ghost.map(it => foreseen(it, i)) : [answers.has(i) && h("span.ex", answer(answers.get(i))),
+    desk.was.has(i) && h("span.was", "was " + WORDS[desk.was.get(i)])]);
   e.style.top = place * ROW + "px";
   return e;
 }
 const foreseen = (it, i) => h("span.pv", it.bad ? dim("–")
   : it.to.has(i) && [it.label.length < 11 ? it.label + " →" : "→", mark(it.to.get(i))]);
-const answer = r => r.what === "decide" ? exactly(r.decided)
-  : r.because.length ? ["by ", chip(r.because[0]), r.because.length > 1 && ` and ${r.because.length - 1} more`] : "whatever is decided";
+const answer = ({ what, decided, because }) => what === "decide" ? exactly(decided)
+  : !because.length ? "whatever is decided"
+  : ["by ", chip(because[0]), because.length > 1 && ` and ${because.length - 1} more`];
 
 // Asks, one after the other, why rows in view are sure or hopeless, and exactly about those that are neither.
 async function askMore(these) {
@@ -107,7 +109,8 @@ export function choose(i) {
   list.chosen = i;
   kept.set("goal", desk.family.goals[i].id);
   const y = rows.indexOf(i) * ROW, box = $("list");
-  if (y >= 0 && (y < box.scrollTop || y + ROW > box.scrollTop + box.clientHeight)) box.scrollTop = y - box.clientHeight / 2;
+  const isSeen = y >= box.scrollTop && y + ROW <= box.scrollTop + box.clientHeight;
+  if (y >= 0 && !isSeen) box.scrollTop = y - box.clientHeight / 2;
   drawRows();
   drawCard(true);
 }

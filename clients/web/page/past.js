@@ -3,22 +3,26 @@ import { $, h, put, dim, WORDS } from "./dom.js";
 import { desk, standing, known, step, back, isUndo, change, act, chip } from "./desk.js";
 
 export function drawPeople() {
-  const initials = name => [...name].filter((c, i, all) => !i || all[i - 1] === " ").slice(0, 2).join("").toUpperCase();
+  const initials = name => name.split(" ").map(word => [...word][0]).slice(0, 2).join("").toUpperCase();
   const mine = p => p.session === desk.family.you.session;
-  put($("people"), desk.page.people.map(p => h("li", { class: mine(p) && "self", title: p.name + (mine(p) ? " (you)" : "") },
+  put($("people"), desk.page.people.map(p => h("li", { class: mine(p) && "self", title: p.name },
     h("span", { "aria-hidden": "true" }, initials(p.name)), h("span.hide", p.name))));
 }
 
 // --- what an entry of the history says
 
 // The step that an undo or redo of this serial was about.
-const made = serial => desk.past.flatMap(e => e.steps).find(s => s.serial === serial && !isUndo(s)) || { do: "change", feature: serial };
+const made = serial => desk.past.flatMap(e => e.steps).find(s => s.serial === serial && !isUndo(s));
 function toldStep(s) {
+  if (!s) return "an older change";
   if (isUndo(s)) return `${s.do === "undo" ? "undid" : "redid"} “${toldStep(made(s.serial))}”`;
-  const words = { select: "selected", exclude: "excluded", retract: "took back", change: "change" };
+  const words = { select: "selected", exclude: "excluded", retract: "took back" };
   return s.do === "reset" ? "took all decisions back" : `${words[s.do]} ${s.feature}`;
 }
-const steps = e => e.steps.length > 3 ? `${toldStep(e.steps[0])} and ${e.steps.length - 1} more` : e.steps.map(toldStep).join(", ");
+function steps(e) {
+  const more = e.steps.length > 3 && ` and ${e.steps.length - 1} more`;
+  return more ? toldStep(e.steps[0]) + more : e.steps.map(toldStep).join(", ");
+}
 export const told = e => [h("b", isMine(e) ? "You" : e.by), " " + steps(e)];
 export function effects(e) {
   const became = e.became && ["h", "s", "p"].filter(v => e.became[v]).map(v => `${e.became[v]} became ${WORDS[v]}`);
@@ -56,8 +60,8 @@ function undoOf(undone) {
 }
 // What I undid last: exactly by a redo, or by undoing the new change that took it back.
 function redoOf() {
-  const { redo, undo } = desk.page, entry = serial => desk.past.find(e => !isUndo(e.steps[0]) && e.steps.some(s => s.serial === serial));
-  const e = entry(redo?.serial), taking = entry(undo?.serial);
+  const entry = it => desk.past.find(e => !isUndo(e.steps[0]) && e.steps.some(s => s.serial === it?.serial));
+  const e = entry(desk.page.redo), taking = entry(desk.page.undo);
   if (e && isMine(e)) return e.steps.map(s => ({ do: "redo", serial: s.serial }));
   return taking?.of && isMine(taking) ? backwards(taking) : null;
 }
@@ -78,18 +82,20 @@ function drawUndo(undone) {
 
 export function drawPast() {
   const undone = undoneEntries(), { decisions } = desk.page;
-  const away = d => act("✕", [back(d.sign)], { class: "quiet", "aria-label": "Take back " + d.sign.slice(1), title: "Take back" });
-  put($("decisions"), decisions.length ? decisions.map(d => h("li", chip(d.sign, away(d))))
+  const away = sign => act("✕", [back(sign)], { class: "quiet", "aria-label": "Take back " + sign.slice(1) });
+  put($("decisions"), decisions.length ? decisions.map(d => h("li", chip(d.sign, away(d.sign))))
     : h("li.dim", "None stands. Select or exclude a feature."));
   $("dcount").textContent = decisions.length || "";
   $("reset").hidden = decisions.length < 2;
-  put($("past"), desk.past.length ? desk.past.toReversed().map(e => entry(e, undone.has(e.entry))) : h("li.dim", "Nothing has happened yet."));
+  put($("past"), desk.past.length ? desk.past.toReversed().map(e => entry(e, undone.has(e.entry)))
+    : h("li.dim", "Nothing has happened yet."));
   drawUndo(undone);
 }
 $("reset").onclick = () => change([{ do: "reset" }]);
 
 function entry(e, isUndone) {
-  const time = new Date(e.time * 1000), stands = e.steps.filter(s => !isUndo(s) && standing(s.feature)?.serial === s.serial);
+  const time = new Date(e.time * 1000);
+  const stands = e.steps.filter(s => !isUndo(s) && standing(s.feature)?.serial === s.serial);
   const follow = e.known.slice(0, 5).map(s => (s[0] === "+" ? "✓ " : "✕ ") + s.slice(1)).join(", ");
   const label = stands.length > 1 ? `Take back ${stands.length}` : "Take back";
   return h("li", h("div.top", h("span", { class: isUndone && "gone" }, told(e)),

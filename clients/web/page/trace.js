@@ -41,7 +41,8 @@ function line(r) {
     : r.loop != null ? dim(`and so on for ever, from ${state(r.loop)} again`)
     : r.seen != null ? dim("goes on as above from " + state(r.seen))
     : r.no == null ? dim(ENDS[r.end] || r.end)
-    : [/^(step|move)$/.test(r.no) ? `no ${r.no} is left` : [h("b", shortly(r.no, 60)), "cannot happen"], dim("in state " + r.at)]);
+    : [/^(step|move)$/.test(r.no) ? `no ${r.no} is left` : [h("b", shortly(r.no, 60)), "cannot happen"],
+      dim("in state " + r.at)]);
   li.style.paddingLeft = x(r.depth) + 14 + "px";
   return li;
 }
@@ -56,7 +57,7 @@ function stepper(lines) {
     note.textContent = n ? `${n} of ${lines.length}` : "";
   };
   return h("p", h("button", { onclick: () => go(-1), "aria-label": "Previous step" }, "◂"), " ",
-    h("button", { onclick: () => go(1), "aria-label": "Next step" }, "Next step ▸"), " ", h("span", { role: "status" }, note));
+    h("button", { onclick: () => go(1) }, "Next step ▸"), " ", h("span", { role: "status" }, note));
 }
 
 // Draws what stands left of the rows, as high as these are.
@@ -65,19 +66,20 @@ function drawRail(svg, rows, verdict) {
   rows.forEach((r, n) => {
     const y = middle[n], cx = x(r.depth);
     if (r.node != null) {
-      marks.push(h("circle", { cx, cy: y, r: 8 }), h("text", { x: cx, y: y + 3.5 }, isSystem() && r.node.length < 3 && r.node));
-    } else if (r.no != null) marks.push(h("rect", { x: cx - 4, y: y - 4, width: 8, height: 8, class: verdict === "h" && "stop" }));
+      const name = isSystem() && r.node.length < 3 && r.node;
+      marks.push(h("circle", { cx, cy: y, r: 8 }), h("text", { x: cx, y: y + 3.5 }, name));
+    } else if (r.no != null) {
+      marks.push(h("rect", { x: cx - 4, y: y - 4, width: 8, height: 8, class: verdict === "h" && "stop" }));
+    }
     if (r.origin < 0) return;
     const above = rows[r.origin], ax = x(above.depth), ay = middle[r.origin];
     if (r.loop != null) {
       const py = middle[n - 1], bend = x(0) - 24;
-      lines.push(h("path", { class: "arc", d: `M${cx - 8} ${py}C${bend} ${py} ${bend} ${ay} ${ax - 9} ${ay}m-4 -3l4 3l-4 3` }));
+      const d = `M${cx - 8} ${py}C${bend} ${py} ${bend} ${ay} ${ax - 9} ${ay}m-4 -3l4 3l-4 3`;
+      lines.push(h("path", { d, class: "arc" }));
       return;
     }
-    const crossed = rows.slice(r.origin + 1, n).some(it => it.node != null && x(it.depth) === ax);
-    const d = ax !== cx ? `M${ax} ${ay + 8}V${y}H${cx - 8}` : !crossed ? `M${ax} ${ay + 8}V${y - 8}`
-      : `M${ax - 7} ${ay + 4}q-9 8 -9 20V${y - 24}q0 12 9 20`;
-    lines.push(h("path", { d, class: r.depends && "dash" }));
+    lines.push(h("path", { d: `M${ax} ${ay + 8}V${ax === cx ? y - 8 : `${y}H${cx - 8}`}`, class: r.depends && "dash" }));
   });
   put(svg, lines, marks);
   svg.style.height = (rows.at(-1)?.li.offsetTop || 0) + 26 + "px";

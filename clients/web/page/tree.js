@@ -1,4 +1,4 @@
-// The feature tree, and below it the dock: what selecting or excluding a feature would do, or why it is as it is.
+// The feature tree, and below it the dock: what a decision on a feature would do, or what forces it.
 import { $, h, put, dim, mark, plain, count, productsLeft } from "./dom.js";
 import {
   desk, standing, known, who, verb, done, step, back, ask, change, chip, takeBack, preview, look, unlook, soon,
@@ -25,15 +25,14 @@ const rowOf = name => $("f" + features.get(name)?.place);
 
 export function drawTree() {
   const find = $("tfind").value.trim().toLowerCase(), found = namesWith(find), rows = [];
-  const held = document.activeElement?.closest("#tree") && at, top = $("tree").scrollTop;
+  const held = document.activeElement.closest("#tree") && at, top = $("tree").scrollTop;
   shown = [];
   addRows(rows, root(), 1, 1, find, found);
   put($("tree"), rows.length ? rows : h("p.none", "No feature has this in its name."));
   $("tree").scrollTop = top;
   if (held) rowOf(held)?.focus({ preventScroll: true });
-  const open = desk.family.features.length - desk.marks.size;
-  const hits = [...found].filter(name => name.toLowerCase().includes(find)).length;
-  $("tcount").textContent = find ? `${hits} found` : `${open} of ${desk.family.features.length} open`;
+  const all = desk.family.features.length;
+  $("tcount").textContent = `${all - desk.marks.size} of ${all} open`;
 }
 
 // The features whose name has the text, and all above them.
@@ -50,7 +49,7 @@ function addRows(rows, f, place, of, find, found) {
   if (find && !found.has(f.name)) return;
   const open = f.kids.length > 0 && (find || !folded.has(f.name));
   shown.push(f.name);
-  rows.push(row(f, place, of, open, find));
+  rows.push(row(f, place, of, open));
   let group = null;
   (open ? f.kids : []).forEach((kid, n) => {
     if (kid.group != null && kid.group !== group) rows.push(groupRow(kid, f));
@@ -59,9 +58,9 @@ function addRows(rows, f, place, of, find, found) {
   });
 }
 
-function row(f, place, of, open, find) {
+function row(f, place, of, open) {
   const d = standing(f.name), k = known(f.name);
-  const state = d ? done(d.sign) + " by " + who(d) : k ? (k === "+" ? "in, follows" : "out, follows") : "open";
+  const state = d ? done(d.sign) + " by " + who(d) : { "+": "in, follows", "-": "out, follows" }[k] || "open";
   const names = ["f", d ? "decided" : k && "known", k === "-" && "out", at === f.name && "at"].filter(Boolean).join(" ");
   const e = h("div", {
     class: names, role: "treeitem", id: "f" + f.place, tabindex: (at || root().name) === f.name ? 0 : -1,
@@ -69,24 +68,20 @@ function row(f, place, of, open, find) {
     "aria-expanded": f.kids.length ? String(open) : null, "aria-checked": { "+": "true", "-": "false" }[k] || "mixed",
     "aria-label": `${f.name}, ${state}`,
   },
-  h("button", { class: "tw", tabindex: -1, "aria-hidden": "true", "data-fold": true }, f.kids.length ? (open ? "▾" : "▸") : ""),
+  h("button", { class: "tw", tabindex: -1, "aria-hidden": "true", "data-fold": true },
+    f.kids.length > 0 && (open ? "▾" : "▸")),
   h("span.box", cell(f.name, "+", "✓", d, k), cell(f.name, "-", "✕", d, k)),
-  h("span", { class: "kind " + f.how, title: HOW[f.how] }), h("span", { class: "n", title: f.name }, marked(f.name, find)),
+  h("span", { class: "kind " + f.how, title: HOW[f.how] }), h("span", { class: "n", title: f.name }, f.name),
   d && h("span", { class: "who", title: d.by }, who(d)));
   e.style.setProperty("--d", f.depth);
   return e;
 }
 
-// A half of a feature's box. The tree has keys for the same, so that readers of the screen get one item a feature.
+// A half of a feature's box. It is for the mouse: the tree has keys for the same.
 function cell(name, sign, glyph, d, k) {
   const on = k === sign, title = d && on ? "Take back" : d ? `${verb(sign)} instead` : k ? "Why?" : verb(sign);
   const css = (on ? "on " : "") + (sign === "-" ? "x" : "");
   return h("button", { tabindex: -1, "aria-hidden": "true", class: css, title, "data-sign": sign }, glyph);
-}
-
-function marked(name, find) {
-  const i = find ? name.toLowerCase().indexOf(find) : -1;
-  return i < 0 ? name : [name.slice(0, i), h("mark", name.slice(i, i + find.length)), name.slice(i + find.length)];
 }
 
 // The line above a group: how many of its members a product may have.
@@ -94,7 +89,8 @@ function groupRow(kid, parent) {
   const { low, high } = desk.family.groups[kid.group], all = parent.kids.filter(it => it.group === kid.group);
   const inside = all.filter(it => known(it.name) === "+").length;
   const words = low === high ? "exactly " + low : high === all.length ? "at least " + low : `${low} to ${high}`;
-  const e = h("div", { class: "g", role: "none" }, `[${low}..${high}] ${words} of ${all.length}`, inside > 0 && ` · ${inside} in`);
+  const bounds = `[${low}..${high}] ${words} of ${all.length}`;
+  const e = h("div", { class: "g", role: "none" }, bounds, inside > 0 && ` · ${inside} in`);
   e.style.setProperty("--d", parent.depth + 1);
   return e;
 }
@@ -109,7 +105,7 @@ function fold(name) {
 function pointAt(name) {
   rowOf(at)?.classList.remove("at");
   rowOf(name)?.classList.add("at");
-  dock(name);
+  at = name;
 }
 
 function focusOn(name) {
@@ -122,47 +118,51 @@ function focusOn(name) {
   pointAt(name);
 }
 
-// What a click on a half of the box does: it decides, takes back, or says why.
+// Asks for what a half of the box means now: a decision, or taking it back. If it follows, the dock says why.
 function press(name, sign) {
   const d = standing(name);
   if (d) change(d.sign[0] === sign ? [back(d.sign)] : [back(d.sign), step(sign + name)]);
-  else if (known(name) !== sign) change([step(sign + name)]);
+  else if (known(name) === sign) dock(name);
+  else change([step(sign + name)]);
 }
 
 const named = e => shown.find(name => rowOf(name) === e.target.closest(".f"));
-$("tree").onmouseover = e => { const f = named(e); if (f && f !== at) soon(() => pointAt(f)); };
+$("tree").onmouseover = e => {
+  const f = named(e);
+  if (f && f !== at) soon(() => { pointAt(f); dock(f); });
+};
 $("tree").onmouseleave = unlook;
 $("tree").onclick = e => {
   const f = named(e), data = e.target.dataset;
   if (!f) return;
-  if ("fold" in data && features.get(f).kids.length) fold(f);
-  else focusOn(f);
-  if (data.sign) press(f, data.sign);
+  if ("fold" in data && features.get(f).kids.length) return fold(f);
+  unlook();
+  focusOn(f);
+  return data.sign ? press(f, data.sign) : dock(f);
 };
 $("tree").onkeydown = e => {
   if (e.ctrlKey || e.altKey || e.metaKey || !shown.length) return;
   const name = shown.includes(at) ? at : shown[0], i = shown.indexOf(name), f = features.get(name), d = standing(name);
-  const go = n => focusOn(shown[Math.max(0, Math.min(shown.length - 1, n))]), open = f.kids.length && !folded.has(name);
+  const visit = it => { focusOn(it); dock(it); }, open = f.kids.length && !folded.has(name);
+  const go = n => visit(shown[Math.max(0, Math.min(shown.length - 1, n))]);
   const takeBackIt = () => d && change([back(d.sign)]), main = () => press(name, known(name) || "+");
   const keys = {
-    ArrowDown: () => go(i + 1), ArrowUp: () => go(i - 1), PageDown: () => go(i + 12), PageUp: () => go(i - 12),
-    Home: () => go(0), End: () => go(shown.length - 1),
+    ArrowDown: () => go(i + 1), ArrowUp: () => go(i - 1), Home: () => go(0), End: () => go(shown.length),
     ArrowRight: () => f.kids.length && (open ? go(i + 1) : fold(name)),
-    ArrowLeft: () => open ? fold(name) : f.parent && focusOn(f.parent),
+    ArrowLeft: () => open ? fold(name) : f.parent && visit(f.parent),
     "+": () => press(name, "+"), "-": () => press(name, "-"),
     " ": main, Enter: main, Delete: takeBackIt, Backspace: takeBackIt,
   };
   const starts = it => it.toLowerCase().startsWith(e.key.toLowerCase());
   if (keys[e.key]) { e.preventDefault(); keys[e.key](); }
-  else if (/^\w$/.test(e.key)) focusOn([...shown.slice(i + 1), ...shown.slice(0, i + 1)].find(starts));
+  else if (/^\w$/.test(e.key)) visit([...shown.slice(i + 1), ...shown.slice(0, i + 1)].find(starts) || name);
 };
 
 // --- the dock
 
-// Draws the dock anew after the page has changed.
 export function drawDock() {
   if (at) dock(at, true);
-  else put($("dock"), h("p.dim", "Point at a feature to see what selecting or excluding it would do. Looking changes nothing."));
+  else put($("dock"), dim("Point at a feature to see what a decision on it would do. Looking changes nothing."));
 }
 
 async function dock(name, isQuiet) {
@@ -172,7 +172,7 @@ async function dock(name, isQuiet) {
   const head = title(name, d, k), foot = rulesOf(name);
   if (options.length) {
     put($("dock"), head, options.map(it => option(it)), foot);
-    const got = await (isQuiet ? Promise.all(options.map(([, steps]) => preview(steps))) : look(options));
+    const got = await (isQuiet ? Promise.all(options.map(([, todo]) => preview(todo))) : look(options));
     if (mine === docks) put($("dock"), head, options.map((it, n) => option(it, got[n])), foot);
     return;
   }
@@ -194,24 +194,25 @@ function title(name, d, k) {
 // The diagram's lines that name the feature.
 function rulesOf(name) {
   const rules = desk.family.rules.filter(it => it.split(/[^A-Za-z0-9_]+/).includes(name));
-  const more = rules.length > 4 && h("div.dim", `and ${rules.length - 4} more rules`);
-  return [rules.slice(0, 4).map(it => h("div.dim", h("code", it))), more];
+  return rules.map(it => h("div.dim", h("code", it)));
 }
 
 function option([label, steps], p) {
   const disabled = p?.error === "Conflict" && !p.because?.length;
-  return h("div.opt", h("button", { onclick: () => change(steps), disabled }, label), h("div", p ? effect(p) : dim("Trying it out …")));
+  const button = h("button", { onclick: () => change(steps), disabled }, label);
+  return h("div.opt", button, h("div", p ? effect(p) : dim("Trying it out …")));
 }
 
 // What a preview found, in a line.
 function effect(p) {
   if (p.error === "Conflict") {
-    return p.because?.length ? ["Not possible: contradicts ", p.because.map(it => chip(it))] : "Not possible: the diagram rules it out.";
+    return ["Not possible: contradicts ", p.because.length ? p.because.map(it => chip(it)) : "the diagram"];
   }
   if (p.error) return p.text;
   const dot = () => dim(" · "), n = { h: 0, p: 0, s: 0 };
   for (const [, , now] of p.changed) n[now]++;
-  const changes = ["h", "s", "p"].filter(v => n[v]).map(v => [dot(), `${n[v]} become${n[v] === 1 ? "s" : ""} `, mark(v)]);
+  const became = v => [dot(), `${n[v]} become${n[v] === 1 ? "s" : ""} `, mark(v)];
+  const changes = ["h", "s", "p"].filter(v => n[v]).map(became);
   return [
     p.products.count === "0" ? h("b.v-h", "no product left") : [h("b", count(p.products)), productsLeft(p.products)],
     changes.length ? changes : [dot(), dim("no verdict changes")],
@@ -221,7 +222,6 @@ function effect(p) {
 }
 
 function forcedBy(r, k) {
-  if (!r.because.length) return k === "+" ? "Every product of the family has it." : "No product of the family has it.";
-  const words = r.because.length > 1 ? "These decisions together force it: " : "This decision forces it: ";
-  return [words, r.because.map(it => chip(it, takeBack(it)))];
+  if (!r.because.length) return `${k === "+" ? "Every" : "No"} product of the family has it.`;
+  return [r.because.length > 1 ? "These decisions together force it: " : "It is forced by ", r.because.map(takeBack)];
 }

@@ -1,0 +1,142 @@
+"""A headless Chromium, driven by the W3C WebDriver protocol through Debian's `chromedriver`: for the tests alone."""
+import http.client
+import json
+import os
+import shutil
+import subprocess
+import tempfile
+import time
+
+KEYS = {"Enter": "\ue007", "Escape": "\ue00c", "Down": "\ue015", "Up": "\ue013", "Right": "\ue014", "Left": "\ue012",
+        "Tab": "\ue004", "Delete": "\ue017", "Control": "\ue009", "Shift": "\ue008", "Home": "\ue011", "End": "\ue010"}  # fmt: skip
+ELEMENT = "element-6066-11e4-a52e-4f735466cecf"  # the protocol's name of an element's identifier
+
+
+class Driver:
+    """A running chromedriver, in which several browsers live."""
+
+    def __init__(self):
+        self.folder = tempfile.TemporaryDirectory(prefix="page_test_", ignore_cleanup_errors=True)
+        words = [shutil.which("chromedriver"), "--port=0"]
+        environment = {**os.environ, "TMPDIR": self.folder.name}
+        self.child = subprocess.Popen(words, stdout=subprocess.PIPE, stderr=subprocess.DEVNULL, text=True, env=environment)
+        self.port = None
+        for line in self.child.stdout:
+            if "started successfully on port " in line:
+                self.port = int(line.split("on port ")[1].strip(". \n"))
+                break
+
+    def browser(self, width=1360, height=860, dark=False):
+        return Browser(self.port, width, height, dark)
+
+    def end(self):
+        self.child.terminate()
+        self.child.wait()
+        self.folder.cleanup()
+
+
+def is_there():
+    """Whether a browser and its driver are installed."""
+    return bool(shutil.which("chromedriver") and (shutil.which("chromium") or shutil.which("chrome")))
+
+
+class Browser:
+    """One browser window."""
+
+    def __init__(self, port, width, height, dark):
+        self.line, self.here = http.client.HTTPConnection("127.0.0.1", port, timeout=60), ""
+        words = ["--headless=new", "--no-sandbox", "--disable-gpu", "--disable-dev-shm-usage", "--no-first-run", "--mute-audio",
+                 "--disable-background-networking", "--disable-component-update", "--hide-scrollbars", "--disable-extensions",
+                 f"--window-size={width},{height}"]  # fmt: skip
+        options = {"args": words, "binary": shutil.which("chromium") or shutil.which("chrome")}
+        logs = {"performance": "ALL", "browser": "ALL"}
+        always = {"browserName": "chrome", "goog:chromeOptions": options, "goog:loggingPrefs": logs}
+        self.here = "/session/" + self.call("POST", "/session", {"capabilities": {"alwaysMatch": always}})["sessionId"]
+        self.size(width, height)
+        self.dark(dark)
+
+    def call(self, method, path, body=None):
+        data = json.dumps(body if body is not None else {}) if method == "POST" else None
+        self.line.request(method, self.here + path, data, {"Content-Type": "application/json"})
+        said = json.loads(self.line.getresponse().read())["value"]
+        if isinstance(said, dict) and "error" in said and "stacktrace" in said:
+            raise RuntimeError(said["message"].split("\n")[0])
+        return said
+
+    def tools(self, command, **given):
+        """Sends a command of the DevTools protocol."""
+        return self.call("POST", "/goog/cdp/execute", {"cmd": command, "params": given})
+
+    def size(self, width, height):
+        self.tools("Emulation.setDeviceMetricsOverride", width=width, height=height, deviceScaleFactor=1, mobile=False)
+
+    def dark(self, is_dark):
+        features = [{"name": "prefers-color-scheme", "value": "dark" if is_dark else "light"}]
+        self.tools("Emulation.setEmulatedMedia", features=features)
+
+    def open(self, url):
+        self.call("POST", "/url", {"url": "about:blank"})
+        self.call("POST", "/url", {"url": url})
+
+    def run(self, script, *given):
+        return self.call("POST", "/execute/sync", {"script": script, "args": list(given)})
+
+    def wait(self, script, *given, seconds=60):
+        """What the expression gives, as soon as that is true."""
+        end = time.monotonic() + seconds
+        while True:
+            found = self.run("return " + script, *given)
+            if found:
+                return found
+            if time.monotonic() > end:
+                raise AssertionError(f"never came: {script} {given}")
+            time.sleep(0.02)
+
+    def find(self, css, text=None):
+        """The element that this selector finds, in view, with this text if one is given."""
+        script = """[...document.querySelectorAll(arguments[0])].find(e =>
+            (arguments[1] == null || e.textContent.trim() === arguments[1]) && e.getClientRects().length)"""
+        return self.wait(script, css, text)
+
+    def click(self, css, text=None):
+        """Clicks an element as a mouse does, once it stands still."""
+        for attempt in range(20):
+            element = self.find(css, text)[ELEMENT]
+            try:
+                return self.call("POST", f"/element/{element}/click")
+            except RuntimeError as it:
+                if attempt == 19 or not any(word in str(it) for word in ("stale", "intercepted", "interactable", "not found")):
+                    raise
+                time.sleep(0.05)
+
+    def hover(self, css, text=None):
+        origin = self.find(css, text)
+        move = {"type": "pointerMove", "duration": 0, "x": 0, "y": 0, "origin": origin}
+        mouse = {"type": "pointer", "id": "mouse", "parameters": {"pointerType": "mouse"}, "actions": [move]}
+        self.call("POST", "/actions", {"actions": [mouse]})
+
+    def keys(self, *names):
+        """Presses keys, one after the other; those joined by `+` together, as "Control+z"."""
+        actions = []
+        for name in names:
+            parts = [KEYS.get(it, it) for it in (name.split("+") if len(name) > 1 else [name])]
+            actions += [{"type": "keyDown", "value": it} for it in parts] + [{"type": "keyUp", "value": it} for it in parts[::-1]]
+        self.call("POST", "/actions", {"actions": [{"type": "key", "id": "keys", "actions": actions}]})
+
+    def type(self, css, text):
+        element = self.find(css)[ELEMENT]
+        self.call("POST", f"/element/{element}/clear")
+        self.call("POST", f"/element/{element}/value", {"text": text})
+
+    def log(self, kind):
+        return self.call("POST", "/se/log", {"type": kind})
+
+    def shot(self, path):
+        import base64
+
+        with open(path, "wb") as it:
+            it.write(base64.b64decode(self.call("GET", "/screenshot")))
+
+    def end(self):
+        self.call("DELETE", "")
+        self.line.close()
