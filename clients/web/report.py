@@ -1,10 +1,10 @@
-"""Writes a page for those who have no desk: what is decided, and each requirement's verdict with its reason. No script."""
+"""Writes a page for those who have no desk: what is decided, and each requirement's verdict with its reason."""
 import time
 from html import escape
 
 WORDS = {"h": "hopeless", "p": "possible", "s": "sure"}
 DONE = {"+": "selected", "-": "excluded"}
-LOOK = "body{font:15px/1.5 sans-serif;margin:2em;max-width:70em}th,td{text-align:left;vertical-align:top;padding:2px 1em 2px 0}"
+LOOK = "body{font:15px/1.5 sans-serif;margin:2em}th,td{text-align:left;vertical-align:top;padding:2px 1em 2px 0}"
 MOST = 500  # requirements of which the reason is asked
 
 
@@ -16,12 +16,16 @@ def report(desk):
     decisions = [f"{it['sign'][1:]} is {DONE[it['sign'][0]]} by {it['by']}" for it in page["decisions"]] or ["none"]
     rows = [row(desk, n, goal, page["verdicts"][n]) for n, goal in enumerate(family["goals"])]
     past = [f"{it['by']}: {', '.join(map(step, it['steps']))}. {it['note']}" for it in page["history"]]
-    return "\n".join([
-        f'<!doctype html><html lang="en"><meta charset="utf-8"><title>{escape(family["name"])}</title><style>{LOOK}</style>',
-        f"<h1>{escape(family['name'])}</h1><p>{time.strftime('%Y-%m-%d %H:%M')}, {left} products left, {escape(family['program'])}",
-        "<h2>Decisions</h2>", items(decisions), "<h2>Requirements</h2><table><tr><th>name<th>verdict<th>because of<th>text", *rows,
-        "</table><h2>History</h2>", items(past or ["nothing has happened"]), "",
-    ])  # fmt: skip
+    name, made = escape(family["name"]), f"{time.strftime('%Y-%m-%d %H:%M')}, {escape(family['program'])}"
+    parts = [
+        f'<!doctype html><html lang="en"><meta charset="utf-8"><title>{name}</title><style>{LOOK}</style>',
+        f"<h1>{name}</h1><p>{left} products left<p>{made}",
+        f"<h2>Decisions</h2>{items(decisions)}",
+        "<h2>Requirements</h2><table><tr><th>name<th>verdict<th>because of<th>text",
+        *rows,
+        f"</table><h2>History</h2>{items(past or ['nothing has happened'])}",
+    ]
+    return "\n".join(parts) + "\n"
 
 
 def items(lines):

@@ -80,7 +80,8 @@ class Server(ThreadingHTTPServer):
 
     def person(self, key):
         """Whose key this is. Each is compared, and in the same time."""
-        found = [it for it in self.people if hmac.compare_digest(it.key.encode(), (key or "").encode("utf-8", "replace"))]
+        given = (key or "").encode("utf-8", "replace")
+        found = [it for it in self.people if hmac.compare_digest(it.key.encode(), given)]
         if not found:
             raise Refusal(403, "NoKey", "This address lets nobody in. Open the one that the server wrote for you.")
         return found[0]
@@ -188,7 +189,8 @@ class Handler(BaseHTTPRequestHandler):
             of, note = body.get("of"), body.get("note") or ""
             if not (of is None or type(of) is int) or not isinstance(note, str):
                 raise ValueError
-            return self.answer(200, self.server.desk.change(person, body.get("steps"), of, " ".join(note.split())[:200]))
+            note = " ".join(note.split())[:200]
+            return self.answer(200, self.server.desk.change(person, body.get("steps"), of, note))
         raise Refusal(404, "NotFound", "There is nothing here.")
 
     def body(self):
@@ -320,7 +322,7 @@ def main():
     for person in people:
         print(f"{person.name}: {server.link(person)}", flush=True)
     if it.listen:
-        print("Plain HTTP: whoever can read this network's traffic can read along, and enter with what they read.", flush=True)
+        print("This is plain HTTP: whoever can read the network's traffic can read along, and can enter.", flush=True)
     if it.open:
         webbrowser.open(server.link(people[0]))
     try:

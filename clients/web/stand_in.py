@@ -1,4 +1,4 @@
-"""Carries out the page's requests until `vpgdesk share` does: one desk for several people, over two `vpgdesk run --json`.
+"""Carries out the page's requests until `vpgdesk share` does: a desk for several people, over `vpgdesk run --json`.
 
 One program has the page that all share. The other tries changes out: for previews, and so that the steps of a change
 are carried out whole or not at all. Nothing here is proved.
@@ -355,7 +355,8 @@ def checked(steps, names, undoes):
         if (argument is None and word != "reset") or set(step) != {"do", argument} - {None}:
             raise malformed
         if argument == "feature" and not (isinstance(step[argument], str) and step[argument] in names):
-            raise Refusal(409, "UnknownFeature", TEXTS["UnknownFeature"].format(it=str(step[argument])[:64]), step=number)
+            text = TEXTS["UnknownFeature"].format(it=str(step[argument])[:64])
+            raise Refusal(409, "UnknownFeature", text, step=number)
         if argument == "serial" and not (type(step[argument]) is int and 0 < step[argument] < 1 << 63):
             raise malformed
     kinds = {it["do"] for it in steps}
@@ -467,7 +468,8 @@ class Desk:
         return {"in": known[0].split()[1:], "out": known[1].split()[1:], "products": products}
 
     def short_page(self, **more):
-        undo, redo = ({k: it[-1][k] for k in ("serial", "session", "by")} if it else None for it in (self.done, self.undone))
+        ends = [it[-1] if it else None for it in (self.done, self.undone)]
+        undo, redo = [it and {name: it[name] for name in ("serial", "session", "by")} for it in ends]
         settled = {"at": self.at, "run": self.run, "settled": True, "decisions": self.standing}
         return {**settled, **self.seen, "undo": undo, "redo": redo, **more}
 
@@ -562,7 +564,8 @@ class Desk:
             tried = self.tried_out(steps)
             if "refused" in tried:
                 raise Refusal(409, **tried["refused"])
-        elif stack is not None and [it["serial"] for it in steps] != [it["serial"] for it in reversed(stack)][: len(steps)]:
+        newest = [it["serial"] for it in reversed(stack or [])][: len(steps)]
+        if stack is not None and [it["serial"] for it in steps] != newest:
             error = "NotNewest" if stack else "NoToken"
             raise Refusal(409, error, TEXTS[error])
         return self.carried_out(made, is_new=True)
@@ -578,10 +581,11 @@ class Desk:
             self.kept_in_book(made)
         tried = self.kept.get(json.dumps(made["steps"]), {})
         self.kept, self.seen = {}, self.look(self.main, tried.get("products"))
+        follow = ["+" + it for it in self.seen["in"] if it not in before["in"]]
+        follow += ["-" + it for it in self.seen["out"] if it not in before["out"]]
         decided = {it["sign"] for it in self.standing}
-        known = [sign + it for sign, part in (("+", "in"), ("-", "out")) for it in self.seen[part] if it not in before[part]]
         entry = {it: made[it] for it in ("time", "session", "by", "of", "note")}
-        entry |= {"entry": len(self.history) + 1, "steps": steps, "known": [it for it in known if it not in decided]}
+        entry |= {"entry": len(self.history) + 1, "steps": steps, "known": [it for it in follow if it not in decided]}
         self.history.append(entry)
         if is_new:
             self.next("change", entry=entry, page=self.short_page(at=self.at + 1, settled=False))

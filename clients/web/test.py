@@ -1,10 +1,11 @@
 #!/usr/bin/env python3
 """Tests the page in a headless Chromium, and its relay without a browser.
 
-    python3 clients/web/test.py [--program FILE] [--shots DIR] [WORD..]     with WORDs only the tests whose names have one
+    python3 clients/web/test.py [--program FILE] [--shots DIR] [WORD..]
 
-Without Chromium and its driver (Debian's `chromium` and `chromium-driver`) the tests of the page are skipped. The last
-line is `N passed, N failed, N skipped`; the exit status is 0 if none failed.
+With WORDs only the tests run whose names have one of them. Without Chromium and its driver (Debian's `chromium` and
+`chromium-driver`) the tests of the page are skipped. The last line is `N passed, N failed, N skipped`; the exit status
+is 0 if none failed.
 """
 import argparse
 import os

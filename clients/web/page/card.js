@@ -1,13 +1,11 @@
 // The card of the chosen requirement: each part is a question to the server, asked in the order in which they stand.
-import { $, h, put, dim, mark, digits, plain } from "./dom.js";
+import { $, h, put, dim, mark, digits, plain, LONG } from "./dom.js";
 import { desk, known, verb, step, back, ask, act, chip, takeBack } from "./desk.js";
 import { list } from "./goals.js";
 import { trace } from "./trace.js";
 
-const HOLDS = "It holds in every product that is left", FAILS = "It fails in every product that is left";
 const HEAD = {
-  h: FAILS + ".", s: HOLDS + ".", won: HOLDS + " (asked exactly).",
-  lost: FAILS + " (asked exactly: the cautious verdict does not see it).",
+  h: LONG.h + ".", s: LONG.s + ".", won: LONG.s + " (asked exactly).", lost: LONG.h + " (asked exactly).",
   mixed: "It holds in some products that are left, and fails in others.",
   empty: "No product is left.", unsettled: "A limit was met: nothing was shown.",
 };

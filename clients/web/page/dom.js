@@ -2,10 +2,9 @@
 
 export const $ = id => document.getElementById(id);
 export const WORDS = { h: "hopeless", p: "possible", s: "sure" };
-const LONG = {
-  h: "It fails in every product that is left",
-  p: "Nothing is shown yet: it may hold in all, some or none of the products left",
-  s: "It holds in every product that is left",
+export const LONG = {
+  h: "It fails in every product that is left", s: "It holds in every product that is left",
+  p: "It may hold in all, some or none of the products left",
 };
 const EXACT = {
   won: "holds in all", lost: "fails in all", mixed: "in some", empty: "no product left", unsettled: "not shown",

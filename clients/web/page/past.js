@@ -1,5 +1,5 @@
 // Who is here, the decisions that stand, the history, and undo and redo, which are about my own changes only.
-import { $, h, put, dim, WORDS } from "./dom.js";
+import { $, h, put, plain, WORDS } from "./dom.js";
 import { desk, standing, known, step, back, isUndo, change, act, chip } from "./desk.js";
 
 export function drawPeople() {
@@ -96,11 +96,10 @@ $("reset").onclick = () => change([{ do: "reset" }]);
 function entry(e, isUndone) {
   const time = new Date(e.time * 1000);
   const stands = e.steps.filter(s => !isUndo(s) && standing(s.feature)?.serial === s.serial);
-  const follow = e.known.slice(0, 5).map(s => (s[0] === "+" ? "✓ " : "✕ ") + s.slice(1)).join(", ");
   const label = stands.length > 1 ? `Take back ${stands.length}` : "Take back";
   return h("li", h("div.top", h("span", { class: isUndone && "gone" }, told(e)),
     h("time", { datetime: time.toISOString() }, time.toTimeString().slice(0, 5))), e.note && h("div.note", e.note),
   h("div.dim", isUndone ? "undone" : [
-    effects(e), follow && ` · follows ${follow}`, e.known.length > 5 && ` and ${e.known.length - 5} more`,
+    effects(e), e.known.length > 0 && [" · brings ", plain(e.known)],
     stands.length > 0 && [" ", act(label, stands.map(s => back("+" + s.feature)), { class: "quiet" })]]));
 }

@@ -10,6 +10,7 @@ const folded = new Set();
 let at = null; // the feature that the dock is about
 let shown = []; // the names in the rows, from top to bottom
 let docks = 0;
+const drawn = new Map(); // the rows, by feature or group, each with what it depends on
 
 export function growTree() {
   desk.family.features.forEach((f, place) => features.set(f.name, { ...f, place, kids: [], depth: 0 }));
@@ -28,11 +29,31 @@ export function drawTree() {
   const held = document.activeElement.closest("#tree") && at, top = $("tree").scrollTop;
   shown = [];
   addRows(rows, root(), 1, 1, find, found);
-  put($("tree"), rows.length ? rows : h("p.none", "No feature has this in its name."));
+  lay(rows.length ? rows : [h("p.none", "No feature has this in its name.")]);
   $("tree").scrollTop = top;
+  stopAt(rowOf(at) || $("tree").firstChild);
   if (held) rowOf(held)?.focus({ preventScroll: true });
   const all = desk.family.features.length;
   $("tcount").textContent = `${all - desk.marks.size} of ${all} open`;
+}
+
+// Puts rows into the tree; only the new ones, if the others stay where they are.
+function lay(rows) {
+  const old = [...$("tree").children];
+  const isSame = old.length === rows.length && rows.every((e, n) => e === old[n] || !e.isConnected);
+  if (!isSame) put($("tree"), rows);
+  else rows.forEach((e, n) => { if (e !== old[n]) old[n].replaceWith(e); });
+}
+
+// A row: the one that is there, if it depends on the same, or else a new one.
+function kept(name, key, depth, make) {
+  if (drawn.get(name)?.key !== key) {
+    const e = make();
+    e.style.setProperty("--d", depth);
+    e.classList.toggle("at", name === at);
+    drawn.set(name, { key, e });
+  }
+  return drawn.get(name).e;
 }
 
 // The features whose name has the text, and all above them.
@@ -49,7 +70,8 @@ function addRows(rows, f, place, of, find, found) {
   if (find && !found.has(f.name)) return;
   const open = f.kids.length > 0 && (find || !folded.has(f.name));
   shown.push(f.name);
-  rows.push(row(f, place, of, open));
+  const d = standing(f.name), k = known(f.name);
+  rows.push(kept(f.name, `${d?.serial} ${k} ${open}`, f.depth, () => row(f, place, of, open, d, k)));
   let group = null;
   (open ? f.kids : []).forEach((kid, n) => {
     if (kid.group != null && kid.group !== group) rows.push(groupRow(kid, f));
@@ -58,12 +80,10 @@ function addRows(rows, f, place, of, find, found) {
   });
 }
 
-function row(f, place, of, open) {
-  const d = standing(f.name), k = known(f.name);
+function row(f, place, of, open, d, k) {
   const state = d ? done(d.sign) + " by " + who(d) : { "+": "in, follows", "-": "out, follows" }[k] || "open";
-  const names = ["f", d ? "decided" : k && "known", k === "-" && "out", at === f.name && "at"].filter(Boolean).join(" ");
-  const e = h("div", {
-    class: names, role: "treeitem", id: "f" + f.place, tabindex: (at || root().name) === f.name ? 0 : -1,
+  return h("div", {
+    class: `f ${d ? "decided" : k && "known"} ${k === "-" && "out"}`, role: "treeitem", id: "f" + f.place, tabindex: -1,
     "aria-level": f.depth + 1, "aria-posinset": place, "aria-setsize": of,
     "aria-expanded": f.kids.length ? String(open) : null, "aria-checked": { "+": "true", "-": "false" }[k] || "mixed",
     "aria-label": `${f.name}, ${state}`,
@@ -73,8 +93,6 @@ function row(f, place, of, open) {
   h("span.box", cell(f.name, "+", "✓", d, k), cell(f.name, "-", "✕", d, k)),
   h("span", { class: "kind " + f.how, title: HOW[f.how] }), h("span", { class: "n", title: f.name }, f.name),
   d && h("span", { class: "who", title: d.by }, who(d)));
-  e.style.setProperty("--d", f.depth);
-  return e;
 }
 
 // A half of a feature's box. It is for the mouse: the tree has keys for the same.
@@ -89,10 +107,8 @@ function groupRow(kid, parent) {
   const { low, high } = desk.family.groups[kid.group], all = parent.kids.filter(it => it.group === kid.group);
   const inside = all.filter(it => known(it.name) === "+").length;
   const words = low === high ? "exactly " + low : high === all.length ? "at least " + low : `${low} to ${high}`;
-  const bounds = `[${low}..${high}] ${words} of ${all.length}`;
-  const e = h("div", { class: "g", role: "none" }, bounds, inside > 0 && ` · ${inside} in`);
-  e.style.setProperty("--d", parent.depth + 1);
-  return e;
+  const text = `[${low}..${high}] ${words} of ${all.length}` + (inside ? ` · ${inside} in` : "");
+  return kept(kid.group, text, kid.depth, () => h("div", { class: "g", role: "none" }, text));
 }
 
 // --- what is done in the tree
@@ -108,11 +124,16 @@ function pointAt(name) {
   at = name;
 }
 
+// Makes a row the one to which Tab leads.
+function stopAt(e) {
+  for (const it of $("tree").querySelectorAll("[tabindex='0']")) it.tabIndex = -1;
+  e.tabIndex = 0;
+}
+
 function focusOn(name) {
   const e = rowOf(name);
   if (!e) return;
-  for (const it of $("tree").querySelectorAll("[tabindex='0']")) it.tabIndex = -1;
-  e.tabIndex = 0;
+  stopAt(e);
   e.focus({ preventScroll: true });
   e.scrollIntoView({ block: "nearest" });
   pointAt(name);
@@ -145,13 +166,13 @@ $("tree").onkeydown = e => {
   const name = shown.includes(at) ? at : shown[0], i = shown.indexOf(name), f = features.get(name), d = standing(name);
   const visit = it => { focusOn(it); dock(it); }, open = f.kids.length && !folded.has(name);
   const go = n => visit(shown[Math.max(0, Math.min(shown.length - 1, n))]);
-  const takeBackIt = () => d && change([back(d.sign)]), main = () => press(name, known(name) || "+");
+  const away = () => d && change([back(d.sign)]), main = () => press(name, known(name) || "+");
   const keys = {
     ArrowDown: () => go(i + 1), ArrowUp: () => go(i - 1), Home: () => go(0), End: () => go(shown.length),
     ArrowRight: () => f.kids.length && (open ? go(i + 1) : fold(name)),
     ArrowLeft: () => open ? fold(name) : f.parent && visit(f.parent),
     "+": () => press(name, "+"), "-": () => press(name, "-"),
-    " ": main, Enter: main, Delete: takeBackIt, Backspace: takeBackIt,
+    " ": main, Enter: main, Delete: away, Backspace: away,
   };
   const starts = it => it.toLowerCase().startsWith(e.key.toLowerCase());
   if (keys[e.key]) { e.preventDefault(); keys[e.key](); }

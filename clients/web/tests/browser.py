@@ -1,14 +1,16 @@
 """A headless Chromium, driven by the W3C WebDriver protocol through Debian's `chromedriver`: for the tests alone."""
+import base64
 import http.client
 import json
 import os
+import re
 import shutil
 import subprocess
 import tempfile
 import time
 
-KEYS = {"Enter": "\ue007", "Escape": "\ue00c", "Down": "\ue015", "Up": "\ue013", "Right": "\ue014", "Left": "\ue012",
-        "Tab": "\ue004", "Delete": "\ue017", "Control": "\ue009", "Shift": "\ue008", "Home": "\ue011", "End": "\ue010"}  # fmt: skip
+KEYS = {"Enter": "\ue007", "Tab": "\ue004", "Delete": "\ue017", "Control": "\ue009", "Shift": "\ue008"}
+KEYS |= {"Down": "\ue015", "Up": "\ue013", "Right": "\ue014", "Left": "\ue012", "Home": "\ue011", "End": "\ue010"}
 ELEMENT = "element-6066-11e4-a52e-4f735466cecf"  # the protocol's name of an element's identifier
 
 
@@ -17,9 +19,9 @@ class Driver:
 
     def __init__(self):
         self.folder = tempfile.TemporaryDirectory(prefix="page_test_", ignore_cleanup_errors=True)
-        words = [shutil.which("chromedriver"), "--port=0"]
+        streams = {"stdout": subprocess.PIPE, "stderr": subprocess.DEVNULL, "text": True}
         environment = {**os.environ, "TMPDIR": self.folder.name}
-        self.child = subprocess.Popen(words, stdout=subprocess.PIPE, stderr=subprocess.DEVNULL, text=True, env=environment)
+        self.child = subprocess.Popen([shutil.which("chromedriver"), "--port=0"], env=environment, **streams)
         self.port = None
         for line in self.child.stdout:
             if "started successfully on port " in line:
@@ -45,10 +47,10 @@ class Browser:
 
     def __init__(self, port, width, height, dark):
         self.line, self.here = http.client.HTTPConnection("127.0.0.1", port, timeout=60), ""
-        words = ["--headless=new", "--no-sandbox", "--disable-gpu", "--disable-dev-shm-usage", "--no-first-run", "--mute-audio",
-                 "--disable-background-networking", "--disable-component-update", "--hide-scrollbars", "--disable-extensions",
-                 f"--window-size={width},{height}"]  # fmt: skip
-        options = {"args": words, "binary": shutil.which("chromium") or shutil.which("chrome")}
+        words = ["headless=new", "no-sandbox", "disable-gpu", "disable-dev-shm-usage", "no-first-run", "mute-audio"]
+        words += ["disable-background-networking", "disable-component-update", "hide-scrollbars", "disable-extensions"]
+        words.append(f"window-size={width},{height}")
+        options = {"args": [f"--{it}" for it in words], "binary": shutil.which("chromium") or shutil.which("chrome")}
         logs = {"performance": "ALL", "browser": "ALL"}
         always = {"browserName": "chrome", "goog:chromeOptions": options, "goog:loggingPrefs": logs}
         self.here = "/session/" + self.call("POST", "/session", {"capabilities": {"alwaysMatch": always}})["sessionId"]
@@ -105,7 +107,7 @@ class Browser:
             try:
                 return self.call("POST", f"/element/{element}/click")
             except RuntimeError as it:
-                if attempt == 19 or not any(word in str(it) for word in ("stale", "intercepted", "interactable", "not found")):
+                if attempt == 19 or not re.search("stale|intercepted|interactable|not found", str(it)):
                     raise
                 time.sleep(0.05)
 
@@ -120,7 +122,8 @@ class Browser:
         actions = []
         for name in names:
             parts = [KEYS.get(it, it) for it in (name.split("+") if len(name) > 1 else [name])]
-            actions += [{"type": "keyDown", "value": it} for it in parts] + [{"type": "keyUp", "value": it} for it in parts[::-1]]
+            actions += [{"type": "keyDown", "value": it} for it in parts]
+            actions += [{"type": "keyUp", "value": it} for it in reversed(parts)]
         self.call("POST", "/actions", {"actions": [{"type": "key", "id": "keys", "actions": actions}]})
 
     def type(self, css, text):
@@ -132,8 +135,6 @@ class Browser:
         return self.call("POST", "/se/log", {"type": kind})
 
     def shot(self, path):
-        import base64
-
         with open(path, "wb") as it:
             it.write(base64.b64decode(self.call("GET", "/screenshot")))
 

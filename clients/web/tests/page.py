@@ -1,14 +1,17 @@
 """Tests of the page in a browser: what a newcomer and a team do, and what a script can check of how it looks."""
+import json
 import os
 import time
 
 from tests.browser import Driver
-from tests.relay import HOSTILE, PROGRAM, Relay, example, hidden_conflict, hostile, kill, run, scratch, train, verdicts
+from tests.relay import HOSTILE, Relay, example, hidden_conflict, hostile, kill, scratch, train, verdicts
 
 VENDING, LIFT = example("vending_system"), example("elevator_system")
 ROWS = """[...document.querySelectorAll('.r')].map(r =>
     [r.querySelector('.n').firstChild.data, r.querySelector('.v').textContent])"""
-AT_REST = "document.querySelector('.r') && !document.querySelector('.working, .lost') && document.querySelector('#left b')"
+AT_REST = "document.querySelector('.r') && !document.querySelector('.working, .lost')"
+with open(os.path.join(os.path.dirname(os.path.abspath(__file__)), "looks.js"), encoding="utf-8") as file:
+    LOOKS = file.read()
 QUIET = AT_REST + " && !/Working|Trying/.test(document.body.innerText)"
 BYTES = 60000  # of the page
 
@@ -31,7 +34,7 @@ class Room:
     def shot(self, browser, name):
         """Looks for cut and overlapping text, and takes a picture if pictures are wanted."""
         time.sleep(0.4)
-        faults = browser.run("return (" + CUT + ")()")
+        faults = browser.run(LOOKS + "return cuts()")
         assert not faults, (name, faults)
         if self.shots:
             os.makedirs(self.shots, exist_ok=True)
@@ -50,7 +53,8 @@ def box(feature, sign):
 
 def says(browser, text, css="body"):
     """Waits until the page has this text."""
-    browser.wait("document.querySelector(arguments[0])?.innerText.replace(/\\s+/g, ' ').includes(arguments[1])", css, text)
+    words = "document.querySelector(arguments[0])?.innerText.replace(/\\s+/g, ' ')"
+    browser.wait(words + ".includes(arguments[1])", css, text)
 
 
 def same_as_run(browser, family, script):
@@ -59,28 +63,6 @@ def same_as_run(browser, family, script):
     words = verdicts(family, script, [name for name, _ in goals])
     wanted = [[name, word] for (name, _), word in zip(goals, words)]
     browser.wait(f"JSON.stringify({ROWS}) === JSON.stringify(arguments[0])", wanted)
-
-
-# Text that is cut without dots, rows of one line that overlap, and what sticks out of the window.
-CUT = """() => {
-  const faults = [], say = e => e.tagName + "." + e.className + ": " + e.textContent.slice(0, 40);
-  for (const e of document.querySelectorAll("body *")) {
-    if (!e.getClientRects().length || e.closest(".hide, .skip, svg, symbol")) continue;
-    const style = getComputedStyle(e);
-    const cut = style.overflowX === "hidden" && style.textOverflow !== "ellipsis" && e.scrollWidth > e.clientWidth + 1;
-    if (cut && e.children.length === 0) faults.push("cut " + say(e));
-    const kids = ["flex", "inline-flex"].includes(style.display) ? [...e.children].filter(it => it.getClientRects().length) : [];
-    const rects = kids.filter(it => getComputedStyle(it).position === "static").map(it => it.getBoundingClientRect());
-    rects.forEach((a, n) => rects.slice(n + 1).forEach(b => {
-      const wide = Math.min(a.right, b.right) - Math.max(a.left, b.left), high = Math.min(a.bottom, b.bottom) - Math.max(a.top, b.top);
-      if (wide > 1 && high > 1 && style.display && !e.matches("#people")) faults.push("overlap in " + say(e));
-    }));
-    const r = e.getBoundingClientRect();
-    if (r.width && (r.right > innerWidth + 1 || r.left < -1) && !e.closest("#card, #list, #tree, #past")) faults.push("outside " + say(e));
-  }
-  if (document.documentElement.scrollWidth > innerWidth) faults.push("wider than the window");
-  return faults.slice(0, 9);
-}"""
 
 
 # --- what a newcomer does
@@ -180,7 +162,7 @@ def two_people_at_once(room):
 
 def the_keyboard_alone_is_enough(room):
     """From the address on: excludes tea in the tree, finds the requirement in the list, takes back on its card."""
-    focus = "(document.activeElement.getAttribute('aria-label') || document.activeElement.id || document.activeElement.innerText)"
+    focus = "(e => e.getAttribute('aria-label') || e.id || e.innerText)(document.activeElement)"
 
     def tab_to(it, text):
         for _ in range(60):
@@ -279,11 +261,12 @@ def hostile_names_are_text(room):
         it.type("#note", HOSTILE)
         it.click(box("a", "-"))
         says(it, HOSTILE, "#past")
-        for css, text in (("#family", "<img"), ("#me", "<img"), (".r .n", quiet), ("#list", "</span><script>"), ("#list", "&lt;b&gt; {}")):
+        for css, text in (("#family", "<img"), ("#me", "<img"), (".r .n", quiet), ("#list", "</span><script>")):
             says(it, text, css)
+        says(it, "&lt;b&gt; {}", "#list")
         it.click(".r .n")
         says(it, quiet, "#card h2")
-        it.wait("document.querySelectorAll('#card section').length > 1 && !document.querySelector('#card').innerText.includes('Working')")
+        it.wait(QUIET)
         assert it.run("return [window.hacked, document.querySelectorAll('img, body script').length]") == [None, 0]
 
 
@@ -302,13 +285,16 @@ def what_is_saved(room):
         while not all(os.path.exists(name) for name in names) and time.monotonic() < end:
             time.sleep(0.05)
         texts = [open(name, encoding="utf-8").read() for name in names]
-        assert texts[0] == "vending\nbeverages\nsoda\n" and 'manual="unselected" name="tea"' in texts[1] and texts[2] == "exclude tea\n"
-        assert "<script" not in texts[3] and "<td>tea_stays<td>hopeless<td>tea excluded<td>" in texts[3] and "no tea" in texts[3]
+        assert texts[0] == "vending\nbeverages\nsoda\n" and texts[2] == "exclude tea\n", texts
+        assert 'manual="unselected" name="tea"' in texts[1], texts[1]
+        assert "<td>tea_stays<td>hopeless<td>tea excluded<td>" in texts[3] and "no tea" in texts[3], texts[3]
+        assert "<script" not in texts[3]
 
 
 def two_thousand_requirements(room):
     with scratch() as folder:
-        family = train(f"{folder}/train", 100, 2000, "door {0} of the train, which has very many of them, opens again and again, whatever happens")
+        name = "door {0} of the train, which has very many of them, opens again and again, whatever happens"
+        family = train(f"{folder}/train", 100, 2000, name)
         with Relay(family) as relay:
             it = opened(room.ann, relay)
             says(it, "All 2,000", "#chips")
@@ -345,7 +331,7 @@ def five_hundred_features(room):
         it, clicks, draws = opened(room.ann, relay), [], []
         assert it.run("return document.querySelectorAll('[role=treeitem]').length") == 512
         it.run(hear)
-        for _ in range(8):  # each time once all answers to the last one are there, and after a look ahead, as people do it
+        for _ in range(8):  # each time once all answers are there, and after a look ahead, as people do it
             it.wait(QUIET)
             it.hover("[role=treeitem][aria-label^='door3_0,'] .n")
             it.wait("document.querySelector('#dock b')?.innerText === 'door3_0'")
@@ -369,11 +355,11 @@ def narrow_windows_have_three_tabs(room):
         it.size(420, 800)
         try:
             opened(it, relay)
-            visible = "[...document.querySelectorAll('main > section')].filter(e => e.getClientRects().length).map(e => e.className)"
+            visible = "[...document.querySelectorAll('main > *')].filter(e => e.offsetParent).map(e => e.className)"
             for name, shown in (("Features", "tree"), ("History", "past"), ("Requirements", "goals")):
                 it.click(f"nav [data-tab={shown}]")
                 assert it.run("return " + visible) == [shown], name
-                faults = it.run("return (" + CUT + ")()")
+                faults = it.run(LOOKS + "return cuts()")
                 assert not faults, (name, faults)
             it.click(".r:nth-child(4)")
             says(it, "products left meet", "#card")
@@ -398,28 +384,10 @@ def dark_and_wide(room):
             it.click("#card button", "Next step ▸")
             says(it, "2 of", "#card")
             room.shot(it, "4_wide_and_dark")
-            assert not (faults := it.run("return (" + CONTRAST + ")()")), faults
+            assert not (faults := it.run(LOOKS + "return faint()")), faults
         finally:
             it.size(1360, 860)
             it.dark(False)
-
-
-# The texts whose contrast with what is below them is under 4.5 to 1, disabled ones left out.
-CONTRAST = """() => {
-  const part = c => { c /= 255; return c <= .03928 ? c / 12.92 : ((c + .055) / 1.055) ** 2.4; };
-  const parse = c => c.match(/[\\d.]+/g).map(Number), light = ([r, g, b]) => .2126 * part(r) + .7152 * part(g) + .0722 * part(b);
-  const ground = e => { for (; e; e = e.parentElement) {
-    const c = parse(getComputedStyle(e).backgroundColor); if (c.length < 4 || c[3] > .5) return c; } return [255, 255, 255]; };
-  const faults = new Set();
-  for (const e of document.querySelectorAll("body *")) {
-    const own = [...e.childNodes].some(n => n.nodeType === 3 && n.data.trim());
-    if (!own || !e.getClientRects().length || e.closest(":disabled, .hide, .skip, .later, svg, style, script")) continue;
-    const a = light(parse(getComputedStyle(e).color)), b = light(ground(e));
-    const ratio = (Math.max(a, b) + .05) / (Math.min(a, b) + .05);
-    if (ratio < 4.5) faults.add(`${ratio.toFixed(2)} ${e.tagName}.${e.className} in ${e.parentElement.className}: ${e.textContent.slice(0, 20)}`);
-  }
-  return [...faults];
-}"""
 
 
 def contrast_and_roles(room):
@@ -429,16 +397,16 @@ def contrast_and_roles(room):
         it = opened(room.ann, relay)
         it.click(".r")
         it.wait("document.querySelectorAll('.t li').length > 9")
-        assert not (faults := it.run("return (" + CONTRAST + ")()")), faults
+        assert not (faults := it.run(LOOKS + "return faint()")), faults
         it.tools("Accessibility.enable")
         nodes = [n for n in it.tools("Accessibility.getFullAXTree")["nodes"] if not n.get("ignored")]
         role = lambda n: n["role"]["value"]
-        used = ("button", "textbox", "searchbox", "treeitem", "option", "tree", "listbox", "checkbox", "link", "region", "article")
+        used = "button textbox searchbox treeitem option tree listbox checkbox link region article".split()
         nameless = [n for n in nodes if role(n) in used and not n.get("name", {}).get("value")]
         assert not nameless, nameless[:3]
         roles = {role(n) for n in nodes}
-        for name in ("tree", "treeitem", "listbox", "option", "status", "alert", "main", "navigation", "heading", "article"):
-            assert name in roles or name in ("navigation", "alert"), (name, roles)
+        for name in "tree treeitem listbox option status main heading article region button".split():
+            assert name in roles, (name, roles)
         has = it.run("return [...document.querySelectorAll('[role=alert], nav')].length")
         level = it.run("return document.querySelector(\"[aria-label^='tea,']\").ariaLevel")
         assert has == 2 and level == "3"
@@ -446,8 +414,6 @@ def contrast_and_roles(room):
 
 def nothing_is_fetched_elsewhere(room):
     """The requests of a whole visit go to the relay; the page has less than 60,000 bytes, and breaks no policy."""
-    import json
-
     with Relay(VENDING) as relay:
         it = room.ann
         it.open("about:blank")
@@ -478,22 +444,38 @@ def a_game_is_shown(room):
     with Relay(family) as relay:
         relay.client().change("-remote")
         it = opened(room.ann, relay)
-        rows, seen = {}, "JSON.stringify([...document.querySelectorAll('.r')].map(r => r.id))"
+        rows = {}
+        words = "return [...document.querySelectorAll('.r')].map(r => [r.id, r.querySelector('.v').textContent])"
         for top in range(0, 148 * 30, 600):
             it.run("document.querySelector('#list').scrollTop = arguments[0]", top)
             it.wait(f"document.querySelector('#g{min(147, top // 30)}')")
-            rows |= dict(it.run("return [...document.querySelectorAll('.r')].map(r => [r.id, r.querySelector('.v').textContent])"))
+            rows |= dict(it.run(words))
         goals = [goal["id"] for goal in relay.client().ask("family")[1]["goals"]]
-        assert [rows[f"g{n}"] for n in range(148)] == verdicts(family, ["exclude remote"], goals), seen
+        assert [rows[f"g{n}"] for n in range(148)] == verdicts(family, ["exclude remote"], goals)
         it.click("#chips button:nth-child(2)")
         it.click(".r")
         it.wait("document.querySelectorAll('.t li').length > 1")
 
 
 TESTS = [
-    a_newcomer_finds_who_lost_the_tea, a_look_ahead_changes_nothing, a_conflict_is_refused_and_explained, undo_and_redo_are_mine,
-    two_people_at_once, the_keyboard_alone_is_enough, a_reload_in_the_middle, a_relay_killed_and_back, a_program_killed,
-    a_wrong_address_is_explained, no_product_left_is_explained, hostile_names_are_text, what_is_saved, two_thousand_requirements,
-    five_hundred_features, narrow_windows_have_three_tabs, dark_and_wide, contrast_and_roles, nothing_is_fetched_elsewhere,
+    a_newcomer_finds_who_lost_the_tea,
+    a_look_ahead_changes_nothing,
+    a_conflict_is_refused_and_explained,
+    undo_and_redo_are_mine,
+    two_people_at_once,
+    the_keyboard_alone_is_enough,
+    a_reload_in_the_middle,
+    a_relay_killed_and_back,
+    a_program_killed,
+    a_wrong_address_is_explained,
+    no_product_left_is_explained,
+    hostile_names_are_text,
+    what_is_saved,
+    two_thousand_requirements,
+    five_hundred_features,
+    narrow_windows_have_three_tabs,
+    dark_and_wide,
+    contrast_and_roles,
+    nothing_is_fetched_elsewhere,
     a_game_is_shown,
-]  # fmt: skip
+]

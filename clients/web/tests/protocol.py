@@ -2,10 +2,12 @@
 import http.client
 import json
 import socket
+import subprocess
+import sys
 import threading
 import time
 
-from tests.relay import PROGRAM, ROOT, Relay, example, hidden_conflict, kill, rng, run, scratch, train, verdicts, write
+from tests.relay import PROGRAM, WEB, Relay, example, hidden_conflict, kill, rng, run, scratch, train, verdicts, write
 
 VENDING = example("vending_system")
 
@@ -89,10 +91,11 @@ def only_keys_let_in():
     with Relay(VENDING, "Ann", "Ben") as relay:
         it = relay.client()
         key, before = it.key, it.page()
-        wrong = ["", key[:-1], key + "x", key.swapcase(), "x" * 5000, key[1:] + key[0], f" {key}.", "../" + key, "é" * 22]
+        wrong = ["", key[:-1], key + "x", key.swapcase(), "x" * 5000, key[1:] + key[0], f" {key}.", "../" + key]
+        wrong.append("é" * 22)
         for name in wrong:
             it.key = name.encode("utf-8").decode("latin-1")
-            for path in ("family", "page", "events", "ask?what=empty", "export?form=config", f"page?key={key}", "nothing"):
+            for path in ("family", "page", "events", "ask?what=empty", "export?form=xml", f"page?key={key}", "x"):
                 status, said = it.raw("GET", "/api/" + path)
                 assert status == 403 and key.encode() not in said, (name, path, status)
             assert it.change("-tea")[0] == 403, name
@@ -105,11 +108,12 @@ def only_own_hosts_and_origins():
         it, before = relay.client(), relay.client().page()
         host, body = relay.host, json.dumps({"steps": [{"do": "exclude", "feature": "tea"}]})
         foreign = [{"Host": "evil.example"}, {"Host": f"evil.example:{relay.port}"}, {"Host": ""}, {"Host": host + "."}]
-        foreign += [{"Origin": it} for it in ("http://evil.example", "null", f"https://{host}", f"http://{host}.evil", "")]
+        foreign += [{"Origin": it} for it in ("http://evil.example", "null", f"https://{host}", f"http://{host}.e", "")]
         foreign += [{"Sec_Fetch_Site": "cross-site"}, {"Sec_Fetch_Site": "same-site"}]
         for headers in foreign:
             for method, path in (("GET", "/api/page"), ("POST", "/api/change")):
-                status, said = it.raw(method, path, body if method == "POST" else None, Content_Type="application/json", **headers)
+                data = body if method == "POST" else None
+                status, said = it.raw(method, path, data, Content_Type="application/json", **headers)
                 assert status == 403, (headers, status, said)
         assert it.raw("GET", "/", Host="evil.example")[0] == 403
         assert it.raw("OPTIONS", "/api/change", Origin="http://evil.example")[0] == 501
@@ -121,10 +125,12 @@ def every_answer_has_its_headers():
     with Relay(VENDING) as relay:
         for path in ("/", "/app.js", "/style.css", "/api/page", "/nothing", "/api/export?form=script", "/../serve.py"):
             with socket.create_connection(("127.0.0.1", relay.port)) as line:
-                line.sendall(f"GET {path} HTTP/1.1\r\nHost: {relay.host}\r\nX-Key: {relay.key}\r\nConnection: close\r\n\r\n".encode())
+                lines = (f"Host: {relay.host}", f"X-Key: {relay.key}", "Connection: close")
+                line.sendall(asked("", "", *lines, first=f"GET {path} HTTP/1.1"))
                 head = all_of(line).partition(b"\r\n\r\n")[0].decode().lower()
-            for name in ("content-security-policy: default-src 'none'; script-src 'self'", "x-content-type-options: nosniff",
-                         "referrer-policy: no-referrer", "cache-control: no-store", "cross-origin-resource-policy: same-origin"):  # fmt: skip
+            names = ["content-security-policy: default-src 'none'; script-src 'self'"]
+            names += ["x-content-type-options: nosniff", "referrer-policy: no-referrer", "cache-control: no-store"]
+            for name in (*names, "cross-origin-resource-policy: same-origin"):
                 assert name in head, (path, name, head)
             assert "set-cookie" not in head and "access-control" not in head
 
@@ -142,25 +148,28 @@ def all_of(line):
 
 def malformed_bodies_change_nothing():
     good = {"do": "exclude", "feature": "tea"}
-    steps = [None, [], {}, "x", [None], [[]], [{}], [{"do": "exclude"}], [{**good, "more": 1}], [{"do": ["exclude"], "feature": "tea"}],
-             [{"do": "exclude", "feature": ["tea"]}], [{"do": "exclude", "feature": "tea\nexclude soda"}], [{"do": "quit"}],
-             [{"do": "reset", "feature": "tea"}], [{"do": "undo", "serial": "1"}], [{"do": "undo", "serial": True}],
-             [{"do": "undo", "serial": -1}], [{"do": "undo", "serial": 10**18}], [{"do": "undo", "serial": 1}, good],
-             [{"do": "retract", "feature": "tea"}], [{"do": "select", "feature": "nothing"}], [good] * 513, [good, good]]  # fmt: skip
+    undo = {"do": "undo", "serial": 1}
+    steps = [None, [], {}, "x", [None], [[]], [{}], [{"do": "exclude"}], [{"do": "quit"}], [{**good, "more": 1}]]
+    steps += [[{**good, "do": it}] for it in (["exclude"], "retract", "reset", "undo", None, 7)]
+    steps += [[{**good, "feature": it}] for it in (["tea"], "tea\nexclude soda", "nothing", "", None, 7)]
+    steps += [[{**undo, "serial": it}] for it in ("1", True, -1, 10**18, 1.5, None)]
+    steps += [[undo, good], [good] * 513, [good, good]]
     with Relay(VENDING) as relay:
         it, before = relay.client(), relay.client().page()
         for them in steps:
             for path in ("preview", "change"):
                 status, said = it.ask(path, {"steps": them})
                 assert status in (400, 409) or path == "preview" and "refused" in said, (them, status, said)
-        bodies = [b"", b"{", b"[]", b"null", b"\xff", b"[" * 60000, b'{"steps":' + b"9" * 60000 + b"}", b'{"steps":[],"steps":1e999}']
+        bodies = [b"", b"{", b"[]", b"null", b"\xff", b"[" * 60000, b'{"steps":[],"steps":1e999}']
+        bodies.append(b'{"steps":' + b"9" * 60000 + b"}")
         for body in bodies:
             assert it.raw("POST", "/api/change", body, Content_Type="application/json")[0] == 400, body[:40]
         assert it.raw("POST", "/api/change", b"{}", Content_Type="text/plain")[0] == 415
         assert it.raw("POST", "/api/change", b"{" + b" " * 70000, Content_Type="application/json")[0] == 413
         for more in ({"of": "1"}, {"of": 1.5}, {"note": 7}, {"note": {"a": 1}}):
             assert it.ask("change", {"steps": [good], **more})[0] == 400, more
-        for query in ("what=why", "what=why&about=x", "what=why&about=0%0Aexclude%20tea", "what=quit&about=0", "what=winners&about=tea"):
+        queries = ["what=why", "what=why&about=x", "what=why&about=0%0Aexclude%20tea", "what=quit&about=0"]
+        for query in (*queries, "what=winners&about=tea", "", "what", "&" * 99):
             assert it.raw("GET", "/api/ask?" + query)[0] == 400, query
         assert it.page() == before
 
@@ -182,7 +191,7 @@ def hostile_request(random, relay):
     words = random.choice(["GET", "POST", "PUT", "G" * 70000, "", "GET GET"])
     lengths = random.choice([10**9, 70000, 10**30, -1, "+3", "1e3", ""])
     other = random.choice(["evil.example", "127.0.0.1", "localhost:1", "[::1]:80", relay.host + "@evil"])
-    way = random.choice(["../" * 9, "%2e%2e/", "..%5c", "//", "\\"]) + random.choice(["serve.py", "etc/passwd", "tests/x"])
+    way = random.choice(["../" * 9, "%2e%2e/", "..%5c", "//", "\\"]) + random.choice(["serve.py", "etc/passwd", "x"])
     hidden = asked("/api/change", CHANGE, host, key, length).decode()
     kinds = [
         lambda: bytes(random.randrange(256) for _ in range(random.randrange(400))),
@@ -195,7 +204,7 @@ def hostile_request(random, relay):
         lambda: asked(path, hidden, host, f"Content-Length: {len(hidden)}"),  # a request in the body of a refused one
         lambda: asked(path, CHANGE, host, key, length, "Content-Length: 0"),
         lambda: asked(path, "", host, *(f"X-{n}: {'y' * random.randrange(900)}" for n in range(120))),
-        lambda: asked(path, CHANGE[: random.randrange(len(CHANGE))], host, key, length),  # cut in the middle of the body
+        lambda: asked(path, CHANGE[: random.randrange(len(CHANGE))], host, key, length),  # its body is cut
         lambda: asked("", "", host, first=f"GET /{way} HTTP/1.1"),
     ]
     return random.choice(kinds)()
@@ -261,9 +270,9 @@ def a_program_that_is_killed_begins_again():
         it.change("+free")
         before = it.page()
         assert [e["note"] for e in before["history"]] == ["no tea", ""]
-        for n, step in enumerate(({"do": "reset"}, {"do": "retract", "feature": "tea"}, {"do": "exclude", "feature": "cancel"})):
+        for n, feature in enumerate(("tea", "free", "soda")):  # another one each time: no answer is kept
             kill(*relay.programs()[n % 2 :])
-            assert it.ask("preview", {"steps": [step]})[0] == 200
+            assert it.ask("preview", {"steps": [{"do": "retract", "feature": feature}]})[0] == 200
             assert it.page() == before and len(relay.programs()) == 2
         kill(relay.programs()[0])
         assert it.ask("change", {"steps": [{"do": "undo", "serial": 2}]})[0] == 200
@@ -285,7 +294,8 @@ def a_book_keeps_what_was_acknowledged():
                 people = [relay.client(0), relay.client(1)]
                 try:
                     while True:
-                        status, said = random.choice(people).change(random.choice("+-~") + random.choice(["cancel", "free", "tea"]))
+                        sign = random.choice("+-~") + random.choice(["cancel", "free", "tea"])
+                        status, said = random.choice(people).change(sign)
                         acknowledged += [said["serials"]] if status == 200 else []
                 except (OSError, ValueError, http.client.HTTPException):
                     killer.join()
@@ -321,10 +331,7 @@ def books_are_refused_untouched():
 
 def refusal(family, book):
     """What the relay says when it cannot begin."""
-    import subprocess
-    import sys
-
-    words = [sys.executable, f"{ROOT}/clients/web/serve.py", family, "--program", PROGRAM[0], "--port", "0", "--book", book]
+    words = [sys.executable, f"{WEB}/serve.py", family, "--program", PROGRAM[0], "--port", "0", "--book", book]
     ran = subprocess.run(words, capture_output=True, text=True, timeout=60, check=False)
     assert ran.returncode == 1 and not ran.stdout, ran
     return ran.stderr
@@ -340,7 +347,7 @@ def no_product_left_is_said():
 
 def each_example_is_served():
     """Every family of examples/: its page is that of `vpgdesk run`, and every question has an answer."""
-    for name in ("vending_system", "mine_pump_system", "elevator_system", "alternating_bit", "mine_pump", "body_comfort"):
+    for name in "vending_system mine_pump_system elevator_system alternating_bit mine_pump body_comfort".split():
         with Relay(example(name)) as relay:
             it = relay.client()
             family = it.ask("family")[1]
@@ -367,9 +374,20 @@ def large_families_are_quick():
 
 
 TESTS = [
-    answers_are_those_of_run, a_change_is_whole_or_not_at_all, a_preview_changes_nothing_and_comes_true, events_make_the_page,
-    only_keys_let_in, only_own_hosts_and_origins, every_answer_has_its_headers, malformed_bodies_change_nothing,
-    many_idle_connections_end, a_program_that_is_killed_begins_again, a_book_keeps_what_was_acknowledged,
-    books_are_refused_untouched, no_product_left_is_said, each_example_is_served, large_families_are_quick,
+    answers_are_those_of_run,
+    a_change_is_whole_or_not_at_all,
+    a_preview_changes_nothing_and_comes_true,
+    events_make_the_page,
+    only_keys_let_in,
+    only_own_hosts_and_origins,
+    every_answer_has_its_headers,
+    malformed_bodies_change_nothing,
+    many_idle_connections_end,
+    a_program_that_is_killed_begins_again,
+    a_book_keeps_what_was_acknowledged,
+    books_are_refused_untouched,
+    no_product_left_is_said,
+    each_example_is_served,
+    large_families_are_quick,
     ten_thousand_hostile_requests,
-]  # fmt: skip
+]

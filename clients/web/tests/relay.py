@@ -1,4 +1,4 @@
-"""What the tests share: a relay that is started and killed, a client without a browser, families, and what `run` answers."""
+"""What the tests share: a relay that is started and killed, a client of it, families, and what `run` answers."""
 import http.client
 import json
 import os
@@ -61,7 +61,8 @@ class Client:
         """The status and the bytes of an answer."""
         line = http.client.HTTPConnection(self.host, timeout=60)
         try:
-            line.request(method, path, body, {"X-Key": self.key, **{k.replace("_", "-"): v for k, v in headers.items()}})
+            given = {name.replace("_", "-"): value for name, value in headers.items()}
+            line.request(method, path, body, {"X-Key": self.key, **given})
             answer = line.getresponse()
             return answer.status, answer.read()
         finally:
@@ -151,7 +152,8 @@ def train(folder, features, vertices, name="door {0} of the train opens again an
     game, last = [f"parity {vertices};", "start 0;"], vertices - 2
     for n in range(last):
         door, other = doors[n * 3 % len(doors)], doors[(n * 3 + 1) % len(doors)]
-        game.append(f'{n} {2 * (n % 2)} {n % 2} {n}[{door}],{(n + 1) % last}[{door} & {other}],{last}[!{door}] "{name.format(n)}";')
+        ways = f"{n}[{door}],{(n + 1) % last}[{door} & {other}],{last}[!{door}]"
+        game.append(f'{n} {2 * (n % 2)} {n % 2} {ways} "{name.format(n)}";')
     game += [f'{last} 1 0 {last} "a door stays shut";', f'{last + 1} 2 0 {last + 1} "all is well";']
     return write(folder, diagram="\n".join(lines) + "\n", game="\n".join(game) + "\n")
 
@@ -159,7 +161,8 @@ def train(folder, features, vertices, name="door {0} of the train opens again an
 def hostile(folder):
     """A family whose names try to be markup: vertices, comments and the folder itself."""
     quiet = HOSTILE.replace('"', "")
-    game = f'parity 2;\nstart 0;\n0 0 0 0[a],1 "{quiet}";\n1 1 0 1 "</span><script>hacked=1</script>";\n2 2 1 2 "&lt;b&gt; {{}}";\n'
+    names = (quiet, "</span><script>hacked=1</script>", "&lt;b&gt; {}")
+    game = "start 0;\n" + "".join(f'{n} {n} {n % 2} {n}[a],1 "{name}";\n' for n, name in enumerate(names))
     return write(f"{folder}/<img src=x onerror=window.hacked=1>", diagram="root r\noptional r a\n", game=game)
 
 
