@@ -1,7 +1,8 @@
 """Carries out the page's requests until `vpgdesk share` does: a desk for several people, over `vpgdesk run --json`.
 
-One program has the page that all share. The other tries changes out: for previews, and so that the steps of a change
-are carried out whole or not at all. Nothing here is proved.
+Three programs run. One has the page that all share. Two follow its decisions: one answers questions, so that these
+hold up no change, and one tries changes out, for previews, and so that several steps are carried out all or none.
+Nothing here is proved.
 
 `serve.py` uses only `Desk`, `Refusal` and `Unusable`, and of a desk the names below. The module for `vpgdesk share`
 will have the same ones, and then replaces this file:
@@ -95,6 +96,45 @@ class Program:
                 pipe.close()
             except OSError:
                 pass
+
+
+class Follower:
+    """A program that takes over the decisions of the page, for one piece of work at a time beside it."""
+
+    def __init__(self, words):
+        self.words, self.lock, self.program, self.stand = words, threading.Lock(), None, []
+
+    def carry_out(self, stand, work):
+        """What `work` returns, given a settled program with these decisions; once more if the program has ended."""
+        with self.lock:
+            try:
+                self.follow(stand)
+                return work(self.program)
+            except Ended:
+                self.program = None
+            try:
+                self.follow(stand)
+                return work(self.program)
+            except (Ended, OSError) as it:
+                self.program = None
+                raise Refusal(503, "Gone", "The program has ended at this question.") from it
+
+    def follow(self, stand):
+        """Makes the decisions those of the page, in the same order, since reasons depend on it."""
+        if not self.program:
+            self.program, self.stand = Program(self.words), []
+            self.program.ask("settle")
+        same = 0
+        while same < min(len(stand), len(self.stand)) and stand[same] == self.stand[same]:
+            same += 1
+        if same == len(stand) == len(self.stand):
+            return
+        for it in self.stand[same:]:
+            self.program.ask("retract " + it[1:])
+        for it in stand[same:]:
+            self.program.ask(f"{WORD[it[0]]} {it[1:]}")
+        self.program.ask("settle")
+        self.stand = stand
 
 
 # --- what the files say: `check --json` shall say so one day
@@ -212,21 +252,21 @@ def letter(line):
     return "h" if "hopeless" in words else "s" if "sure" in words else "p"
 
 
-def why(about, lines, _):
+def why(about, lines, *_):
     if not about.isdigit():
         return {"known": lines[0].split()[0], **reason(lines[0])}
     held = next((it for it in lines if it.startswith(("hopeless", "sure"))), "")
     return {"verdict": letter(held), **reason(held)}
 
 
-def decide(about, lines, desk):
+def decide(about, lines, program, _):
     word = lines[0].split()[0]
     if word == "mixed":
         return {"decided": word, "example": product(lines[1]), "counterexample": product(lines[2])}
-    return {"decided": word, **(reason(desk.main.ask(f"{word} {about}")[0]) if word in ("won", "lost") else {})}
+    return {"decided": word, **(reason(program.ask(f"{word} {about}")[0]) if word in ("won", "lost") else {})}
 
 
-def winners(_, lines, __):
+def winners(_, lines, *__):
     parts = []
     for words in (it.removesuffix(" or more").split() for it in lines[:-1]):
         count = words[-1] if words[2:] and words[-1].isdigit() else "0"
@@ -235,17 +275,17 @@ def winners(_, lines, __):
     return {"parts": parts[:PARTS], "of": len(parts), **sums, "exact": not any("or more" in it for it in lines)}
 
 
-def needs(_, lines, __):
+def needs(_, lines, *__):
     found = None if lines == ["none"] else [sign for it in lines[:-1] for sign in signs(it)]
     return {"needs": found, "all": "more" not in lines[-1]}
 
 
-def repair(_, lines, __):
+def repair(_, lines, *__):
     repairs = [{"signs": signs(it), "lost": it.endswith("lost")} for it in lines if it.startswith("repair ")]
     return {"state": "repair" if repairs else lines[0].split()[0], "repairs": repairs}
 
 
-def offer(_, lines, __):
+def offer(_, lines, *__):
     offers = []
     for words in map(str.split, lines[:-1]):
         verdict = letter(" ".join(words)) if words[3:] else None
@@ -253,7 +293,7 @@ def offer(_, lines, __):
     return {"offers": offers}
 
 
-def empty(_, lines, __):
+def empty(_, lines, *__):
     is_empty = lines[0].startswith("empty")
     return {"empty": True, **reason(lines[0])} if is_empty else {"empty": False, "example": product(lines[0])}
 
@@ -264,9 +304,9 @@ STEP = re.compile(
 )
 
 
-def trace(about, lines, desk):
-    if desk.family["kind"] == "game":
-        return walk(about, lines, desk)
+def trace(about, lines, program, is_game):
+    if is_game:
+        return walk(about, lines, program)
     steps = []
     for line in lines[1:-1]:
         found = STEP.fullmatch(line.strip()).groupdict()
@@ -275,7 +315,7 @@ def trace(about, lines, desk):
     return {"verdict": letter(lines[0]), "steps": steps, "cut": lines[-1].endswith("cut")}
 
 
-def walk(about, lines, desk):
+def walk(about, lines, program):
     """A walk over the winner's moves, which `draw V` draws: the program has no trace of a game."""
     names, moves, met, steps = {}, {}, {about}, []
     for line in lines:
@@ -292,7 +332,7 @@ def walk(about, lines, desk):
         if not again:
             met.add(move[2])
             todo += [(it, steps[-1]["depth"]) for it in reversed(moves.get(move[2], []))]
-    return {"verdict": desk.verdicts[desk.places[about]], "steps": steps, "cut": bool(todo)}
+    return {"verdict": letter(program.ask(f"show {about}")[0]), "steps": steps, "cut": bool(todo)}
 
 
 ANSWERS = {it.__name__: it for it in (why, decide, winners, needs, repair, offer, empty, trace)}
@@ -344,6 +384,11 @@ class Book:
 # --- the desk
 
 
+def differ(verdicts, then):
+    """The goals whose verdict differs: their places, with both."""
+    return [[n, old, new] for n, (old, new) in enumerate(zip(verdicts, then)) if old != new]
+
+
 def checked(steps, names, undoes):
     """The steps of a request, if they have the form of a change of features of these names."""
     malformed = Refusal(400, "BadRequest", "A change has 1 to 512 steps, each with `do` and its argument.")
@@ -374,7 +419,9 @@ class Desk:
         self.goals = [it["id"] for it in family["goals"]]
         self.places = {it: n for n, it in enumerate(self.goals)}
         self.names = {it["name"] for it in family["features"]}
-        self.lock, self.streams, self.main, self.trial = threading.RLock(), {}, None, None
+        self.words = [program, "run", "--json", "--keep-going", *self.files, "/dev/stdin"]
+        self.lock, self.streams, self.main = threading.RLock(), {}, None
+        self.asked, self.trial = Follower(self.words), Follower(self.words)
         self.book = Book(book, family)
         try:
             self.begin()
@@ -384,17 +431,19 @@ class Desk:
     # The calls of serve.py.
 
     def page(self):
-        return self.served(self.whole)
+        with self.lock:
+            return self.whole()
 
     def ask(self, what, about):
         known = self.names if what == "why" and about not in self.places else self.places
         if what not in ANSWERS or not (about == "" if what == "empty" else about in known):
             raise Refusal(400, "BadRequest", "There is no such question.")
-        return self.served(lambda: self.answer(what, about))
+        found = self.kept_or((what, about), lambda page: self.answer(what, about, page))
+        return {"what": what, "about": about, **found}
 
     def preview(self, steps):
         steps = checked(steps, self.names, undoes=False)
-        return self.served(lambda: {"at": self.at, **self.tried_out(steps)})
+        return self.kept_or(json.dumps(steps), lambda page: self.tried_out(steps, page))
 
     def change(self, person, steps, of=None, note=""):
         steps = checked(steps, self.names, undoes=True)
@@ -422,10 +471,64 @@ class Desk:
             self.streams.pop(events, None)
             self.publish("people", people=self.people())
 
-    # What they are made of. All of it is called under the lock.
+    # Looks, which work beside the page and leave it as it is.
+
+    def kept_or(self, name, work):
+        """What `work` finds for the page as it is now, or found before."""
+        with self.lock:
+            at, kept, page = self.at, self.kept, (self.short_page(), self.verdicts)
+        if name not in kept:
+            kept[name] = work(page)
+        return {"at": at, **kept[name]}
+
+    def answer(self, what, about, page):
+        is_game = self.family["kind"] == "game"
+        line = f"{'draw' if what == 'trace' and is_game else what} {about}".strip()
+
+        def work(program):
+            lines = program.ask(line)
+            return ANSWERS[what](about, lines * 2 if lines == ["unsettled"] else lines, program, is_game)
+
+        try:
+            return self.asked.carry_out([it["sign"] for it in page[0]["decisions"]], work)
+        except Refused as it:
+            raise Refusal(409, it.cause, str(it)) from it
+
+    def tried_out(self, steps, page):
+        """What the steps would make of the page."""
+
+        def work(program):
+            made = 0
+            try:
+                for it in steps:
+                    self.step(program, "", it, made)
+                    made += 1
+                return self.effect(program, {it.get("feature") for it in steps}, *page)
+            except Refusal as it:
+                return {"refused": it.body}
+            finally:
+                for _ in range(made):
+                    program.ask("undo")
+                program.ask("settle")
+
+        return self.trial.carry_out([it["sign"] for it in page[0]["decisions"]], work)
+
+    def effect(self, program, own, page, verdicts):
+        """How the program's page differs from this one, apart from the steps' own features."""
+
+        def known(page):
+            return {sign + it for sign, part in (("+", "in"), ("-", "out")) for it in page[part] if it not in own}
+
+        program.ask("settle")
+        now, before = self.look(program), known(page)
+        freed, new = sorted(before - known(now)), sorted(known(now) - before)
+        changed = differ(verdicts, self.show(program))
+        return {"known": new, "freed": freed, "products": now["products"], "changed": changed}
+
+    # What changes the page, all of it called under the lock.
 
     def served(self, work):
-        """What `work` returns. If a program has ended, both begin again from the book, and `work` once more."""
+        """What `work` returns. If the program has ended, it begins again from the book, and `work` once more."""
         with self.lock:
             try:
                 return work()
@@ -439,13 +542,11 @@ class Desk:
                 raise Refusal(503, "Gone", "The program has ended, and cannot be started again.") from it
 
     def begin(self):
-        """Starts the programs, and makes the page of the book's changes."""
-        for it in (self.main, self.trial):
-            if it:
-                it.end()
-        words = [self.program, "run", "--json", "--keep-going", *self.files, "/dev/stdin"]
-        self.main, self.trial, self.run, self.at = Program(words), Program(words), secrets.token_hex(4), 0
-        self.history, self.standing, self.tried, self.done, self.undone, self.kept = [], [], [], [], [], {}
+        """Starts the program, and makes the page of the book's changes."""
+        if self.main:
+            self.main.end()
+        self.main, self.run, self.at = Program(self.words), secrets.token_hex(4), 0
+        self.history, self.standing, self.done, self.undone, self.kept = [], [], [], [], {}
         try:
             self.main.ask("settle")
             self.verdicts, self.seen = self.show(self.main), self.look(self.main)
@@ -495,18 +596,6 @@ class Desk:
         self.at += 1
         self.publish(kind, at=self.at, **body)
 
-    def answer(self, what, about):
-        word = "draw" if what == "trace" and self.family["kind"] == "game" else what
-        if (what, about) not in self.kept:
-            try:
-                lines = self.main.ask(f"{word} {about}".strip())
-            except Refused as it:
-                raise Refusal(409, it.cause, str(it)) from it
-            if lines == ["unsettled"]:
-                lines = ["unsettled", "unsettled"]
-            self.kept[what, about] = ANSWERS[what](about, lines, self)
-        return {"at": self.at, "what": what, "about": about, **self.kept[what, about]}
-
     def step(self, program, label, step, number):
         """Carries out one step, and returns its serial."""
         it = step.get("feature", step.get("serial", ""))
@@ -519,49 +608,12 @@ class Desk:
                 more = {**more, "feature": it, "because": because}
             raise Refusal(409, refused.cause, text, **more) from refused
 
-    def tried_out(self, steps):
-        """What the steps would do, on the program for trials, which takes over the decisions that stand."""
-        key = json.dumps(steps)
-        if key in self.kept:
-            return self.kept[key]
-        stand, made = [it["sign"] for it in self.standing], 0
-        for it in [it for it in self.tried if it not in stand]:
-            self.trial.ask("retract " + it[1:])
-        for it in [it for it in stand if it not in self.tried]:
-            self.trial.ask(f"{WORD[it[0]]} {it[1:]}")
-        self.tried = stand
-        try:
-            for it in steps:
-                self.step(self.trial, "", it, made)
-                made += 1
-            self.kept[key] = self.effect({it.get("feature") for it in steps})
-        except Refusal as it:
-            self.kept[key] = {"refused": it.body}
-        for _ in range(made):
-            self.trial.ask("undo")
-        return self.kept[key]
-
-    def effect(self, own):
-        """How the trial's page differs from the one that all share, apart from the steps' own features."""
-
-        def known(page):
-            return {sign + it for sign, part in (("+", "in"), ("-", "out")) for it in page[part] if it not in own}
-
-        self.trial.ask("settle")
-        now, before = self.look(self.trial), known(self.seen)
-        freed, new = sorted(before - known(now)), sorted(known(now) - before)
-        changed = self.differ(self.show(self.trial))
-        return {"known": new, "freed": freed, "products": now["products"], "changed": changed}
-
-    def differ(self, verdicts):
-        return [[n, old, new] for n, (old, new) in enumerate(zip(self.verdicts, verdicts)) if old != new]
-
     def changed(self, made):
         """Carries out a change that was asked for, and answers once it stands in the book."""
         kind, steps = made["steps"][0]["do"], made["steps"]
         stack = {"undo": self.done, "redo": self.undone}.get(kind)
         if stack is None and len(steps) > 1:  # one step is whole by itself
-            tried = self.tried_out(steps)
+            tried = self.tried_out(steps, (self.short_page(), self.verdicts))
             if "refused" in tried:
                 raise Refusal(409, **tried["refused"])
         newest = [it["serial"] for it in reversed(stack or [])][: len(steps)]
@@ -591,7 +643,7 @@ class Desk:
             self.next("change", entry=entry, page=self.short_page(at=self.at + 1, settled=False))
         self.main.ask("settle")
         verdicts = self.show(self.main)
-        changed, self.verdicts = self.differ(verdicts), verdicts
+        changed, self.verdicts = differ(self.verdicts, verdicts), verdicts
         entry["became"] = {it: sum(new == it for _, _, new in changed) for it in "hps"}
         if is_new:
             self.next("verdicts", entry=entry["entry"], became=entry["became"], changed=changed)

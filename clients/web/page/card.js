@@ -1,4 +1,4 @@
-// The card of the chosen requirement: each part is a question to the server, asked in the order in which they stand.
+// The card of the chosen requirement: each part is a question to the server, and `winners`, which may take long, the last.
 import { $, h, put, dim, mark, digits, plain, LONG } from "./dom.js";
 import { desk, known, verb, step, back, ask, act, chip, takeBack } from "./desk.js";
 import { list } from "./goals.js";
@@ -45,9 +45,9 @@ export async function drawCard(anew) {
     if (!anew) build();
     fill(why, d.error ? h("p", d.text) : reasons(v, d, d.decided === "lost" ? await question("repair") : {}));
     card.scrollTop = top;
-    fill(wins, products(await question("winners"), await question("needs"), d.example));
     if (isOpen) fill(next, d.decided === "mixed" ? offers(await question("offer")) : dim("No decision changes that."));
     if (v !== "p") fill(how, trace(await question("trace")));
+    fill(wins, products(await question("winners"), await question("needs"), d.example)); // this may take long
   } catch (e) { if (e !== LATE) throw e; }
   return card;
 }

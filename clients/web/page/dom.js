@@ -31,6 +31,13 @@ export function put(e, ...kids) {
   return e;
 }
 
+// Puts rows into a box. Those that are there already stay, so that a click on them is not lost.
+export function lay(box, rows) {
+  const old = [...box.children];
+  if (old.length !== rows.length || rows.some((e, n) => e !== old[n] && e.isConnected)) put(box, rows);
+  else rows.forEach((e, n) => { if (e !== old[n] && e.outerHTML !== old[n].outerHTML) old[n].replaceWith(e); });
+}
+
 export const dim = (...kids) => h("span.dim", ...kids);
 export const icon = v => h("svg", { "aria-hidden": "true" }, h("use", { href: "#v-" + v }));
 export const shortly = (text, n) => text.length > n ? text.slice(0, n - 2) + " …" : text;

@@ -1,5 +1,5 @@
 // The list of requirements. Only the rows in view are in the document, so that 2,000 cost no more than 20.
-import { $, h, put, dim, mark, exactly, many, WORDS } from "./dom.js";
+import { $, h, put, lay, dim, mark, exactly, many, WORDS } from "./dom.js";
 import { desk, kept, ask, chip, looking, noProduct } from "./desk.js";
 import { drawCard } from "./card.js";
 import { told, effects } from "./past.js";
@@ -63,9 +63,8 @@ function drawNews() {
 export function drawRows() {
   const box = $("list"), from = Math.max(0, Math.floor(box.scrollTop / ROW) - 5);
   const seen = rows.slice(from, from + Math.ceil(box.clientHeight / ROW) + 10);
-  const all = h("div.rows", seen.map((i, n) => row(i, from + n)));
-  all.style.height = rows.length * ROW + "px";
-  put(box, rows.length ? all : h("p.none", nothing()));
+  $("rows").style.height = rows.length * ROW + "px";
+  lay($("rows"), rows.length ? seen.map((i, n) => row(i, from + n)) : [h("p.none", nothing())]);
   if (list.chosen != null) box.setAttribute("aria-activedescendant", "g" + list.chosen);
   if ($("more").checked) askMore(seen);
 }

@@ -1,5 +1,5 @@
 // The feature tree, and below it the dock: what a decision on a feature would do, or what forces it.
-import { $, h, put, dim, mark, plain, count, productsLeft } from "./dom.js";
+import { $, h, put, lay, dim, mark, plain, count, productsLeft } from "./dom.js";
 import {
   desk, standing, known, who, verb, done, step, back, ask, change, chip, takeBack, preview, look, unlook, soon,
 } from "./desk.js";
@@ -9,6 +9,7 @@ const features = new Map(); // by name, each with its children, depth and place
 const folded = new Set();
 let at = null; // the feature that the dock is about
 let shown = []; // the names in the rows, from top to bottom
+let over = null; // the feature under the pointer
 let docks = 0;
 const drawn = new Map(); // the rows, by feature or group, each with what it depends on
 
@@ -29,20 +30,12 @@ export function drawTree() {
   const held = document.activeElement.closest("#tree") && at, top = $("tree").scrollTop;
   shown = [];
   addRows(rows, root(), 1, 1, find, found);
-  lay(rows.length ? rows : [h("p.none", "No feature has this in its name.")]);
+  lay($("tree"), rows.length ? rows : [h("p.none", "No feature has this in its name.")]);
   $("tree").scrollTop = top;
   stopAt(rowOf(at) || $("tree").firstChild);
   if (held) rowOf(held)?.focus({ preventScroll: true });
   const all = desk.family.features.length;
   $("tcount").textContent = `${all - desk.marks.size} of ${all} open`;
-}
-
-// Puts rows into the tree; only the new ones, if the others stay where they are.
-function lay(rows) {
-  const old = [...$("tree").children];
-  const isSame = old.length === rows.length && rows.every((e, n) => e === old[n] || !e.isConnected);
-  if (!isSame) put($("tree"), rows);
-  else rows.forEach((e, n) => { if (e !== old[n]) old[n].replaceWith(e); });
 }
 
 // A row: the one that is there, if it depends on the same, or else a new one.
@@ -150,9 +143,10 @@ function press(name, sign) {
 const named = e => shown.find(name => rowOf(name) === e.target.closest(".f"));
 $("tree").onmouseover = e => {
   const f = named(e);
-  if (f && f !== at) soon(() => { pointAt(f); dock(f); });
+  if (f && f !== over) soon(() => { pointAt(f); dock(f); });
+  over = f;
 };
-$("tree").onmouseleave = unlook;
+$("tree").onmouseleave = () => { over = null; unlook(); };
 $("tree").onclick = e => {
   const f = named(e), data = e.target.dataset;
   if (!f) return;
@@ -192,9 +186,10 @@ async function dock(name, isQuiet) {
   const options = d ? flips(d) : k ? [] : [["Select", [step("+" + name)]], ["Exclude", [step("-" + name)]]];
   const head = title(name, d, k), foot = rulesOf(name);
   if (options.length) {
-    put($("dock"), head, options.map(it => option(it)), foot);
+    const rows = options.map(option);
+    put($("dock"), head, rows, foot);
     const got = await (isQuiet ? Promise.all(options.map(([, todo]) => preview(todo))) : look(options));
-    if (mine === docks) put($("dock"), head, options.map((it, n) => option(it, got[n])), foot);
+    if (mine === docks) rows.forEach((e, n) => put(e.lastChild, effect(got[n])));
     return;
   }
   unlook();
@@ -218,11 +213,8 @@ function rulesOf(name) {
   return rules.map(it => h("div.dim", h("code", it)));
 }
 
-function option([label, steps], p) {
-  const disabled = p?.error === "Conflict" && !p.because?.length;
-  const button = h("button", { onclick: () => change(steps), disabled }, label);
-  return h("div.opt", button, h("div", p ? effect(p) : dim("Trying it out …")));
-}
+const option = ([label, steps]) =>
+  h("div.opt", h("button", { onclick: () => change(steps) }, label), h("div", dim("Trying it out …")));
 
 // What a preview found, in a line.
 function effect(p) {

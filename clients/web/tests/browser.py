@@ -21,25 +21,30 @@ class Driver:
         self.folder = tempfile.TemporaryDirectory(prefix="page_test_", ignore_cleanup_errors=True)
         streams = {"stdout": subprocess.PIPE, "stderr": subprocess.DEVNULL, "text": True}
         environment = {**os.environ, "TMPDIR": self.folder.name}
-        self.child = subprocess.Popen([shutil.which("chromedriver"), "--port=0"], env=environment, **streams)
-        self.port = None
+        self.child = subprocess.Popen(["chromedriver", "--port=0"], env=environment, **streams)
+        self.port, self.browsers = None, []
         for line in self.child.stdout:
             if "started successfully on port " in line:
                 self.port = int(line.split("on port ")[1].strip(". \n"))
                 break
 
     def browser(self, width=1360, height=860, dark=False):
-        return Browser(self.port, width, height, dark)
+        self.browsers.append(Browser(self.port, width, height, dark))
+        return self.browsers[-1]
 
-    def end(self):
+    def __enter__(self):
+        return self
+
+    def __exit__(self, *_):
+        """Ends the driver, and all browsers with it."""
+        for it in self.browsers:
+            try:
+                it.call("DELETE", "")
+            except (OSError, RuntimeError, ValueError, http.client.HTTPException):
+                pass
         self.child.terminate()
         self.child.wait()
         self.folder.cleanup()
-
-
-def is_there():
-    """Whether a browser and its driver are installed."""
-    return bool(shutil.which("chromedriver") and (shutil.which("chromium") or shutil.which("chrome")))
 
 
 class Browser:
@@ -100,22 +105,28 @@ class Browser:
             (arguments[1] == null || e.textContent.trim() === arguments[1]) && e.getClientRects().length)"""
         return self.wait(script, css, text)
 
-    def click(self, css, text=None):
-        """Clicks an element as a mouse does, once it stands still."""
+    def steadily(self, work, css, text=None):
+        """Does something with an element, and again if it was replaced or moved meanwhile."""
         for attempt in range(20):
             element = self.find(css, text)[ELEMENT]
             try:
-                return self.call("POST", f"/element/{element}/click")
+                return work(element)
             except RuntimeError as it:
                 if attempt == 19 or not re.search("stale|intercepted|interactable|not found", str(it)):
                     raise
                 time.sleep(0.05)
 
+    def click(self, css, text=None):
+        """Clicks an element as a mouse does."""
+        self.steadily(lambda it: self.call("POST", f"/element/{it}/click"), css, text)
+
     def hover(self, css, text=None):
-        origin = self.find(css, text)
-        move = {"type": "pointerMove", "duration": 0, "x": 0, "y": 0, "origin": origin}
-        mouse = {"type": "pointer", "id": "mouse", "parameters": {"pointerType": "mouse"}, "actions": [move]}
-        self.call("POST", "/actions", {"actions": [mouse]})
+        def move(element):
+            to = {"type": "pointerMove", "duration": 0, "x": 0, "y": 0, "origin": {ELEMENT: element}}
+            mouse = {"type": "pointer", "id": "mouse", "parameters": {"pointerType": "mouse"}, "actions": [to]}
+            self.call("POST", "/actions", {"actions": [mouse]})
+
+        self.steadily(move, css, text)
 
     def keys(self, *names):
         """Presses keys, one after the other; those joined by `+` together, as "Control+z"."""
@@ -138,6 +149,3 @@ class Browser:
         with open(path, "wb") as it:
             it.write(base64.b64decode(self.call("GET", "/screenshot")))
 
-    def end(self):
-        self.call("DELETE", "")
-        self.line.close()

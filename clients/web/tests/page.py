@@ -3,8 +3,8 @@ import json
 import os
 import time
 
-from tests.browser import Driver
-from tests.relay import HOSTILE, Relay, example, hidden_conflict, hostile, kill, scratch, train, verdicts
+from tests.relay import HOSTILE, STRICT, Relay, example, hidden_conflict, hostile, hostile_system, kill, scratch
+from tests.relay import train, verdicts
 
 VENDING, LIFT = example("vending_system"), example("elevator_system")
 ROWS = """[...document.querySelectorAll('.r')].map(r =>
@@ -12,28 +12,19 @@ ROWS = """[...document.querySelectorAll('.r')].map(r =>
 AT_REST = "document.querySelector('.r') && !document.querySelector('.working, .lost')"
 with open(os.path.join(os.path.dirname(os.path.abspath(__file__)), "looks.js"), encoding="utf-8") as file:
     LOOKS = file.read()
-QUIET = AT_REST + " && !/Working|Trying/.test(document.body.innerText)"
+QUIET = AT_REST + " && !/Working|Trying/.test(['card', 'dock'].map(id => document.getElementById(id).textContent))"
 BYTES = 60000  # of the page
 
 
 class Room:
     """Two browsers in which all tests take place, and the folder for pictures, if they are wanted."""
 
-    def __init__(self, shots):
-        self.shots, self.driver = shots, Driver()
-        self.ann, self.ben = self.driver.browser(), self.driver.browser()
-
-    def __enter__(self):
-        return self
-
-    def __exit__(self, *_):
-        self.ann.end()
-        self.ben.end()
-        self.driver.end()
+    def __init__(self, driver, shots):
+        self.shots, self.ann, self.ben = shots, driver.browser(), driver.browser()
 
     def shot(self, browser, name):
         """Looks for cut and overlapping text, and takes a picture if pictures are wanted."""
-        time.sleep(0.4)
+        browser.wait(QUIET)
         faults = browser.run(LOOKS + "return cuts()")
         assert not faults, (name, faults)
         if self.shots:
@@ -254,8 +245,15 @@ def no_product_left_is_explained(room):
 
 
 def hostile_names_are_text(room):
-    """Vertices, the family, a person, a note: each tries to be markup, and is shown letter by letter."""
+    """Vertices, actions, the family, a person, a note: each tries to be markup, and is shown letter by letter."""
+    markup = "return [window.hacked, document.querySelectorAll('img, body script').length]"
     quiet = HOSTILE.replace('"', "")
+    with scratch() as folder, Relay(hostile_system(folder)) as relay:
+        it = opened(room.ann, relay)
+        says(it, f'<b onclick="x">{quiet}', "#card")
+        says(it, f"{quiet} to state 1", "#card .t")
+        says(it, f"{quiet} cannot happen", "#card .t")
+        assert it.run(markup) == [None, 0]
     with scratch() as folder, Relay(hostile(folder), HOSTILE[:32]) as relay:
         it = opened(room.ann, relay)
         it.type("#note", HOSTILE)
@@ -267,7 +265,7 @@ def hostile_names_are_text(room):
         it.click(".r .n")
         says(it, quiet, "#card h2")
         it.wait(QUIET)
-        assert it.run("return [window.hacked, document.querySelectorAll('img, body script').length]") == [None, 0]
+        assert it.run(markup) == [None, 0]
 
 
 # --- size and looks
@@ -331,20 +329,22 @@ def five_hundred_features(room):
         it, clicks, draws = opened(room.ann, relay), [], []
         assert it.run("return document.querySelectorAll('[role=treeitem]').length") == 512
         it.run(hear)
-        for _ in range(8):  # each time once all answers are there, and after a look ahead, as people do it
-            it.wait(QUIET)
+        looked = AT_REST + " && !document.querySelector('#dock').textContent.includes('Trying')"
+        for _ in range(8):  # each time after a look ahead, as people do it
+            it.wait(looked)
             it.hover("[role=treeitem][aria-label^='door3_0,'] .n")
             it.wait("document.querySelector('#dock b')?.innerText === 'door3_0'")
-            it.wait(QUIET)
+            it.wait(looked)
             it.run(click, box("door3_0", "-"))
             shown, heard, clicked = it.wait("window.shown && [window.shown, window.heard, window.clicked]", seconds=60)
             clicks.append(shown - clicked)
             draws.append(shown - heard)
             it.hover("#family")
-        assert min(draws) < 100, draws
+        slack = 1 if STRICT[0] else 6
+        assert min(draws) < 100 * slack and min(clicks) < 150 * slack, (draws, clicks)
         return (
-            f"click to verdict {min(clicks):.0f} ms at best, {sorted(clicks)[4]:.0f} ms mostly (150 are wanted); "
-            f"answer to verdict {min(draws):.0f} and {sorted(draws)[4]:.0f} ms (100 are the limit of the first)"
+            f"click to verdict {min(clicks):.0f} ms at best, {sorted(clicks)[4]:.0f} ms mostly (bar: 150); "
+            f"answer to verdict {min(draws):.0f} and {sorted(draws)[4]:.0f} ms (bar: 100)"
         )
 
 
@@ -417,24 +417,23 @@ def nothing_is_fetched_elsewhere(room):
     with Relay(VENDING) as relay:
         it = room.ann
         it.open("about:blank")
-        time.sleep(0.5)
         for kind in ("performance", "browser"):
             it.log(kind)  # what was before
         opened(it, relay)
+        own = f"http://{relay.host}/"
         it.click(box("tea", "-"))
         says(it, "Taking it back is enough.", "#card")
         urls = set()
         for entry in it.log("performance"):
             message = json.loads(entry["message"])["message"]
-            if message["method"] == "Network.requestWillBeSent":
+            if message["method"] == "Network.requestWillBeSent" and message["params"]["documentURL"].startswith(own):
                 urls.add(message["params"]["request"]["url"])
-        own = f"http://{relay.host}/"
-        assert all(url.startswith((own, "data:", "about:", "chrome:")) for url in urls), urls
+        assert all(url.startswith((own, "data:")) for url in urls), urls
         assert not any(relay.key in url.partition("#")[0] for url in urls), urls
         parts = {url for url in urls if url.startswith(own) and "/api/" not in url}
         size = sum(len(relay.client().raw("GET", url.partition("#")[0].removeprefix(own[:-1]))[1]) for url in parts)
         assert len(parts) >= 3 and size < BYTES, (size, parts)
-        assert not (said := it.log("browser")), said
+        assert not (said := [entry for entry in it.log("browser") if own in entry["message"]]), said
         return f"the page has {size:,} bytes in {len(parts)} files"
 
 

@@ -4,6 +4,7 @@ import json
 import os
 import random
 import signal
+import socket
 import subprocess
 import sys
 import tempfile
@@ -11,22 +12,27 @@ import tempfile
 WEB = os.path.dirname(os.path.dirname(os.path.abspath(__file__)))
 ROOT = os.path.dirname(os.path.dirname(WEB))
 PROGRAM = [None]  # the program under test, once it was found
+STRICT = [False]  # whether bars of milliseconds hold as they are, and not six times as high as on a busy machine
 HOSTILE = "<img src=x onerror=\"window.hacked=1\">"
 
 
 class Relay:
     """A relay that serves a family to people of these names."""
 
-    def __init__(self, family, *names, book=None, port=0):
+    def __init__(self, family, *names, book=None):
         self.words = [sys.executable, f"{WEB}/serve.py", family, *(names or ["Ann"]), "--program", PROGRAM[0]]
         self.words += ["--book", book] if book else []
-        self.start(port)
+        self.start(free_port())
 
-    def start(self, port=0):
-        self.child = subprocess.Popen([*self.words, "--port", str(port)], stdout=subprocess.PIPE, text=True)
-        self.links = []
-        for _ in range(self.words.index("--program") - 3):
-            self.links.append(self.child.stdout.readline().rpartition(": ")[2].strip())
+    def start(self, port):
+        """Starts it at this port, as soon as that is free."""
+        for _ in range(100):
+            self.child = subprocess.Popen([*self.words, "--port", str(port)], stdout=subprocess.PIPE, text=True)
+            lines = [self.child.stdout.readline() for _ in range(self.words.index("--program") - 3)]
+            if lines[-1]:
+                break
+            self.child.wait()
+        self.links = [it.rpartition(": ")[2].strip() for it in lines]
         self.host, _, self.key = self.links[0].removeprefix("http://").partition("/#")
         self.port = int(self.host.rpartition(":")[2])
 
@@ -107,6 +113,18 @@ class Client:
         return line, read
 
 
+def free_port():
+    """A port that is free, of those that the system gives to no connection by itself."""
+    while True:
+        port = random.randrange(20000, 32000)
+        with socket.socket() as line:
+            try:
+                line.bind(("127.0.0.1", port))
+                return port
+            except OSError:
+                pass
+
+
 def example(name):
     return f"{ROOT}/examples/{name}"
 
@@ -164,6 +182,13 @@ def hostile(folder):
     names = (quiet, "</span><script>hacked=1</script>", "&lt;b&gt; {}")
     game = "start 0;\n" + "".join(f'{n} {n} {n % 2} {n}[a],1 "{name}";\n' for n, name in enumerate(names))
     return write(f"{folder}/<img src=x onerror=window.hacked=1>", diagram="root r\noptional r a\n", game=game)
+
+
+def hostile_system(folder):
+    """A system whose action and comment try to be markup, and which stands still after that action."""
+    quiet = HOSTILE.replace('"', "")
+    system, formula = f'des (0, 1, 2)\n(0, "{quiet}", 1)\n', f'% <b onclick="x">{quiet}\nlive = always can "{quiet}";\n'
+    return write(folder, diagram="root r\noptional r a\n", system_aut=system, requirements_mcf=formula)
 
 
 def hidden_conflict(folder):
