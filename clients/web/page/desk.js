@@ -49,17 +49,18 @@ export async function saved(form) {
   return answer.text();
 }
 
-// Asks for a change. `of` is the entry of the history that it takes back, if any.
+// Asks for a change, and returns whether it was made. `of` is the entry of the history that it takes back, if any.
 export async function change(steps, of) {
-  if (!steps.length) return;
   const note = $("note").value;
   try {
     await call("change", { steps, of, note });
     if ($("note").value === note) $("note").value = "";
     if (refused.shown && refused.shown === $("say").firstChild) say();
+    return true;
   } catch (e) {
     refused(e, steps);
     refused.shown = $("say").firstChild;
+    return false;
   }
 }
 

@@ -133,11 +133,10 @@ function focusOn(name) {
 }
 
 // Asks for what a half of the box means now: a decision, or taking it back. If it follows, the dock says why.
-function press(name, sign) {
-  const d = standing(name);
-  if (d) change(d.sign[0] === sign ? [back(d.sign)] : [back(d.sign), step(sign + name)]);
-  else if (known(name) === sign) dock(name);
-  else change([step(sign + name)]);
+async function press(name, sign) {
+  const d = standing(name), other = [step(sign + name)];
+  const steps = !d ? other : d.sign[0] === sign ? [back(d.sign)] : [back(d.sign), ...other];
+  if (!d && known(name) === sign || !await change(steps)) dock(name);
 }
 
 const named = e => shown.find(name => rowOf(name) === e.target.closest(".f"));

@@ -147,5 +147,5 @@ class Browser:
 
     def shot(self, path):
         with open(path, "wb") as it:
-            it.write(base64.b64decode(self.call("GET", "/screenshot")))
+            it.write(base64.b64decode(self.tools("Page.captureScreenshot", format="png")["data"]))
 

@@ -101,6 +101,7 @@ def a_conflict_is_refused_and_explained(room):
         says(it, "Excluding soda is refused: it contradicts", "#say")
         says(it, "Ben Ode", "#say")
         says(it, "Nothing was changed.", "#say")
+        says(it, "soda is in: it follows It is forced by", "#dock")
         same_as_run(it, VENDING, ["exclude tea"])
         room.shot(it, "3_a_conflict_is_refused")
         it.click("#say button", "Take it back and exclude soda")
@@ -252,7 +253,7 @@ def hostile_names_are_text(room):
         it = opened(room.ann, relay)
         says(it, f'<b onclick="x">{quiet}', "#card")
         says(it, f"{quiet} to state 1", "#card .t")
-        says(it, f"{quiet} cannot happen", "#card .t")
+        says(it, "no step is left", "#card .t")
         assert it.run(markup) == [None, 0]
     with scratch() as folder, Relay(hostile(folder), HOSTILE[:32]) as relay:
         it = opened(room.ann, relay)
@@ -383,6 +384,7 @@ def dark_and_wide(room):
             it.click("#card button", "Next step ▸")
             it.click("#card button", "Next step ▸")
             says(it, "2 of", "#card")
+            it.wait("document.querySelectorAll('.ex').length === document.querySelectorAll('.r').length")
             room.shot(it, "4_wide_and_dark")
             assert not (faults := it.run(LOOKS + "return faint()")), faults
         finally:
