@@ -25,6 +25,7 @@ import secrets
 import select
 import shutil
 import socket
+import socketserver
 import sys
 import threading
 import webbrowser
@@ -74,6 +75,11 @@ class Server(ThreadingHTTPServer):
         host, port = address[0], self.server_address[1]
         own = [host] if beyond else ["127.0.0.1", "localhost"]
         self.hosts = {f"[{it}]:{port}" if ":" in it else f"{it}:{port}" for it in own}
+
+    def server_bind(self):
+        """Binds without asking for the name of this computer, as http.server does: that can take seconds."""
+        socketserver.TCPServer.server_bind(self)
+        self.server_name, self.server_port = self.server_address[:2]
 
     def link(self, person):
         return f"http://{sorted(self.hosts)[0]}/#{person.key}"
