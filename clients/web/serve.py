@@ -69,7 +69,8 @@ class Server(ThreadingHTTPServer):
     def __init__(self, address, desk, people, beyond=False):
         self.desk, self.people, self.beyond = desk, people, beyond
         self.places, self.address_family = threading.BoundedSemaphore(CONNECTIONS), family_of(address[0])
-        self.files = {f"/{name}": read(f"{HERE}/page/{name}") for name in os.listdir(f"{HERE}/page")}
+        names = [it for it in os.listdir(f"{HERE}/page") if it.endswith(tuple(KINDS))]
+        self.files = {f"/{name}": read(f"{HERE}/page/{name}") for name in names}
         self.files["/"] = self.files["/index.html"]
         super().__init__(address, Handler)
         host, port = address[0], self.server_address[1]

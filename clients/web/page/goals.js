@@ -88,7 +88,7 @@ const foreseen = (it, i) => h("span.pv", it.bad ? dim("–")
   : it.to.has(i) && [it.label.length < 11 ? it.label + " →" : "→", mark(it.to.get(i))]);
 const answer = ({ what, decided, because }) => what === "decide" ? exactly(decided)
   : !because.length ? "whatever is decided"
-  : ["by ", chip(because[0]), because.length > 1 && ` and ${because.length - 1} more`];
+  : ["by ", chip(because[0]), because.length > 1 && `+ ${because.length - 1}`];
 
 // Asks, one after the other, why rows in view are sure or hopeless, and exactly about those that are neither.
 async function askMore(these) {
