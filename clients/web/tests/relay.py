@@ -41,9 +41,16 @@ class Relay:
 
     def programs(self):
         """The processes of `vpgdesk` that this relay has started."""
-        words = ["ps", "-o", "pid=,stat=", "--ppid", str(self.child.pid)]
-        said = subprocess.run(words, capture_output=True, text=True, check=True).stdout
-        return sorted(int(it.split()[0]) for it in said.splitlines() if not it.split()[1].startswith("Z"))
+        found = []
+        for it in filter(str.isdigit, os.listdir("/proc")):
+            try:
+                with open(f"/proc/{it}/stat", encoding="utf-8", errors="replace") as file:
+                    state, parent = file.read().rpartition(")")[2].split()[:2]
+            except OSError:
+                continue  # it has ended meanwhile
+            if int(parent) == self.child.pid and state != "Z":
+                found.append(int(it))
+        return sorted(found)
 
     def kill(self):
         self.child.kill()
