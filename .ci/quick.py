@@ -21,7 +21,8 @@ import sys
 ROOT = os.path.dirname(os.path.dirname(os.path.abspath(__file__)))
 FOLDERS = ("must-fail", "wrong-bodies")
 CITING = ("README.md", "CONTRIBUTING.md", "docs/PROOFS.md", "docs/DEFINITIONS.md", "docs/ARCHITECTURE.md")
-READ = ("README.md", "docs/*.md", "bench/*.md", "examples/**/README.md", "crates/*/data/**/README.md")
+READ = ("README.md", "docs/*.md", "bench/*.md", "examples/**/README.md", "clients/**/README.md")
+READ += ("crates/*/data/**/README.md",)
 
 
 def text_of(path):
