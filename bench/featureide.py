@@ -137,6 +137,8 @@ class Model:
                 formulas.append(self.formula(child))
         if len(formulas) != 1:
             raise Refused(f"Operands {node.number}")
+        if opened(formulas[0]) > MOST_OPEN:
+            raise Refused(f"TooDeep {node.number}")
         self.rules.append(formulas[0])
 
 
@@ -186,6 +188,20 @@ def shown(names, f, least=0):
         level = CLOSENESS[tag]
         text = shown(names, f[1], level + 1) + (" => " if tag == "imp" else " <=> ") + shown(names, f[2], level)
     return f"({text})" if CLOSENESS[tag] < least else text
+
+
+def opened(f, least=0):
+    """The most of `(`, `!`, `=>` and `<=>` that are open at one place of a formula as it is shown."""
+    tag, level = f[0], CLOSENESS[f[0]]
+    if tag == "var":
+        most = 0
+    elif tag == "not":
+        most = 1 + opened(f[1], 4)
+    elif tag in ("conj", "disj"):
+        most = max(opened(it, level + 1) for it in f[1:])
+    else:
+        most = max(opened(f[1], level + 1), 1 + opened(f[2], level))
+    return most + (level < least)
 
 
 def diagram(model):
@@ -267,13 +283,24 @@ class Writer:
         number = {"not": 1, "imp": 2, "eq": 2}.get(tag) or self.r.randint(1, 3)
         return self.tag(tag, [], "".join(self.gap() + self.formula(depth - 1) for _ in range(number)))
 
+    def deep(self):
+        """A formula near the limit of open signs."""
+        inner = self.formula(0)
+        for _ in range(self.r.randint(15, 25)):
+            inner = self.tag("not", [], self.tag("imp", [], self.formula(0) + inner))
+        return inner
+
+    def rule(self):
+        inner = self.deep() if self.r.random() < 0.05 else self.formula(self.r.randint(0, 4))
+        return self.tag("rule", [], self.gap() + inner)
+
     def model(self):
         self.count = 0
         struct = self.tag("struct", [], self.gap() + self.feature(self.r.randint(0, 4)))
         parts = [struct]
         if self.r.random() < 0.8:
             number = self.r.randint(0, 4)
-            rules = [self.tag("rule", [], self.gap() + self.formula(self.r.randint(0, 4))) for _ in range(number)]
+            rules = [self.rule() for _ in range(number)]
             parts.append(self.tag("constraints", [], self.gap() + self.gap().join(rules)))
         if self.r.random() < 0.3:
             parts.insert(0, self.tag("properties", [], self.gap() + self.tag("graphics", [("key", "k")], "")))

@@ -5,6 +5,10 @@
 
 One line a case: bytes read, seconds of the processor, peak memory in MB, and how it ended. The status is 1 where a case
 ended in another way, took more than SECONDS for each million bytes that it read (and one more for all), or more than 1,000 MB.
+
+Then each list that a feature model or a configuration may have is read twice, the second time eight times as long.
+One line a list: bytes and seconds of both, and their ratio. The status is 1 where the second takes more than RATIO
+times the first.
 """
 import os
 import resource
@@ -14,6 +18,7 @@ import tempfile
 
 SECONDS = 0.5
 MEMORY = 1000
+RATIO = 16
 
 ROOT = b"root r\noptional r f\n"
 GAME = b"0 1 0 0;\n"
@@ -125,6 +130,145 @@ def edges_at_depth():
     return b"".join(b"%d 0 0 %s;\n" % (v, entry) for v in range(2_048))
 
 
+def each(form, count, most=500):
+    """The form for each number, which is a feature's."""
+    return b"".join(form.replace(b"%d", b"%d" % (i % most)) for i in range(count))
+
+
+def chains(opening, closing, count, depth=50):
+    """Features in one another, in chains of a depth: what opens each, by its number and depth, and what closes it."""
+    tops = range(0, count, depth)
+    return b"".join(
+        b"".join(opening(i, i - top) for i in range(top, min(top + depth, count))) + closing * min(depth, count - top)
+        for top in tops
+    )
+
+
+def featureide(features, constraints=b"", before=b""):
+    """A model of FeatureIDE with a root above these features."""
+    tree = b'<struct><and name="r">' + features + b"</and></struct>"
+    return b"<featureModel>" + before + tree + b"<constraints>" + constraints + b"</constraints></featureModel>"
+
+
+def featureide_lists():
+    """Lists of FeatureIDE's XML: names, texts by a length, and the shorter length."""
+    leaf, var, many = b'<feature name="f%d"/>', b"<var>f%d</var>", each(b'<feature name="f%d"/>', 500)
+    group = b'<or name="f%d"><feature name="a%d"/><feature name="b%d"/></or>'
+    remark, attribute, read_over = b"<description>f%d &amp; f%d</description>", b' a%d=""', b"<a b='%d'/>"
+    rule, part = b"<rule><imp>" + var * 2 + b"</imp></rule>", b"<not><conj>" + var + b"<var>f0</var></conj></not>"
+    wide = b"<rule><disj>", b"</disj></rule>"
+    deep = b"<rule>" + b"<disj><var>f0</var>" * 50, b"<var>f0</var></disj>" * 50 + b"</rule>"
+
+    def opening(number, _):
+        return b'<and name="f%d">' % number
+
+    yield "features", lambda n: featureide(each(leaf, n)), 62
+    yield "features in one another", lambda n: featureide(chains(opening, b"</and>", n)), 62
+    yield "groups", lambda n: featureide(each(group, n)), 21
+    yield "remarks", lambda n: featureide(each(remark, n)), 8_000
+    yield "elements that are read over", lambda n: featureide(
+        b"", before=b"<properties>" + each(read_over, n) + b"</properties>"), 8_000
+    yield "attributes of a feature", lambda n: featureide(b'<feature name="f"' + each(attribute, n) + b"/>"), 7
+    yield "comments", lambda n: featureide(many, each(b"<!-- %d -->", n)), 16_000
+    yield "constraints", lambda n: featureide(many, each(rule, n)), 2_000
+    yield "one wide constraint", lambda n: featureide(many, wide[0] + each(var, n) + wide[1]), 16_000
+    yield "one deep and wide constraint", lambda n: featureide(many, deep[0] + each(var, n) + deep[1]), 16_000
+    yield "one constraint of many parts", lambda n: featureide(many, wide[0] + each(part, n) + wide[1]), 4_000
+
+
+def uvl(features, constraints=b""):
+    """A model in UVL with a root above these rows."""
+    return b"features\n r\n" + features + b"constraints\n" + constraints
+
+
+def uvl_lists():
+    """Lists of UVL: names, texts by a length, and the shorter length."""
+    many = b"  optional\n" + each(b"   f%d\n", 500)
+
+    def opening(number, depth):
+        return b" " * (2 * depth + 2) + b"optional\n" + b" " * (2 * depth + 3) + b"f%d\n" % number
+
+    def one(form, count):
+        return uvl(many, b" " + each(form, count) + b"f0\n")
+
+    yield "features", lambda n: uvl(b"  optional\n" + each(b"   f%d\n", n)), 62
+    yield "features in one another", lambda n: uvl(chains(opening, b"", n)), 62
+    yield "groups", lambda n: uvl(each(b"  or\n   f%d\n", n)), 62
+    yield "attributes of a feature", lambda n: b"features\n r {" + each(b"a%d 1, ", n) + b"b}\n", 16_000
+    yield "levels", lambda n: b"include\n" + b" Boolean\n" * n + b"features\n r\n", 16_000
+    yield "comments", lambda n: uvl(many, each(b"/* %d */\n// %d\n", n)), 16_000
+    yield "blank rows", lambda n: uvl(many, b" \n" * n), 64_000
+    yield "constraints", lambda n: uvl(many, each(b" f%d => f%d\n", n)), 2_000
+    yield "one wide constraint", lambda n: one(b"f%d | ", n), 16_000
+    yield "one constraint of many parts", lambda n: one(b"!(f%d & f0) | ", n), 4_000
+    yield "one chain of arrows", lambda n: one(b"f%d => ", n), 8
+
+
+def configuration_lists():
+    """Lists of configurations in FeatureIDE's XML: names, texts by a length, and the shorter length."""
+    setting = b'<feature automatic="undefined" manual="undefined" name="f%d"/>\n'
+    whole, inside = (b"<configuration>", b"</configuration>"), (b'<feature name="f">', b"</feature>")
+    yield "features", lambda n: whole[0] + each(setting, n) + whole[1], 4_000
+    yield "elements in a feature", lambda n: whole[0] + inside[0] + b"<a/>" * n + inside[1] + whole[1], 16_000
+    yield "comments", lambda n: whole[0] + b"<!-- -->" * n + whole[1], 16_000
+
+
+def name_lists():
+    """Lists of configurations of names: names, texts by a length, and the shorter length."""
+    yield "names", lambda n: b"r\n" * n, 16_000
+    yield "comments", lambda n: b"# r\n" * n, 16_000
+
+
+def lists():
+    """Names of lists, words of the program, the file, texts by a length, and the shorter length."""
+    begun = ["game", "diagram", "script"]
+    for language, words, file, those in (
+        ("FeatureIDE", ["diagram", "model.xml"], "model.xml", featureide_lists()),
+        ("UVL", ["diagram", "model.uvl"], "model.uvl", uvl_lists()),
+        ("configuration in XML", ["run", "--config", "page.xml", *begun], "page.xml", configuration_lists()),
+        ("configuration of names", ["run", "--config", "page", *begun], "page", name_lists()),
+    ):
+        for title, text, short in those:
+            yield f"{language}: {title}", words, file, text, short
+
+
+def timed(program, folder, words):
+    """Status and seconds of the processor of a run: the least of five."""
+    best = None
+    for _ in range(5):
+        child = subprocess.Popen([program, *words], stdout=subprocess.DEVNULL, stderr=subprocess.DEVNULL, cwd=folder)
+        _, status, used = os.wait4(child.pid, 0)
+        child.returncode = os.waitstatus_to_exitcode(status)
+        seconds = used.ru_utime + used.ru_stime
+        best = seconds if best is None else min(best, seconds)
+    return child.returncode, best
+
+
+def grow(program, folder, picked):
+    """Reads each list twice, the second time eight times as long, and returns how many took too long."""
+    bad = 0
+    for file, text in (("game", GAME), ("diagram", ROOT), ("script", b"")):
+        with open(os.path.join(folder, file), "wb") as out:
+            out.write(text)
+    for title, words, file, text, short in lists():
+        if picked and not any(word in title for word in picked):
+            continue
+        sizes, found = [], []
+        for length in (short, 8 * short):
+            with open(os.path.join(folder, file), "wb") as out:
+                sizes.append(out.write(text(length)))
+            found.append(timed(program, folder, words))
+        # a process takes about a millisecond to start
+        first, second = found[0][1], found[1][1]
+        ratio = second / max(first, 0.001)
+        right = ratio <= RATIO and found[0][0] == found[1][0] == 0
+        bad += not right
+        end = "as expected" if right else f"NOT AS EXPECTED: statuses {found[0][0]} and {found[1][0]}"
+        figures = f"{sizes[0]:10} and {sizes[1]:8} bytes {first:8.4f} and {second:8.4f} s, ratio {ratio:5.1f}"
+        print(f"{figures}  {title}: {end}", flush=True)
+    return bad
+
+
 def run(program, folder, words):
     """Status, standard error, seconds of the processor and peak memory of a run."""
     errors, used = os.path.join(folder, "errors"), os.path.join(folder, "used")
@@ -157,6 +301,7 @@ def main():
             bad += not right
             end = "as expected" if right else f"NOT AS EXPECTED: status {status}, {text[:120]!r}"
             print(f"{size:10} bytes {seconds:7.2f} s {memory:6.0f} MB  {title}: {end}", flush=True)
+        bad += grow(program, folder, picked)
     print(f"{bad} ended in another way")
     sys.exit(1 if bad else 0)
 

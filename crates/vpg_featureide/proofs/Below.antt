@@ -1,17 +1,19 @@
 -- Constraints of a model name its features.
 use Rattle.std.proofs.Common.{◌≡◌, ℕ, zero, suc, ◌<◌, Bool, true, false, cond, List, [], ◌∷◌, ◌++◌, length, take, drop, Option, Some, None, Result, Ok, Err, refl, subst}
-use Rattle.std.specs.Prelude.{slice_get, slice_index_or, bytes_eq, codes}
+use Rattle.std.specs.Prelude.{slice_get, slice_index_or, bytes_eq, codes, nat_le}
 use Rattle.std.specs.List.{AllByRecursion, list_all}
 use Rattle.std.proofs.lemmas.List.Quantifiers.{position-Some}
 use Rattle.vpg_features.specs.Names.{index_of}
 use Rattle.vpg_rules.specs.Constraint.{Constraint, Parts, feature, negation, all, any, implication, equivalence, IsBelow, AreBelow}
 use Rattle.vpg_rules.specs.View.{parts_of}
+use Rattle.vpg_tree.specs.Laws.{open_signs}
 use Rattle.vpg_xml.specs.Elements.{Element, Document}
 use Rattle.vpg_xml.specs.Tokens.{is_blank}
 use Rattle.vpg_featureide.specs.Roles.{Role, Outside}
 use Rattle.vpg_featureide.specs.Model.{Seen, nothing, seen_with}
-use Rattle.vpg_featureide.specs.Formulas.{◌>>=◌, is_operand, operands_with, after_blanks, word_len, feature_in, known, variable, alone, several, pair, joined, joined_if, formula_with, is_rule, rule_at, rules_with, FeatureModel, model_with, with_constraints, model_of}
+use Rattle.vpg_featureide.specs.Formulas.{◌>>=◌, is_operand, operands_with, after_blanks, word_len, feature_in, known, variable, alone, several, pair, joined, joined_if, formula_with, shallow, is_rule, rule_at, rules_with, FeatureModel, model_with, with_constraints, model_of}
 use Rattle.vpg_featureide.specs.declared.fault.ModelFault.{ModelFault}
+use Rattle.vpg_featureide.specs.declared.fault.ModelFault.TheVariants as faults
 
 abbrev Read : Type 0 → Type 0
 Read A = Result A ModelFault
@@ -105,10 +107,14 @@ module _ (names : List (List ℕ)) where
         let b = bind_ok (operands_with (formula_with n names roles d) roles i 0 [] d) (λ cs. joined_if names (slice_get d i) cs) c e in
         joined_if_below (slice_get d i) b.0 c (operands_below roles (formula_with n names roles d) (formula_below n) i d 0 [] b.0 tt b.1) b.2
 
+    shallow_below : (at : ℕ) (x c : Constraint ℕ) → Below x → shallow at x ≡ Ok c → Below c
+    shallow_below at x c h e = choice (nat_le (open_signs x) 64) (Ok x) (Err (faults.TooDeep at)) c (λ k. subst Below (ok_is x c k) h) (λ k. absurd (cc)) e
+
     rule_below : (i : ℕ) (e : Element) (c : Constraint ℕ) → rule_at names roles d i e ≡ Ok c → Below c
     rule_below i e c h =
-        let b = bind_ok (operands_with (formula_with 64 names roles d) roles i 0 [] d) (λ cs. alone e.at (λ x. x) cs) c h in
-        alone_below e.at (λ x. x) b.0 c (λ x k. k) (operands_below roles (formula_with 64 names roles d) (formula_below 64) i d 0 [] b.0 tt b.1) b.2
+        let b = bind_ok (operands_with (formula_with 64 names roles d) roles i 0 [] d) (λ cs. (alone e.at (λ x. x) cs >>= shallow e.at)) c h in
+        let a = bind_ok (alone e.at (λ x. x) b.0) (shallow e.at) c b.2 in
+        shallow_below e.at a.0 c (alone_below e.at (λ x. x) b.0 a.0 (λ x k. k) (operands_below roles (formula_with 64 names roles d) (formula_below 64) i d 0 [] b.0 tt b.1) a.1) a.2
 
     rule_more : (e : Element) (rest : Document) (i : ℕ) (before cs : List (Constraint ℕ)) → AllBelow before →
         ((k : ℕ) (xs : List (Constraint ℕ)) → AllBelow xs → rules_with names roles d k xs rest ≡ Ok cs → AllBelow cs) → (t : Bool) →

@@ -1,2 +1,4 @@
 pub mod Formed
 pub mod Below
+pub mod Spanned
+pub mod InOrder

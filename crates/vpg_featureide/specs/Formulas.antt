@@ -1,10 +1,11 @@
 -- The constraints of a feature model, by the nesting of their elements, and the model of a document: the format of
 -- FeatureIDE (Thüm et al., 2014).
-use Rattle.std.specs.Prelude.{◌≡◌, ℕ, zero, suc, ◌⊎◌, List, [], ◌∷◌, ◌++◌, take, drop, Bool, true, false, not, ◌&&◌, ◌==◌, if◌then◌else◌, codes, bytes_eq, slice_get, slice_index_or, Option, Some, None, Result, Ok, Err}
+use Rattle.std.specs.Prelude.{◌≡◌, ℕ, zero, suc, nat_le, ◌⊎◌, List, [], ◌∷◌, ◌++◌, take, drop, Bool, true, false, not, ◌&&◌, ◌==◌, if◌then◌else◌, codes, bytes_eq, slice_get, slice_index_or, Option, Some, None, Result, Ok, Err}
 use Rattle.std.specs.List.{list_all, prefix_len}
 use Rattle.vpg_features.specs.Names.{index_of}
 use Rattle.vpg_rules.specs.Constraint.{Constraint, Parts, feature, negation, all, any, implication, equivalence}
 use Rattle.vpg_rules.specs.View.{parts_of}
+use Rattle.vpg_tree.specs.Laws.{open_signs}
 use Rattle.vpg_xml.specs.Elements.{Element, Document}
 use Rattle.vpg_xml.specs.Tokens.{is_blank}
 use Rattle.vpg_xml.specs.Nesting.{Spells}
@@ -107,10 +108,14 @@ formula_with zero names roles d i = Err (faults.Operands 0)
 formula_with (suc n) names roles d i =
     operands_with (formula_with n names roles d) roles i 0 [] d >>= λ cs. joined_if names (slice_get d i) cs
 
+-- a constraint whose text can be read: at most 64 signs are open at one place
+abbrev pub shallow : ℕ → Constraint ℕ → Result (Constraint ℕ) ModelFault
+shallow at c = if nat_le (open_signs c) 64 then Ok c else Err (faults.TooDeep at)
+
 -- the constraint of a rule, which has one operand
 abbrev pub rule_at : List (List ℕ) → List Role → Document → ℕ → Element → Result (Constraint ℕ) ModelFault
 rule_at names roles d i e =
-    operands_with (formula_with 64 names roles d) roles i 0 [] d >>= λ cs. alone e.at (λ c. c) cs
+    operands_with (formula_with 64 names roles d) roles i 0 [] d >>= λ cs. (alone e.at (λ c. c) cs >>= shallow e.at)
 
 -- the constraints of the rules, after these, among the elements from an index on
 abbrev pub rules_with :

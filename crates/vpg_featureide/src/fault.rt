@@ -40,6 +40,9 @@ pub enum ModelFault {
     /// A constraint or an operator with too few or too many operands.
     #[error("Operands {at}")]
     Operands { at: usize },
+    /// A constraint whose text in a diagram has more than 64 open signs at one place, at its `rule`.
+    #[error("TooDeep {at}")]
+    TooDeep { at: usize },
     /// Memory ran out.
     #[error("Memory")]
     Memory,

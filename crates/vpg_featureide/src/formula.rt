@@ -1,19 +1,22 @@
 //! The constraints of a model.
-ghost use Rattle.std.specs.Prelude.{◌≡◌, ℕ, ◌≤◌, [], length, map, slice_index_or, Ok, Err, IfOk, IfErr};
+ghost use Rattle.std.specs.Prelude.{◌≡◌, ℕ, ◌≤◌, ◌<◌, [], length, map, slice_index_or, Ok, Err, IfOk, IfErr};
 ghost use Rattle.std.specs.List.{list_all, prefix_len};
 ghost use Rattle.vpg_rules.specs.Constraint.{Constraint, negation, all, any};
 ghost use Rattle.vpg_rules.specs.View.{constraint_of};
 ghost use Rattle.vpg_xml.specs.Tokens.{is_blank};
 ghost use Rattle.vpg_featureide.specs.Roles.{Outside};
 ghost use Rattle.vpg_xml.specs.View.{element_of, elements_of};
-ghost use Rattle.vpg_featureide.specs.Formulas.{is_child, is_formula, is_rule, is_operand, operands_with, word_len, feature_in, variable, alone, several, pair, joined, formula_with, rule_at, rules_with};
+ghost use Rattle.vpg_featureide.specs.Formulas.{is_child, is_formula, is_rule, is_operand, operands_with, word_len, feature_in, variable, alone, several, pair, joined, formula_with, shallow, rule_at, rules_with};
+ghost use Rattle.vpg_featureide.specs.Spans.{AreSpans};
 ghost use Rattle.vpg_featureide.specs.View.{IsRefused};
 
 use crate::fault::ModelFault;
 use crate::role::{Role, is_same};
+use crate::spans::{Span, spans};
 use std::alloc::Global;
 use vpg_features::Names;
 use vpg_rules::{Rule, Rules};
+use vpg_tree::is_shallow;
 use vpg_xml::Element;
 
 fn is_blank(b: u8) -> bool
@@ -230,9 +233,12 @@ fn formula(
     names: &Names,
     roles: &[Role],
     elements: &[Element],
+    spans: &[Span],
     i: usize,
     depth: usize,
 ) -> Result<Rule, ModelFault>
+    requires spans { AreSpans (length elements.now) spans.now (elements_of elements.now) }
+    requires within { i < length elements.now }
     ensures ok { IfOk result (λ r. formula_with depth names.now roles.now (elements_of elements.now) i
         ≡ Ok (constraint_of r)) }
     ensures err { IfErr result (IsRefused (formula_with depth names.now roles.now (elements_of elements.now) i)) }
@@ -240,14 +246,9 @@ fn formula(
     if depth == 0 {
         return Err(ModelFault::Operands { at: 0 });
     }
-    let parts = match operands(alloc, names, roles, elements, i, depth - 1) {
-        Ok(parts) => parts,
-        Err(fault) => return Err(fault),
-    };
-    if i < elements.len() {
-        joined(alloc, names, &elements[i], parts)
-    } else {
-        Err(ModelFault::Operands { at: 0 })
+    match operands(alloc, names, roles, elements, spans, i, depth - 1) {
+        Ok(parts) => joined(alloc, names, &elements[i], parts),
+        Err(fault) => Err(fault),
     }
 }
 
@@ -258,19 +259,23 @@ fn operands(
     names: &Names,
     roles: &[Role],
     elements: &[Element],
+    spans: &[Span],
     i: usize,
     depth: usize,
 ) -> Result<Vec<Rule>, ModelFault>
+    requires spans { AreSpans (length elements.now) spans.now (elements_of elements.now) }
+    requires within { i < length elements.now }
     ensures ok { IfOk result (λ v. operands_with (formula_with depth names.now roles.now (elements_of elements.now))
         roles.now i 0 [] (elements_of elements.now) ≡ Ok (map constraint_of v.items)) }
     ensures err { IfErr result (IsRefused (operands_with
         (formula_with depth names.now roles.now (elements_of elements.now)) roles.now i 0 []
         (elements_of elements.now))) }
 {
+    let span = spans[i];
     let mut parts = Vec::new(alloc);
-    for (j, e) in elements.iter().enumerate() {
-        if is_operand(roles, i, j, e) {
-            let part = match formula(alloc, names, roles, elements, j, depth) {
+    for j in span.from..span.to {
+        if is_operand(roles, i, j, &elements[j]) {
+            let part = match formula(alloc, names, roles, elements, spans, j, depth) {
                 Ok(part) => part,
                 Err(fault) => return Err(fault),
             };
@@ -285,24 +290,72 @@ fn operands(
 /// The greatest number of elements that nest in a rule.
 const DEEPEST: usize = 64;
 
+/// Returns a rule, if its text can be read: at most 64 signs are open at one place.
+fn shallow(at: usize, rule: Rule) -> Result<Rule, ModelFault>
+    ensures ok { IfOk result (λ r. shallow at (constraint_of rule) ≡ Ok (constraint_of r)) }
+    ensures err { IfErr result (λ e. shallow at (constraint_of rule) ≡ Err e) }
+{
+    if is_shallow(&rule) {
+        Ok(rule)
+    } else {
+        Err(ModelFault::TooDeep { at })
+    }
+}
+
 /// Returns the rule of a `rule` element at an index.
 fn rule_at(
     alloc: Global,
     names: &Names,
     roles: &[Role],
     elements: &[Element],
+    spans: &[Span],
     i: usize,
     e: &Element,
 ) -> Result<Rule, ModelFault>
+    requires spans { AreSpans (length elements.now) spans.now (elements_of elements.now) }
+    requires within { i < length elements.now }
     ensures ok { IfOk result (λ r. rule_at names.now roles.now (elements_of elements.now) i (element_of e.now)
         ≡ Ok (constraint_of r)) }
     ensures err { IfErr result
         (IsRefused (rule_at names.now roles.now (elements_of elements.now) i (element_of e.now))) }
 {
-    match operands(alloc, names, roles, elements, i, DEEPEST) {
-        Ok(parts) => only(e.at, parts),
+    let parts = match operands(alloc, names, roles, elements, spans, i, DEEPEST) {
+        Ok(parts) => parts,
+        Err(fault) => return Err(fault),
+    };
+    match only(e.at, parts) {
+        Ok(rule) => shallow(e.at, rule),
         Err(fault) => Err(fault),
     }
+}
+
+/// Returns the rules of all `rule` elements, whose operands are in these spans.
+fn rules_in_spans(
+    alloc: Global,
+    names: &Names,
+    roles: &[Role],
+    elements: &[Element],
+    spans: &[Span],
+) -> Result<Vec<Rule>, ModelFault>
+    requires { AreSpans (length elements.now) spans.now (elements_of elements.now) }
+    ensures ok { IfOk result (λ v. rules_with names.now roles.now (elements_of elements.now) 0 []
+        (elements_of elements.now) ≡ Ok (map constraint_of v.items)) }
+    ensures err { IfErr result (IsRefused (rules_with names.now roles.now (elements_of elements.now) 0 []
+        (elements_of elements.now))) }
+{
+    let mut found = Vec::new(alloc);
+    for (i, e) in elements.iter().enumerate() {
+        if is_rule(role_at(roles, i)) {
+            let rule = match rule_at(alloc, names, roles, elements, spans, i, e) {
+                Ok(rule) => rule,
+                Err(fault) => return Err(fault),
+            };
+            let Ok(()) = found.push(rule) else {
+                return Err(ModelFault::Memory);
+            };
+        }
+    }
+    Ok(found)
 }
 
 /// Returns the rules of all `rule` elements.
@@ -317,17 +370,8 @@ pub(crate) fn rules(
     ensures err { IfErr result (IsRefused (rules_with names.now roles.now (elements_of elements.now) 0 []
         (elements_of elements.now))) }
 {
-    let mut found = Vec::new(alloc);
-    for (i, e) in elements.iter().enumerate() {
-        if is_rule(role_at(roles, i)) {
-            let rule = match rule_at(alloc, names, roles, elements, i, e) {
-                Ok(rule) => rule,
-                Err(fault) => return Err(fault),
-            };
-            let Ok(()) = found.push(rule) else {
-                return Err(ModelFault::Memory);
-            };
-        }
+    match spans(alloc, elements) {
+        Ok(spans) => rules_in_spans(alloc, names, roles, elements, &spans),
+        Err(_) => Err(ModelFault::Memory),
     }
-    Ok(found)
 }

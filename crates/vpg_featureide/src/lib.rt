@@ -5,8 +5,8 @@
 //! products are read over, and abstract features are features.
 //!
 //! Definitions stand in `specs/`: `Roles` (what an element is, by the element around it), `Model` (the features),
-//! `Formulas` (the constraints, and the model of a document), and `Trees` (the tree of a model). Only private contracts
-//! name `View`.
+//! `Formulas` (the constraints, and the model of a document), `Trees` (the tree of a model), and `Laws` (statements of
+//! the module `laws`). Only private contracts name `Spans` and `View`.
 //!
 //! Trials: tests of `vpg_family_tests` (`family/meant`).
 #![tactic(auto)]
@@ -14,8 +14,10 @@
 mod builder;
 mod fault;
 mod formula;
+pub mod laws;
 mod model;
 mod role;
+mod spans;
 mod tree;
 
 pub use builder::Member;

@@ -4,6 +4,8 @@ use Rattle.std.specs.Prelude.{◌≡◌, ◌≢◌, ⊤, ℕ, nat_eq, if◌then�
 use Rattle.std.specs.List.{ends_with}
 use Rattle.vpg_tree.specs.Tree.{Tree as FeatureTree}
 use Rattle.vpg_tree.specs.DiagramText.{diagram_text}
+use Rattle.vpg_diagram.specs.DiagramText.{NamedDiagram, IsTextOf}
+use Rattle.vpg_tree_diagram.specs.Standing.{HasTheConfigurations, IsWithinLimits}
 use Rattle.vpg_uvl.specs.Model.{Spells, IsFirstFault}
 use Rattle.vpg_uvl.specs.Attributes.{attribute_places}
 use Rattle.vpg_uvl.specs.declared.fault.UvlFault.TheVariants as of_uvl
@@ -51,3 +53,20 @@ abbrev pub attributes_in : Form → List ℕ → List ℕ
 attributes_in forms.Diagram text = []
 attributes_in forms.Uvl text = attribute_places text
 attributes_in forms.FeatureIde text = []
+
+-- the text of a file of this form spells this feature tree
+abbrev pub SpellsTree : Form → List ℕ → FeatureTree → Type 0
+SpellsTree forms.Diagram text tree = ⊥
+SpellsTree forms.Uvl text tree = Spells text tree
+SpellsTree forms.FeatureIde text tree = IsTreeOf text tree
+
+-- each diagram that the other text spells has the configurations of the feature tree in this text
+abbrev pub HasItsConfigurations : Form → (text meant : List ℕ) → Type 0
+HasItsConfigurations form text meant =
+    (tree : FeatureTree) (d : NamedDiagram) → SpellsTree form text tree → IsTextOf meant d →
+    HasTheConfigurations tree d
+
+-- the other text spells a diagram, if the feature tree in this text is within the limits
+abbrev pub IsReadWithinLimits : Form → (text meant : List ℕ) → Type 0
+IsReadWithinLimits form text meant =
+    (tree : FeatureTree) → SpellsTree form text tree → IsWithinLimits tree → (d : NamedDiagram) × IsTextOf meant d

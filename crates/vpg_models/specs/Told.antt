@@ -70,6 +70,7 @@ featureide_text (featureide.SecondRoot at) = at_text (codes "SecondRoot") at
 featureide_text featureide.NoRoot = codes "NoRoot"
 featureide_text (featureide.UnknownName at) = at_text (codes "UnknownName") at
 featureide_text (featureide.Operands at) = at_text (codes "Operands") at
+featureide_text (featureide.TooDeep at) = at_text (codes "TooDeep") at
 featureide_text featureide.Memory = codes "Memory"
 
 -- the language, and the fault in it

@@ -189,6 +189,10 @@ fn said_of_featureide(fault: ModelFault) -> (usize, &'static [u8]) {
         ModelFault::NoRoot => (0, b"the model has no feature"),
         ModelFault::UnknownName { at } => (at, b"this names no feature"),
         ModelFault::Operands { at } => (at, b"this has too few or too many operands"),
+        ModelFault::TooDeep { at } => (
+            at,
+            b"the formula of this has more than 64 open signs at one place",
+        ),
         ModelFault::Memory => (0, b"memory ran out"),
     }
 }

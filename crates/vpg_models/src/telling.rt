@@ -118,6 +118,7 @@ fn put_featureide(fault: ModelFault, out: &mut Vec<u8>) -> Result<(), AllocError
         ModelFault::NoRoot => out.extend_from_slice(b"NoRoot"),
         ModelFault::UnknownName { at } => put_at(b"UnknownName", at, out),
         ModelFault::Operands { at } => put_at(b"Operands", at, out),
+        ModelFault::TooDeep { at } => put_at(b"TooDeep", at, out),
         ModelFault::Memory => out.extend_from_slice(b"Memory"),
     }
 }

@@ -1,11 +1,11 @@
 -- A rule that is read has a writing that reads back: each `and` and `or` has two parts, and few signs are open.
-use Rattle.std.proofs.Common.{◌≡◌, ℕ, zero, suc, ◌<◌, ◌≤◌, Bool, true, false, List, max, refl, sym, ap, subst, ◌∙◌, arith}
+use Rattle.std.proofs.Common.{◌≡◌, ℕ, zero, suc, ◌<◌, ◌≤◌, Bool, true, false, List, refl, subst, arith}
 use Rattle.std.specs.Prelude.{codes, nat_lt}
-use Rattle.std.proofs.lemmas.Bool.{cases_Bool, ltb-true, ltb-false}
-use Rattle.vpg_rules.specs.Constraint.{Constraint, Parts, always, never, feature, negation, all, any, implication, equivalence, no_parts, part, renamed, each_renamed}
+use Rattle.std.proofs.lemmas.Bool.{ltb-true, ltb-false}
+use Rattle.vpg_rules.specs.Constraint.{Constraint, Parts, all, any, implication, equivalence, no_parts, part, renamed, each_renamed}
 use Rattle.vpg_rules.specs.Grammar.{NamedRule, constant_rule, Factor, constant, name, inverted, enclosed, added, Items, one, more, alone_or, Series, Arrow, plain, arrow, Disjunction, IsFactor, IsImplication, IsRule}
 use Rattle.vpg_tree.specs.RuleText.{closeness}
-use Rattle.vpg_tree.specs.Laws.{more_if, open_signs, most_open, HasTwo, JoinsTwo, EachJoinsTwo}
+use Rattle.vpg_tree.specs.Laws.{more_if, open_signs, most_open, JoinsTwo, EachJoinsTwo}
 
 less_more : (x k o n : ℕ) → more_if (nat_lt x (suc k)) o < n → more_if (nat_lt x k) o < n
 less_more x k o n h = go (nat_lt x k) (nat_lt x (suc k)) refl refl h

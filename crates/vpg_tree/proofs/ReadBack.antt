@@ -1,16 +1,16 @@
 -- The writing of a rule reads back.
-use Rattle.std.proofs.Common.{◌≡◌, ℕ, zero, suc, ◌+◌, ◌-◌, ◌<◌, ◌≤◌, Bool, true, false, List, [], ◌∷◌, ◌++◌, length, max, Some, ◌⊎◌, inl, inr, refl, sym, ap, ap₂, subst, ◌∙◌, arith, append_assoc}
+use Rattle.std.proofs.Common.{◌≡◌, ℕ, zero, suc, ◌+◌, ◌-◌, ◌<◌, ◌≤◌, Bool, true, false, List, [], ◌∷◌, ◌++◌, length, refl, sym, ap, ap₂, subst, arith, append_assoc}
 use Rattle.std.specs.Prelude.{codes, nat_lt, slice_index_or, unwrap_or}
-use Rattle.std.proofs.lemmas.Bool.{cases_Bool, ltb-true, ltb-false}
+use Rattle.std.proofs.lemmas.Bool.{ltb-false}
 use Rattle.std.proofs.lemmas.List.{append-nil}
 use Rattle.std.proofs.lemmas.Option.{slice_get-get_or}
-use Rattle.vpg_features.specs.Names.{IsFeatureName, AreNames, index_of}
+use Rattle.vpg_features.specs.Names.{IsFeatureName, AreNames}
 use Rattle.vpg_features.proofs.Held.{held_is_name, index_of_held}
 use Rattle.vpg_guards.specs.Grammar.{AreBlank, constant_text}
 use Rattle.vpg_rules.specs.Constraint.{Constraint, Parts, always, never, feature, negation, all, any, implication, equivalence, no_parts, part, renamed, each_renamed, IsBelow, AreBelow}
-use Rattle.vpg_rules.specs.Grammar.{NamedRule, constant_rule, Factor, constant, name, inverted, enclosed, added, Items, one, more, alone_or, Series, Arrow, plain, arrow, Disjunction, IsFactor, IsImplication, IsRule, Spells, index_or_end}
-use Rattle.vpg_tree.specs.RuleText.{closeness, enclosed_if, rule_text, all_text, any_text, more_all_text, more_any_text}
-use Rattle.vpg_tree.specs.Laws.{more_if, open_signs, most_open, HasTwo, JoinsTwo, EachJoinsTwo, ReadsAs}
+use Rattle.vpg_rules.specs.Grammar.{NamedRule, constant_rule, constant, name, inverted, enclosed, added, Items, one, more, Series, plain, arrow, Disjunction, IsFactor, IsImplication, IsRule, index_or_end}
+use Rattle.vpg_tree.specs.RuleText.{closeness, enclosed_if, rule_text, more_all_text, more_any_text}
+use Rattle.vpg_tree.specs.Laws.{more_if, open_signs, most_open, JoinsTwo, EachJoinsTwo, ReadsAs}
 
 -- ---- levels: 0 for rules, 1 without an outer `<=>`, 2 for disjunctions, 3 for conjunctions, 4 for factors
 

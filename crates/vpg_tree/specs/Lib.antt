@@ -4,3 +4,4 @@ pub mod RuleText
 pub mod DiagramText
 pub mod Short
 pub mod Laws
+pub mod InOrder

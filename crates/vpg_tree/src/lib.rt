@@ -7,7 +7,8 @@
 //! 0 in the order in which they were added.
 //!
 //! Definitions stand in `specs/`: `Tree` (feature trees and their configurations), `Lines` (the lines of the diagram
-//! that a tree stands for), `DiagramText` (the text of these lines), and `Laws` (statements of the module `laws`).
+//! that a tree stands for), `DiagramText` (the text of these lines), `InOrder` (trees whose text is that of a diagram),
+//! and `Laws` (statements of the module `laws`).
 //!
 //! Trials: tests of `vpg_family_tests` (`family/meant`), by the formats that spell trees.
 #![tactic(auto)]
@@ -16,8 +17,10 @@ mod group;
 pub mod laws;
 mod members;
 mod rules;
+mod signs;
 mod tree;
 mod writing;
 
 pub use group::{Group, Kind};
+pub use signs::{MOST_OPEN, is_shallow};
 pub use tree::Tree;

@@ -9,7 +9,7 @@ use vpg_features::Names;
 use vpg_rules::Rule;
 
 /// Returns how closely the outermost operator binds.
-fn closeness(rule: &Rule) -> u8
+pub(crate) fn closeness(rule: &Rule) -> u8
     ensures { result ≡ closeness (constraint_of rule.now) }
 {
     match rule {

@@ -1,4 +1,4 @@
-use Rattle.std.proofs.Common.{◌≡◌, ◌+◌, ◌*◌, [], drop, map}
+use Rattle.std.proofs.Common.{◌≡◌, ◌+◌, ◌*◌, ◌≤◌, [], drop, length, map}
 use Rattle.vpg_rules.specs.View.{constraint_of}
 use Rattle.vpg_xml.specs.View.{elements_of}
 use Rattle.vpg_featureide.specs.Formulas.{operands_with, formula_with}
@@ -11,6 +11,8 @@ abbrev pub decreases-operands : goal.decreases-operands
 decreases-operands l = 2 * l.depth + 1
 
 abbrev pub invariant-operands-loop-j : goal.invariant-operands-loop-j
-invariant-operands-loop-j l =
-    operands_with (formula_with l.depth l.names l.roles (elements_of l.elements)) l.roles l.i 0 [] (elements_of l.elements)
-    ≡ operands_with (formula_with l.depth l.names l.roles (elements_of l.elements)) l.roles l.i l.j (map constraint_of l.parts.items) (elements_of (drop l.j l.elements))
+invariant-operands-loop-j l = record {
+  within : l.j-end ≤ length l.elements;
+  same : operands_with (formula_with l.depth l.names l.roles (elements_of l.elements)) l.roles l.i 0 [] (elements_of l.elements)
+      ≡ operands_with (formula_with l.depth l.names l.roles (elements_of l.elements)) l.roles l.i l.j (map constraint_of l.parts.items) (drop l.j (elements_of l.elements));
+}

@@ -1,4 +1,4 @@
-use Rattle.std.proofs.Common.{◌≡◌, ◌≤◌, sym, subst}
+use Rattle.std.proofs.Common.{◌≤◌, sym, subst}
 use Rattle.vpg_rules.specs.Grammar.{index_or_end}
 use Rattle.vpg_tree.specs.Laws.{JoinsTwo, open_signs}
 use Rattle.vpg_tree.proofs.ReadBack as back

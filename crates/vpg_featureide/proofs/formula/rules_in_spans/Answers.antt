@@ -7,8 +7,8 @@ use Rattle.vpg_xml.specs.View.{element_of, elements_of}
 use Rattle.vpg_featureide.specs.Roles.{Outside}
 use Rattle.vpg_featureide.specs.Formulas.{is_rule, rules_with}
 use Rattle.vpg_featureide.proofs.Formed.{rules_here, rules_err, rules_more, rules_less, refused_along}
-use Rattle.vpg_featureide.proofs.formula.rules.Goals as goal
-use Rattle.vpg_featureide.proofs.formula.rules.Goals.{then-is_rule+in-Ok+in-Ok-push, else-is_rule}
+use Rattle.vpg_featureide.proofs.formula.rules_in_spans.Goals as goal
+use Rattle.vpg_featureide.proofs.formula.rules_in_spans.Goals.{then-is_rule+in-Ok+in-Ok-push, else-is_rule}
 
 pub returns-in-Err-clause-err : goal.returns-in-Err-clause-err
 returns-in-Err-clause-err c =
