@@ -25,7 +25,7 @@ pub fn parts_speak_of_requirements()
 /// of a marked one is open there. A step leaves the state that the walk is at, and leads to its next state. A move
 /// without a step stays in its state, or no product that is left has it.
 ///
-/// `vpg_family::read_known` returns such a game with its system (`made`), and `vpg_report::run` answers by them; so
+/// `vpg_family::read_known` returns such a game with its system (`known`), and `vpg_report::run` answers by them; so
 /// nothing else is to be shown.
 pub fn traced_steps_are_there()
     ensures { TracedStepsAreThere }

@@ -7,9 +7,9 @@ use Rattle.vpg_game.specs.Game.{NamedGame}
 use Rattle.vpg_formula.specs.Requirements.{AreRequirements, names_of}
 use Rattle.vpg_formula.specs.EntryCode.{entries_of}
 use Rattle.vpg_formula.specs.declared.requirement.Entry as code
-use Rattle.vpg_family.specs.Families.{entry_names, IsNameOfEntry, SpellsFamily, IsModelFault, IsModelled, AreTextsOf, IsFamilyOf, IsUnread}
+use Rattle.vpg_family.specs.Families.{entry_names, IsNameOfEntry, SpellsFamily, IsModelFault, IsUnread}
 use Rattle.vpg_checking.specs.Behaviours.{Behaviour}
-use Rattle.vpg_family.specs.Made.{IsMade, AreTextsMadeOf, IsFamilyMadeOf}
+use Rattle.vpg_family.specs.Made.{IsModelled, AreTextsOf, IsFamilyOf}
 use Rattle.vpg_family.specs.declared.fault.Fault.{Fault}
 use Rattle.vpg_family.specs.declared.fault.Fault.TheVariants as told
 use Rattle.vpg_family.specs.declared.files.GamePaths.{GamePaths}
@@ -26,25 +26,19 @@ unread_model diagram_text game_text system_text requirements_text diagram told.M
 unread_model diagram_text game_text system_text requirements_text diagram _ is h = absurd h
 
 -- texts that spell one family alone spell that of their paths
-pub family_of_paths : (files : GamePaths) (diagram_text game_text : List ℕ) (names : List (List ℕ)) (vertices : List ℕ) (d : NamedDiagram) (g : NamedGame)
-    → ((diagram : NamedDiagram) (game : NamedGame) → SpellsFamily diagram_text game_text diagram game → (d ≡ diagram) × (g ≡ game)) → AreTextsOf files diagram_text game_text names vertices → IsFamilyOf files d g
-family_of_paths (paths.Model files) diagram_text game_text names vertices d g only h =
+pub family_of_paths : (files : GamePaths) (diagram_text system_text requirements_text game_text : List ℕ) (names : List (List ℕ)) (vertices : List ℕ) (behaviour : Option Behaviour) (d : NamedDiagram) (g : NamedGame)
+    → ((diagram : NamedDiagram) (game : NamedGame) → SpellsFamily diagram_text game_text diagram game → (d ≡ diagram) × (g ≡ game))
+    → AreTextsOf files diagram_text system_text requirements_text game_text names vertices behaviour → IsFamilyOf files d system_text requirements_text g names vertices behaviour
+family_of_paths (paths.Game path) diagram_text system_text requirements_text game_text names vertices behaviour d g only h = (h.2, h.3, h.4)
+family_of_paths (paths.Model files) diagram_text system_text requirements_text game_text names vertices behaviour d g only h =
     let same = only h.diagram h.game h.spelled in
-    (names, vertices, coe 0 1 (k. IsModelled ((sym same.0) k) ((sym same.1) k) names vertices) h.modelled)
-family_of_paths _ diagram_text game_text names vertices d g only h = tt
+    coe 0 1 (k. IsModelled ((sym same.0) k) system_text requirements_text ((sym same.1) k) names vertices behaviour) h.modelled
+family_of_paths (paths.System path) diagram_text system_text requirements_text game_text names vertices behaviour d g only h = (h.2, h.3, h.4)
 
 -- the same texts spell it
 pub spelled_there : (diagram_text game_text one other : List ℕ) (diagram : NamedDiagram) (game : NamedGame) → one ≡ diagram_text → other ≡ game_text → SpellsFamily diagram_text game_text diagram game → SpellsFamily one other diagram game
 spelled_there diagram_text game_text one other diagram game e f h =
     coe 0 1 (k. SpellsFamily ((sym e) k) ((sym f) k) diagram game) h
-
--- a family of texts that spell one family alone was made of what their paths say
-pub made_of_paths : (files : GamePaths) (diagram_text game_text : List ℕ) (d : NamedDiagram) (g : NamedGame) (behaviour : Option Behaviour)
-    → ((diagram : NamedDiagram) (game : NamedGame) → SpellsFamily diagram_text game_text diagram game → (d ≡ diagram) × (g ≡ game)) → AreTextsMadeOf files diagram_text game_text behaviour → IsFamilyMadeOf files d g behaviour
-made_of_paths (paths.Model files) diagram_text game_text d g behaviour only h =
-    let same = only h.diagram h.game h.spelled in
-    coe 0 1 (k. IsMade ((sym same.0) k) ((sym same.1) k) behaviour) h.made
-made_of_paths _ diagram_text game_text d g behaviour only h = h
 
 -- ---- the name of an entry
 

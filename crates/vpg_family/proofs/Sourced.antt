@@ -1,10 +1,8 @@
 -- The texts of a diagram's file, and its faults.
-use Rattle.std.proofs.Common.{◌≡◌, ℕ, List, refl, sym, subst, ◌⊎◌, inl, inr}
-use Rattle.vpg_diagram.specs.DiagramText.{NamedDiagram, IsTextOf}
+use Rattle.std.proofs.Common.{◌≡◌, ℕ, List, sym, subst, ◌⊎◌, inl, inr}
 use Rattle.vpg_models.specs.declared.form.Form.{Form}
-use Rattle.vpg_models.specs.declared.form.Form.TheVariants as forms
 use Rattle.vpg_family.specs.Families.{IsDiagramFault}
-use Rattle.vpg_family.specs.Sources.{AreOfFile, AreOfFileBy, IsOfForm}
+use Rattle.vpg_family.specs.Sources.{AreOfFile, AreOfFileBy}
 use Rattle.vpg_family.specs.declared.fault.Input.TheVariants as inputs
 use Rattle.vpg_family.specs.declared.fault.Fault.{Fault}
 use Rattle.vpg_family.specs.declared.fault.Fault.TheVariants as told
@@ -15,10 +13,3 @@ by_text form model text fault are (inl e) = subst (λ (f : Fault). AreOfFileBy f
 by_text form model text (told.Diagram fault) are (inr h) = are
 by_text form model text told.Memory are (inr h) = tt
 by_text form model text _ are (inr h) = absurd h
-
--- the diagram of such texts is that of a file of the form
-pub is_of_form : (form : Form) (model text : List ℕ) (diagram : NamedDiagram) → AreOfFile form model text → IsTextOf text diagram → IsOfForm form diagram
-is_of_form forms.Diagram model text diagram are is =
-    record { file_text = text; diagram_text = text; meant = refl; spelled = is }
-is_of_form _ model text diagram are is =
-    record { file_text = model; diagram_text = text; meant = are; spelled = is }

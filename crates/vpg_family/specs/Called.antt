@@ -7,8 +7,12 @@ use Rattle.vpg_game.specs.Grammar.{File, IsFile, file_text}
 use Rattle.vpg_game.specs.SpelledNames.{Told, told_by}
 use Rattle.vpg_script.specs.Script.{is_nonempty}
 use Rattle.vpg_script.specs.Calling.{Calling}
-use Rattle.vpg_family.specs.Families.{SpellsFamily, AreTextsOf}
+use Rattle.vpg_checking.specs.Behaviours.{Behaviour}
+use Rattle.vpg_models.specs.declared.form.Form.{Form}
+use Rattle.vpg_family.specs.Families.{SpellsFamily}
+use Rattle.vpg_family.specs.Made.{IsFamilyOf}
 use Rattle.vpg_family.specs.Pictures.{TellsNames}
+use Rattle.vpg_family.specs.Sources.{AreOfFile}
 use Rattle.vpg_family.specs.declared.files.GamePaths.{GamePaths}
 
 abbrev pub one_calling : List ℕ → Option ℕ → List Calling
@@ -55,20 +59,21 @@ pub record AreCallings (game : NamedGame) (game_text : List ℕ) (names : List (
   pub gives : GivesNames game_text told
   pub callings_are : callings ≡ callings_of told (vertex_ids game.vertices) names vertices
 
--- The family of some files, and the names of its vertices. If a system and requirements stand in place of the game, the
--- name of each requirement stands for the vertex at which the game is its model.
-pub record IsCalledFamily (files : GamePaths) (diagram : NamedDiagram) (game : NamedGame) (callings : List Calling) :
-    Type 0 where
+-- The family of some files, all of it of one reading of their texts. The diagram is that of its file, or the one that
+-- the feature model in it means. A made game is that of the texts of the system and the requirements, and the name of
+-- each requirement stands for the vertex at which the game is its model. The names and the start are told by the same
+-- text of the game.
+pub record IsKnown (files : GamePaths) (form : Form) (diagram : NamedDiagram) (game : NamedGame)
+    (callings : List Calling) (told : Told) (behaviour : Option Behaviour) : Type 0 where
+  pub model_text : List ℕ
   pub diagram_text : List ℕ
+  pub system_text : List ℕ
+  pub requirements_text : List ℕ
   pub game_text : List ℕ
   pub names : List (List ℕ)
   pub vertices : List ℕ
+  pub meant : AreOfFile form model_text diagram_text
   pub spelled : SpellsFamily diagram_text game_text diagram game
-  pub texts : AreTextsOf files diagram_text game_text names vertices
+  pub family : IsFamilyOf files diagram system_text requirements_text game names vertices behaviour
   pub called : AreCallings game game_text names vertices callings
-
--- Such a family, and the names and the start that are told by the same text of its game.
-pub record IsNamedFamily (files : GamePaths) (diagram : NamedDiagram) (game : NamedGame) (callings : List Calling)
-    (names : Told) : Type 0 where
-  pub family : IsCalledFamily files diagram game callings
-  pub told : TellsNames family.game_text names
+  pub told_is : TellsNames game_text told

@@ -82,34 +82,6 @@ pub record IsModelOver (diagram : NamedDiagram) (system_text requirements_text :
   pub model : IsModelOfTexts diagram.names diagram.lines system_text requirements_text (graph_of game) vertices
   pub names_are : names ≡ entry_names model.entries
 
--- the game is the model-checking game of some texts over the diagram, of requirements of these names at these vertices
-pub record IsModelled (diagram : NamedDiagram) (game : NamedGame) (names : List (List ℕ)) (vertices : List ℕ) :
-    Type 0 where
-  pub system_text : List ℕ
-  pub requirements_text : List ℕ
-  pub over : IsModelOver diagram system_text requirements_text game names vertices
-
--- the texts spell a family with such a game
-pub record IsModelledBy (diagram_text game_text : List ℕ) (names : List (List ℕ)) (vertices : List ℕ) : Type 0 where
-  pub diagram : NamedDiagram
-  pub game : NamedGame
-  pub spelled : SpellsFamily diagram_text game_text diagram game
-  pub modelled : IsModelled diagram game names vertices
-
--- If the paths name a system and requirements, the texts are those of their game.
-abbrev pub AreTextsOf : GamePaths → (diagram_text game_text : List ℕ) → List (List ℕ) → List ℕ → Type 0
-AreTextsOf (paths.Game path) diagram_text game_text names vertices = ⊤
-AreTextsOf (paths.Model files) diagram_text game_text names vertices =
-    IsModelledBy diagram_text game_text names vertices
-AreTextsOf (paths.System path) diagram_text game_text names vertices = ⊤
-
--- If the paths name a system and requirements, the family is that of their game.
-abbrev pub IsFamilyOf : GamePaths → NamedDiagram → NamedGame → Type 0
-IsFamilyOf (paths.Game path) diagram game = ⊤
-IsFamilyOf (paths.Model files) diagram game =
-    (names : List (List ℕ)) × (vertices : List ℕ) × IsModelled diagram game names vertices
-IsFamilyOf (paths.System path) diagram game = ⊤
-
 -- the fault of the texts of a system and of requirements that have no game over the diagram that a text spells
 abbrev pub IsNoModel : (diagram_text system_text requirements_text : List ℕ) → Fault → Type 0
 IsNoModel diagram_text system_text requirements_text fault = (diagram : NamedDiagram) ×
@@ -196,10 +168,6 @@ abbrev pub IsOfPaths : GamePaths → Fault → Type 0
 IsOfPaths (paths.Game path) fault = IsOfGame fault
 IsOfPaths (paths.Model files) fault = IsOfModel fault
 IsOfPaths (paths.System path) fault = IsOfSystem fault
-
--- the family of some texts
-abbrev pub IsSpelled : NamedDiagram → NamedGame → Type 0
-IsSpelled diagram game = (diagram_text game_text : List ℕ) × SpellsFamily diagram_text game_text diagram game
 
 -- the fault of a conflict of this feature: its name, if there is memory for it
 abbrev pub TellsConflict : List (List ℕ) → ℕ → Fault → Type 0

@@ -1,6 +1,6 @@
 -- The system that the game of a family was made of, if a system and requirements stand in its place. This project's
 -- own.
-use Rattle.std.specs.Prelude.{◌≡◌, ℕ, List, Option, Some, None, length, map}
+use Rattle.std.specs.Prelude.{◌≡◌, ℕ, List, [], Option, Some, None, length, map}
 use Rattle.vpg_diagram.specs.DiagramText.{NamedDiagram}
 use Rattle.vpg_game.specs.Game.{NamedGame, graph_of}
 use Rattle.vpg_system.specs.SystemText.{NamedSystem, IsTextOf}
@@ -9,7 +9,7 @@ use Rattle.vpg_model.specs.Pairs.{pair_for}
 use Rattle.vpg_model.specs.Sources.{system_of}
 use Rattle.vpg_checking.specs.Behaviours.{Behaviour}
 use Rattle.vpg_checking.specs.Texts.{AreVerticesOf}
-use Rattle.vpg_family.specs.Families.{SpellsFamily}
+use Rattle.vpg_family.specs.Families.{IsModelOver, SpellsFamily}
 use Rattle.vpg_family.specs.declared.files.GamePaths.{GamePaths}
 use Rattle.vpg_family.specs.declared.files.GamePaths.TheVariants as paths
 
@@ -31,27 +31,42 @@ pub record IsMadeOf (diagram : NamedDiagram) (system_text : List ℕ) (game : Na
   pub are_vertices : AreVerticesOf behaviour.states behaviour.sets behaviour.parts (roots_of behaviour system places)
       behaviour.pairs vertices (graph_of game)
 
--- the game was made of the system of some text
-abbrev pub IsMade : NamedDiagram → NamedGame → Option Behaviour → Type 0
-IsMade diagram game None = ⊥
-IsMade diagram game (Some behaviour) = (system_text : List ℕ) × IsMadeOf diagram system_text game behaviour
+-- the game was made of the system that the text spells
+abbrev pub IsMade : NamedDiagram → (system_text : List ℕ) → NamedGame → Option Behaviour → Type 0
+IsMade diagram system_text game None = ⊥
+IsMade diagram system_text game (Some behaviour) = IsMadeOf diagram system_text game behaviour
 
--- the texts spell a family with a game made of this
-pub record IsMadeBy (diagram_text game_text : List ℕ) (behaviour : Option Behaviour) : Type 0 where
+-- The game is the model-checking game of these texts over the diagram, of requirements of these names at these
+-- vertices, and was made of this.
+pub record IsModelled (diagram : NamedDiagram) (system_text requirements_text : List ℕ) (game : NamedGame)
+    (names : List (List ℕ)) (vertices : List ℕ) (behaviour : Option Behaviour) : Type 0 where
+  pub over : IsModelOver diagram system_text requirements_text game names vertices
+  pub made : IsMade diagram system_text game behaviour
+
+-- the texts spell a family whose game is that of these texts
+pub record IsModelText (diagram_text system_text requirements_text game_text : List ℕ) (names : List (List ℕ))
+    (vertices : List ℕ) (behaviour : Option Behaviour) : Type 0 where
   pub diagram : NamedDiagram
   pub game : NamedGame
   pub spelled : SpellsFamily diagram_text game_text diagram game
-  pub made : IsMade diagram game behaviour
+  pub modelled : IsModelled diagram system_text requirements_text game names vertices behaviour
 
--- If the paths name a system and requirements, the texts are those of a game that was made of this; else it was made of
--- nothing.
-abbrev pub AreTextsMadeOf : GamePaths → (diagram_text game_text : List ℕ) → Option Behaviour → Type 0
-AreTextsMadeOf (paths.Game path) diagram_text game_text behaviour = behaviour ≡ None
-AreTextsMadeOf (paths.Model files) diagram_text game_text behaviour = IsMadeBy diagram_text game_text behaviour
-AreTextsMadeOf (paths.System path) diagram_text game_text behaviour = behaviour ≡ None
+-- If the paths name a system and requirements, the texts are those of their game; else there is neither.
+abbrev pub AreTextsOf : GamePaths → (diagram_text system_text requirements_text game_text : List ℕ) →
+    (names : List (List ℕ)) → (vertices : List ℕ) → Option Behaviour → Type 0
+AreTextsOf (paths.Game path) diagram_text system_text requirements_text game_text names vertices behaviour =
+    (system_text ≡ []) × (requirements_text ≡ []) × (names ≡ []) × (vertices ≡ []) × (behaviour ≡ None)
+AreTextsOf (paths.Model files) diagram_text system_text requirements_text game_text names vertices behaviour =
+    IsModelText diagram_text system_text requirements_text game_text names vertices behaviour
+AreTextsOf (paths.System path) diagram_text system_text requirements_text game_text names vertices behaviour =
+    (requirements_text ≡ []) × (game_text ≡ []) × (names ≡ []) × (vertices ≡ []) × (behaviour ≡ None)
 
--- If the paths name a system and requirements, the game was made of this; else of nothing.
-abbrev pub IsFamilyMadeOf : GamePaths → NamedDiagram → NamedGame → Option Behaviour → Type 0
-IsFamilyMadeOf (paths.Game path) diagram game behaviour = behaviour ≡ None
-IsFamilyMadeOf (paths.Model files) diagram game behaviour = IsMade diagram game behaviour
-IsFamilyMadeOf (paths.System path) diagram game behaviour = behaviour ≡ None
+-- so is the family itself
+abbrev pub IsFamilyOf : GamePaths → NamedDiagram → (system_text requirements_text : List ℕ) → NamedGame →
+    (names : List (List ℕ)) → (vertices : List ℕ) → Option Behaviour → Type 0
+IsFamilyOf (paths.Game path) diagram system_text requirements_text game names vertices behaviour =
+    (names ≡ []) × (vertices ≡ []) × (behaviour ≡ None)
+IsFamilyOf (paths.Model files) diagram system_text requirements_text game names vertices behaviour =
+    IsModelled diagram system_text requirements_text game names vertices behaviour
+IsFamilyOf (paths.System path) diagram system_text requirements_text game names vertices behaviour =
+    (names ≡ []) × (vertices ≡ []) × (behaviour ≡ None)

@@ -1,6 +1,5 @@
 -- The file of a diagram, which may have a feature model that means one. This project's own.
 use Rattle.std.specs.Prelude.{◌≡◌, ◌≢◌, ◌⊎◌, ⊤, ℕ, List, []}
-use Rattle.vpg_diagram.specs.DiagramText.{NamedDiagram, IsTextOf}
 use Rattle.vpg_models.specs.Forms.{Means, IsFormFault}
 use Rattle.vpg_models.specs.declared.form.Form.{Form}
 use Rattle.vpg_models.specs.declared.form.Form.TheVariants as forms
@@ -33,10 +32,3 @@ IsLater told.DiagramUnreadable = ⊥
 IsLater (told.TooLarge inputs.Diagram) = ⊥
 IsLater (told.FeatureModel fault) = ⊥
 IsLater fault = ⊤
-
--- the diagram is the one that the text of some file of this form means
-pub record IsOfForm (form : Form) (diagram : NamedDiagram) : Type 0 where
-  pub file_text : List ℕ
-  pub diagram_text : List ℕ
-  pub meant : Means form file_text diagram_text
-  pub spelled : IsTextOf diagram_text diagram

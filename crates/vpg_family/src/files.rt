@@ -4,8 +4,8 @@ ghost use Rattle.std.specs.Prelude.{◌≡◌, ◌⊎◌, [], None, Ok, Err, IfO
 ghost use Rattle.vpg_diagram.specs.DiagramText.{IsTextOf};
 ghost use Rattle.vpg_formula.specs.EntryCode.{earlier_of};
 ghost use Rattle.vpg_family.specs.Limits.{IsWithin, IsWithinBoth, IsGameWithin, AreWithin};
-ghost use Rattle.vpg_family.specs.Made.{AreTextsMadeOf, IsMadeBy};
-ghost use Rattle.vpg_family.specs.Families.{IsUnread, IsOfGame, IsOfModel, IsOfSystem, IsOfPaths, IsSomeDiagram, IsModelledBy, AreTextsOf};
+ghost use Rattle.vpg_family.specs.Made.{AreTextsOf, IsModelText};
+ghost use Rattle.vpg_family.specs.Families.{IsUnread, IsOfGame, IsOfModel, IsOfSystem, IsOfPaths, IsSomeDiagram};
 ghost use Rattle.vpg_family.specs.Sources.{AreOfFile, AreOfFileBy, IsLater};
 ghost use Rattle.vpg_models.specs.Forms.{form_of};
 
@@ -136,6 +136,8 @@ fn not_read(
         result.texts.requirements.items result.fault }
     ensures fault { result.fault ≡ fault }
     ensures text { result.texts.diagram.items ≡ diagram.items }
+    ensures system { result.texts.system.items ≡ system.items }
+    ensures requirements { result.texts.requirements.items ≡ requirements.items }
 {
     Unread {
         fault,
@@ -183,6 +185,8 @@ fn no_model(
         result.texts.requirements.items result.fault }
     ensures fault { result.fault ≡ fault }
     ensures text { result.texts.diagram.items ≡ diagram.items }
+    ensures system { result.texts.system.items ≡ system.items }
+    ensures requirements { result.texts.requirements.items ≡ requirements.items }
 {
     not_read(alloc, fault, diagram, Vec::new(alloc), system, requirements)
 }
@@ -196,7 +200,8 @@ fn game_texts<R: Files + AllocGlobal>(
 ) -> Result<Texts, Unread>
     requires diagram { IsSomeDiagram diagram.items }
     requires within { IsWithin diagram.items }
-    ensures none { IfOk result (λ texts. texts.behaviour ≡ None) }
+    ensures none { IfOk result (λ texts. (texts.system.items ≡ []) × (texts.requirements.items ≡ []) ×
+        (earlier_of texts.entries.items ≡ []) × (texts.vertices.items ≡ []) × (texts.behaviour ≡ None)) }
     ensures within { IfOk result (λ texts. AreWithin texts.diagram.items texts.system.items texts.requirements.items) }
     ensures game { IfOk result (λ texts. IsWithinBoth texts.game.items) }
     ensures refused { IfErr result (λ unread. IsUnread unread.texts.diagram.items unread.texts.game.items
@@ -235,7 +240,8 @@ fn system_texts<R: Files + AllocGlobal>(
 ) -> Result<Texts, Unread>
     requires diagram { IsSomeDiagram diagram.items }
     requires within { IsWithin diagram.items }
-    ensures none { IfOk result (λ texts. texts.behaviour ≡ None) }
+    ensures none { IfOk result (λ texts. (texts.requirements.items ≡ []) × (texts.game.items ≡ []) ×
+        (earlier_of texts.entries.items ≡ []) × (texts.vertices.items ≡ []) × (texts.behaviour ≡ None)) }
     ensures within { IfOk result (λ texts. AreWithin texts.diagram.items texts.system.items texts.requirements.items) }
     ensures refused { IfErr result (λ unread. IsUnread unread.texts.diagram.items unread.texts.game.items
         unread.texts.system.items unread.texts.requirements.items unread.fault) }
@@ -276,9 +282,13 @@ fn made_texts(
 ) -> Result<Texts, Unread>
     requires diagram { IsTextOf text.items diagram.now }
     requires within { AreWithin text.items system.items requirements.items }
-    ensures model { IfOk result (λ texts.
-        IsModelledBy texts.diagram.items texts.game.items (earlier_of texts.entries.items) texts.vertices.items) }
-    ensures made { IfOk result (λ texts. IsMadeBy texts.diagram.items texts.game.items texts.behaviour) }
+    ensures model { IfOk result (λ texts. IsModelText texts.diagram.items texts.system.items texts.requirements.items
+        texts.game.items (earlier_of texts.entries.items) texts.vertices.items texts.behaviour) }
+    // The texts that were handed in come back.
+    ensures system { MatchResult result (λ texts. texts.system.items ≡ system.items)
+        (λ unread. unread.texts.system.items ≡ system.items) }
+    ensures requirements { MatchResult result (λ texts. texts.requirements.items ≡ requirements.items)
+        (λ unread. unread.texts.requirements.items ≡ requirements.items) }
     ensures within { IfOk result (λ texts. AreWithin texts.diagram.items texts.system.items texts.requirements.items) }
     ensures refused { IfErr result (λ unread. IsUnread unread.texts.diagram.items unread.texts.game.items
         unread.texts.system.items unread.texts.requirements.items unread.fault) }
@@ -319,9 +329,8 @@ fn model_texts<R: Files + AllocGlobal>(
 ) -> Result<Texts, Unread>
     requires diagram { IsTextOf text.items diagram.now }
     requires within { IsWithin text.items }
-    ensures model { IfOk result (λ texts.
-        IsModelledBy texts.diagram.items texts.game.items (earlier_of texts.entries.items) texts.vertices.items) }
-    ensures made { IfOk result (λ texts. IsMadeBy texts.diagram.items texts.game.items texts.behaviour) }
+    ensures model { IfOk result (λ texts. IsModelText texts.diagram.items texts.system.items texts.requirements.items
+        texts.game.items (earlier_of texts.entries.items) texts.vertices.items texts.behaviour) }
     ensures within { IfOk result (λ texts. AreWithin texts.diagram.items texts.system.items texts.requirements.items) }
     ensures refused { IfErr result (λ unread. IsUnread unread.texts.diagram.items unread.texts.game.items
         unread.texts.system.items unread.texts.requirements.items unread.fault) }
@@ -381,12 +390,10 @@ pub fn read_texts<R: Files + AllocGlobal>(
     // If the file of the diagram has a feature model, its text means that of the diagram.
     ensures meant { IfOk result (λ texts.
         AreOfFile (form_of paths.entry.diagram.now) texts.model.items texts.diagram.items) }
-    // A game that is made is the model-checking game of some texts.
-    ensures model { IfOk result (λ texts.
-        AreTextsOf paths.entry.game texts.diagram.items texts.game.items (earlier_of texts.entries.items)
-        texts.vertices.items) }
-    ensures made { IfOk result (λ texts.
-        AreTextsMadeOf paths.entry.game texts.diagram.items texts.game.items texts.behaviour) }
+    // A game that is made is the model-checking game of the texts of the system and the requirements that were read.
+    ensures model { IfOk result (λ texts. AreTextsOf paths.entry.game texts.diagram.items texts.system.items
+        texts.requirements.items texts.game.items (earlier_of texts.entries.items) texts.vertices.items
+        texts.behaviour) }
     // Each file that was read is within the limits.
     ensures within { IfOk result (λ texts. AreWithin texts.diagram.items texts.system.items texts.requirements.items) }
     ensures game { IfOk result (λ texts. IsGameWithin paths.entry.game texts.game.items) }

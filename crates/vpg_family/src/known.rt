@@ -6,11 +6,10 @@ ghost use Rattle.vpg_diagram.specs.DiagramText.{NamedDiagram};
 ghost use Rattle.vpg_game.specs.Game.{NamedGame, vertex_ids};
 ghost use Rattle.vpg_formula.specs.EntryCode.{earlier_of};
 ghost use Rattle.vpg_script.specs.Script.{is_nonempty};
-ghost use Rattle.vpg_family.specs.Called.{AreCallings, IsCalledFamily, IsNamedFamily, calling_of, callings_of, entry_calling, entry_callings, text_callings};
-ghost use Rattle.vpg_family.specs.Made.{IsFamilyMadeOf};
-ghost use Rattle.vpg_family.specs.Families.{IsFamilyFault, IsFamilyOf, IsSpelled, IsUnread, IsOfPaths, SpellsFamily};
+ghost use Rattle.vpg_family.specs.Called.{AreCallings, IsKnown, calling_of, callings_of, entry_calling, entry_callings, text_callings};
+ghost use Rattle.vpg_family.specs.Families.{IsFamilyFault, IsUnread, IsOfPaths, SpellsFamily};
 ghost use Rattle.vpg_family.specs.Pictures.{TellsNames};
-ghost use Rattle.vpg_family.specs.Sources.{AreOfFileBy, IsOfForm};
+ghost use Rattle.vpg_family.specs.Sources.{AreOfFileBy};
 ghost use Rattle.vpg_models.specs.Forms.{form_of};
 
 use crate::family::Family;
@@ -241,25 +240,13 @@ pub fn read_known<R: Files + AllocGlobal>(
     alloc: Global,
     paths: Paths<'_>,
 ) -> Result<Known, Unread>
-    ensures spelled { IfOk result (λ known.
-        IsSpelled (arc_value known.family.diagram) (arc_value known.family.game)) }
-    // The diagram is that of its file, or the one that the feature model in it means.
-    ensures meant { IfOk result (λ known.
-        IsOfForm (form_of paths.entry.diagram.now) (arc_value known.family.diagram)) }
-    // A game that is made is the model-checking game of some texts.
-    ensures model { IfOk result (λ known.
-        IsFamilyOf paths.entry.game (arc_value known.family.diagram) (arc_value known.family.game)) }
-    // Each requirement's name stands for its vertex, if a system and requirements stand in place of the game.
-    ensures called { IfOk result (λ known. IsCalledFamily paths.entry.game (arc_value known.family.diagram)
-        (arc_value known.family.game) known.context.callings) }
-    // The names and the start are those in the same text of its game.
-    ensures names { IfOk result (λ known. IsNamedFamily paths.entry.game (arc_value known.family.diagram)
-        (arc_value known.family.game) known.context.callings known.names) }
+    // All of it is of one reading of the files: the diagram, the game, the names, and the system that the game was made
+    // of. A made game is that of the texts of the system and the requirements.
+    ensures known { IfOk result (λ known. IsKnown paths.entry.game (form_of paths.entry.diagram.now)
+        (arc_value known.family.diagram) (arc_value known.family.game) known.context.callings known.names
+        known.context.behaviour) }
     // No line of an answer ends with a name yet.
     ensures labels { IfOk result (λ known. known.context.labels.names ≡ []) }
-    // The system that its game was made of is kept, and nothing else.
-    ensures made { IfOk result (λ known. IsFamilyMadeOf paths.entry.game (arc_value known.family.diagram)
-        (arc_value known.family.game) known.context.behaviour) }
     ensures features { IfOk result (λ known.
         (arc_value known.family.game).features ≡ feature_count (arc_value known.family.diagram).lines) }
     ensures refused { IfErr result (λ unread. IsUnread unread.texts.diagram.items unread.texts.game.items
