@@ -1,12 +1,12 @@
 -- What a crash leaves in each of the two steps in which records are added.
-use Rattle.std.proofs.Common.{◌≡◌, ◌≢◌, ◌≤◌, inl, inr, ℕ, ◌+◌, ◌-◌, List, [], ◌∷◌, ◌++◌, length, get_or, take, drop, refl, sym, ◌∙◌, ap, subst, arith, append_assoc, length-append, length-take, take-append-drop}
+use Rattle.std.proofs.Common.{◌≡◌, ◌≢◌, ◌≤◌, inl, inr, ℕ, ◌+◌, List, [], ◌∷◌, ◌++◌, length, get_or, take, drop, refl, sym, ◌∙◌, ap, subst, arith, append_assoc, length-append, length-take, take-append-drop}
 use Rattle.std.proofs.lemmas.Bool.{cases_eq}
 use Rattle.std.proofs.lemmas.List.{take_at, drop_at, drop_more}
 use Rattle.std.proofs.lemmas.Grind.{flat_map-append}
 use Rattle.sqlite_disk.specs.Disk.{Holds, Torn, Follows, Only}
 use Rattle.vpg_journal.specs.Frames.{frame, frames, AreShort, records_of}
 use Rattle.vpg_journal.specs.Journal.{IsAtRest, IsBeforeOrAfter}
-use Rattle.vpg_journal.proofs.Framing.{frames_records, records_closed, short_append}
+use Rattle.vpg_journal.proofs.Framing.{records_closed}
 use Rattle.vpg_journal.proofs.Bytes.{before, after, written, drop_drop}
 
 seam : (xs : List ℕ) (y : ℕ) (ys : List ℕ) → get_or (xs ++ y ∷ ys) (length xs) 0 ≡ y

@@ -1,5 +1,5 @@
 -- What rows of frames hold.
-use Rattle.std.proofs.Common.{◌≡◌, ◌≢◌, inl, inr, ℕ, zero, suc, ◌+◌, ◌-◌, ◌*◌, ◌/◌, ◌%◌, ◌<◌, ◌≤◌, List, [], ◌∷◌, ◌++◌, length, get_or, take, drop, refl, ◌∙◌, ap, sym, subst, arith, append_assoc, length-append, length-drop, length-take, if◌then◌else◌, nat_le, Bool, true, false, Vec}
+use Rattle.std.proofs.Common.{◌≡◌, ◌≢◌, inl, inr, ℕ, zero, suc, ◌+◌, ◌*◌, ◌/◌, ◌%◌, ◌<◌, ◌≤◌, List, [], ◌∷◌, ◌++◌, length, get_or, take, drop, refl, ◌∙◌, ap, sym, subst, arith, append_assoc, length-append, length-take, if◌then◌else◌, nat_le, Bool, true, Vec}
 use Rattle.std.proofs.lemmas.List.{append-nil, take_at, drop_at, map-append, length-map, take_more, take-append-drop}
 use Rattle.std.proofs.lemmas.Bool.{le-leb}
 use Rattle.std.proofs.lemmas.Bool.Decides.{nat_tests}

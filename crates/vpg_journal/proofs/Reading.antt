@@ -1,9 +1,8 @@
 -- Why a file is opened as a book, or refused.
-use Rattle.std.proofs.Common.{◌≡◌, ◌≢◌, ◌≤◌, ◌<◌, ◌⊎◌, inl, inr, ℕ, zero, suc, ◌+◌, ◌-◌, List, [], ◌∷◌, ◌++◌, length, get_or, take, drop, refl, sym, ◌∙◌, ap, subst, arith, append_assoc, length-append, take-append-drop, Bool, true, false, not, codes}
-use Rattle.std.proofs.lemmas.List.{take_at, drop_at, get_or-drop, append-nil}
-use Rattle.sqlite_disk.specs.Disk.{Holds, Torn}
+use Rattle.std.proofs.Common.{◌≡◌, ◌≢◌, ◌≤◌, ◌<◌, ◌⊎◌, inl, inr, ℕ, ◌+◌, ◌-◌, List, [], ◌∷◌, ◌++◌, length, get_or, take, drop, refl, sym, ◌∙◌, ap, subst, arith, append_assoc, length-append, take-append-drop, Bool, true, false, not, codes}
+use Rattle.std.proofs.lemmas.List.{take_at}
 use Rattle.vpg_journal.specs.Frames.{frame, frames, AreShort, records_of, IsFirst, IsParted}
-use Rattle.vpg_journal.specs.Head.{HasHead, IsBlank, IsOtherHead, IsRefused, head_of, head_under}
+use Rattle.vpg_journal.specs.Head.{HasHead, IsBlank, IsOtherHead, IsRefused, head_under}
 use Rattle.vpg_journal.specs.Journal.{IsAtRest}
 use Rattle.vpg_journal.specs.declared.fault.JournalFault.{JournalFault}
 use Rattle.vpg_journal.specs.declared.fault.JournalFault.TheVariants as faults

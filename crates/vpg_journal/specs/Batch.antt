@@ -16,6 +16,11 @@ pub record IsBatch (bytes : List ℕ) : Type 0 where
 abbrev pub IsNotFramed : List (List ℕ) → JournalFault → Type 0
 IsNotFramed records fault = (fault ≡ faults.Memory) ⊎ ((fault ≡ faults.TooLong) × ¬ AreShort records)
 
+-- a fault that names the disk is a call of it that failed
+abbrev pub HasCause : ℕ → ℕ → JournalFault → Type 0
+HasCause before now (faults.Disk e) = MoreFaults before now
+HasCause before now fault = Unit {0}
+
 -- why records are not added: the disk has failed, or nothing has changed
 abbrev pub IsNotPut : {D : Type 0} → Journal D → Journal D → List (List ℕ) → ℕ → ℕ → JournalFault → Type 0
 IsNotPut old new records before now faults.TooLong = (new ≡ old) × ¬ AreShort records

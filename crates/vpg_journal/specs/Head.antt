@@ -1,6 +1,6 @@
 -- Which head a family's book has, and which file is refused. This project's own.
-use Rattle.std.specs.Prelude.{◌≡◌, ◌≢◌, ◌⊎◌, ◌≤◌, ℕ, ◌+◌, List, [], ◌∷◌, ◌++◌, length, slice_index, codes}
-use Rattle.vpg_journal.specs.Frames.{records_of}
+use Rattle.std.specs.Prelude.{◌≡◌, ◌≢◌, ◌≤◌, ℕ, ◌+◌, List, [], ◌∷◌, ◌++◌, length, slice_index, codes}
+use Rattle.vpg_journal.specs.Frames.{AreShort, records_of}
 use Rattle.vpg_journal.specs.Journal.{IsAtRest, IsBeforeOrAfter}
 use Rattle.vpg_journal.specs.declared.fault.JournalFault.{JournalFault}
 use Rattle.vpg_journal.specs.declared.fault.JournalFault.TheVariants as faults
@@ -29,6 +29,7 @@ IsRefused file family faults.NoBook =
 IsRefused file family (faults.OtherVersion version) = (version ≢ 1) × ((other : List ℕ) × HasHead file version other)
 IsRefused file family faults.OtherFamily = (other : List ℕ) × (other ≢ family) × HasHead file 1 other
 IsRefused file family faults.CutShort = HasHead file 1 family × ((gate : ℕ) → ¬ IsAtRest file gate)
+IsRefused file family faults.TooLong = IsBlank file family × ¬ AreShort (head_of family ∷ [])
 IsRefused file family faults.Full = ⊥
 IsRefused file family fault = Unit {0}
 

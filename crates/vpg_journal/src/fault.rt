@@ -21,7 +21,7 @@ pub enum JournalFault {
     /// A record has more than 65,535 bytes.
     #[error("TooLong")]
     TooLong,
-    /// The file has 2^62 bytes.
+    /// The records of the file, or those to add, take 2^62 bytes.
     #[error("Full")]
     Full,
     /// A call of the disk failed. After it the journal may not be used: open the file again.

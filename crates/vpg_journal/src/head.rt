@@ -1,7 +1,8 @@
 //! The first record of a book, which names the version and the family.
 ghost use Rattle.std.specs.Prelude.{◌≡◌, ◌↔◌, [], ◌∷◌, ◌++◌, List, ℕ, IfErr, IfOk, IsTrue, MatchOption};
+ghost use Rattle.vpg_journal.specs.Batch.{IsNotFramed};
 ghost use Rattle.vpg_journal.specs.Frames.{AreShort, frames};
-ghost use Rattle.vpg_journal.specs.Head.{IsBlank, IsOtherHead, IsRefused, head_of};
+ghost use Rattle.vpg_journal.specs.Head.{IsBlank, IsOtherHead, head_of};
 
 use crate::fault::JournalFault;
 use crate::frames::batch_of;
@@ -19,17 +20,13 @@ const BEGUN: usize = 17;
 pub(crate) fn head_batch(alloc: Global, family: &[u8]) -> Result<Vec<u8>, JournalFault>
     ensures short { IfOk result (λ bytes. AreShort (head_of family.now ∷ [])) }
     ensures bytes { IfOk result (λ bytes. bytes.items ≡ frames (head_of family.now ∷ []) ++ 0 ∷ []) }
-    ensures refused { IfErr result (λ fault. (file other : List ℕ) → IsRefused file other fault) }
+    ensures refused { IfErr result (IsNotFramed (head_of family.now ∷ [])) }
 {
     let Ok(head) = head_text(alloc, family) else {
         return Err(JournalFault::Memory);
     };
     let heads = [head];
-    match batch_of(alloc, &heads) {
-        Ok(bytes) => Ok(bytes),
-        Err(JournalFault::TooLong) => Err(JournalFault::TooLong),
-        Err(_) => Err(JournalFault::Memory),
-    }
+    batch_of(alloc, &heads)
 }
 
 fn head_text(alloc: Global, family: &[u8]) -> Result<Vec<u8>, AllocError>

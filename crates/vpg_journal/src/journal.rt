@@ -23,8 +23,8 @@ pub struct Journal<D: Disk> {
 impl<D: Disk> Journal<D> {
     /// Adds records. At `Ok` they are acknowledged: from then on each crash leaves a file that has them.
     ///
-    /// Errors: `TooLong`, if a record has more than 65,535 bytes; `Memory`; `Full`, if the file or the records have
-    /// 2^62 bytes; `Disk`. After `Disk` open the file again; the others leave the journal as it was.
+    /// Errors: `TooLong`, if a record has more than 65,535 bytes; `Memory`; `Full`, if the records of the file, or
+    /// those to add, take 2^62 bytes; `Disk`. After `Disk` open the file again; the others leave the journal as it was.
     pub fn put(&mut self, alloc: Global, records: &[Vec<u8>]) -> Result<(), JournalFault>
         requires usable { IsTrue (D.is_usable self.old.disk) }
         requires settled { IsTrue (D.is_clean self.old.disk) → IsSettled D.seen D.may_leave self.old }
@@ -71,8 +71,8 @@ pub(crate) fn append<D: Disk>(disk: &mut D, gate: usize, tail: &[u8]) -> io::Res
     requires room { gate < 2 ^ 62 }
     ensures usable { OnOk result (IsTrue (D.is_usable disk.new)) }
     ensures clean { IsTrue (D.is_clean disk.new) → IsTrue (D.is_clean disk.old) }
-    ensures at_rest { OnOk result (IsTrue (D.is_clean disk.new) → IsAtRest (D.seen disk.new) (gate + length tail.now)) }
     ensures durable { OnOk result (Only (D.seen disk.new) (D.may_leave disk.new)) }
+    ensures at_rest { OnOk result (IsTrue (D.is_clean disk.new) → IsAtRest (D.seen disk.new) (gate + length tail.now)) }
     ensures added { OnOk result (IsTrue (D.is_clean disk.new)
         → records_of (D.seen disk.new) ≡ records_of (D.seen disk.old) ++ records_of (1 ∷ tail.now)) }
     ensures any_crash { IsTrue (D.is_clean disk.new) → (c : List ℕ) → D.may_leave disk.new c
@@ -80,8 +80,8 @@ pub(crate) fn append<D: Disk>(disk: &mut D, gate: usize, tail: &[u8]) -> io::Res
     ensures failed { IsErr result → MoreFaults (D.faults disk.old) (D.faults disk.new) }
 {
     disk.write_at(gate + 1, tail)?;
-    disk.sync()?;
+    disk.sync()?; // else a crash may leave the gate open before frames that are torn
     disk.write_at(gate, &[1])?;
-    disk.sync()?;
+    disk.sync()?; // else a crash may lose what is acknowledged
     Ok(())
 }

@@ -10,7 +10,7 @@
 //! behind them, and synced. Only then is the gate opened, by a write of one byte, and synced. So what a crash tears
 //! lies behind a closed gate, stands for nothing, and is overwritten by the next `put`. No checksum is trusted.
 //!
-//! A file has at most 2^62 bytes before a list is added, and a list at most as many (`Full`).
+//! The records of a file take less than 2^62 bytes before a list is added, and so does the list (`Full`).
 //!
 //! Two threads, or two programs, may not write to one file: `sqlite_std_file` opens a file under a lock, and answers
 //! `Busy` where another has it.

@@ -1,6 +1,7 @@
 //! A book is opened, or begun.
 ghost use Rattle.std.specs.Prelude.{◌≡◌, ◌⊎◌, ◌<◌, ◌++◌, [], ◌∷◌, List, ℕ, length, IfErr, IfOk, OnOk, IsErr, IsTrue, nat_eq, slice_index};
-ghost use Rattle.sqlite_disk.specs.Disk.{Holds, MoreFaults, Only};
+ghost use Rattle.sqlite_disk.specs.Disk.{CountsFault, Only};
+ghost use Rattle.vpg_journal.specs.Batch.{HasCause};
 ghost use Rattle.vpg_journal.specs.Frames.{records_of, texts};
 ghost use Rattle.vpg_journal.specs.Head.{IsBegun, IsBlank, IsRefused, head_of};
 ghost use Rattle.vpg_journal.specs.Journal.{IsAtRest, IsBeforeOrAfter};
@@ -17,8 +18,8 @@ use std::io;
 /// empty, or that was begun and never opened. No other file is written to.
 ///
 /// The family is any string of bytes that tells families apart, such as a digest of their texts, of at most 65,522
-/// bytes. Errors: `Disk`, `Memory`; `TooLong`, if the family is longer; then `NoBook`, `OtherVersion`, `OtherFamily`,
-/// `CutShort`, of which each leaves the file untouched.
+/// bytes. Errors: `Disk`, `Memory`; `TooLong`, if the file is blank and the family longer; `NoBook`, `OtherVersion`,
+/// `OtherFamily` and `CutShort` for a file that isn't blank, which each leave untouched.
 pub fn open<D: Disk>(alloc: Global, disk: &mut D, family: &[u8]) -> Result<Found, JournalFault>
     requires usable { IsTrue (D.is_usable disk.old) }
     ensures usable { OnOk result (IsTrue (D.is_usable disk.new)) }
@@ -27,8 +28,13 @@ pub fn open<D: Disk>(alloc: Global, disk: &mut D, family: &[u8]) -> Result<Found
         → records_of (D.seen disk.new) ≡ head_of family.now ∷ texts found.records.items) }
     ensures at_rest { IfOk result (λ found. IsTrue (D.is_clean disk.new) → IsAtRest (D.seen disk.new) found.gate) }
     ensures durable { OnOk result (Only (D.seen disk.new) (D.may_leave disk.new)) }
+    ensures begun { IfOk result (λ found. IsTrue (D.is_clean disk.new) → IsBlank (D.seen disk.old) family.now
+        → texts found.records.items ≡ []) }
     ensures refused { IfErr result
         (λ fault. IsTrue (D.is_clean disk.new) → IsRefused (D.seen disk.old) family.now fault) }
+
+    // It does not give up by itself.
+    ensures failed { IfErr result (HasCause (D.faults disk.old) (D.faults disk.new)) }
 
     // Only a blank file is written to.
     ensures untouched { IsTrue (D.is_clean disk.new) → ¬ IsBlank (D.seen disk.old) family.now →
@@ -65,7 +71,9 @@ fn read_all<D: Disk>(alloc: Global, disk: &mut D) -> Result<Vec<u8>, JournalFaul
     ensures seen { D.seen disk.new ≡ D.seen disk.old }
     ensures clean { IsTrue (D.is_clean disk.new) → IsTrue (D.is_clean disk.old) }
     ensures crash { (c : List ℕ) → D.may_leave disk.new c → D.may_leave disk.old c }
+    ensures same { OnOk result (D.faults disk.new ≡ D.faults disk.old) }
     ensures refused { IfErr result (λ fault. (file other : List ℕ) → IsRefused file other fault) }
+    ensures failed { IfErr result (HasCause (D.faults disk.old) (D.faults disk.new)) }
 {
     let len = match disk.len() {
         Ok(len) => len,
@@ -86,6 +94,7 @@ fn read_book(alloc: Global, bytes: &[u8], family: &[u8]) -> Result<Found, Journa
     ensures found { IfOk result (λ found. records_of bytes.now ≡ head_of family.now ∷ texts found.records.items) }
     ensures at_rest { IfOk result (λ found. IsAtRest bytes.now found.gate) }
     ensures refused { IfErr result (IsRefused bytes.now family.now) }
+    ensures own { IfErr result (λ fault. (before now : ℕ) → HasCause before now fault) }
 {
     let Some((text, rest)) = first_record(bytes) else {
         return Err(JournalFault::NoBook);
@@ -127,7 +136,9 @@ fn begin<D: Disk>(
     ensures durable { OnOk result (Only (D.seen disk.new) (D.may_leave disk.new)) }
     ensures any_crash { IsTrue (D.is_clean disk.new) → (c : List ℕ) → D.may_leave disk.new c
         → IsBeforeOrAfter [] (head_of family.now ∷ []) c }
-    ensures refused { IfErr result (λ fault. (file other : List ℕ) → IsRefused file other fault) }
+    ensures refused { IfErr result
+        (λ fault. (file : List ℕ) → IsBlank file family.now → IsRefused file family.now fault) }
+    ensures failed { IfErr result (HasCause (D.faults disk.old) (D.faults disk.new)) }
 {
     let bytes = head_batch(alloc, family)?;
     if let Err(error) = close_gate(disk, is_empty) {
@@ -152,6 +163,7 @@ fn close_gate<D: Disk>(disk: &mut D, is_empty: bool) -> io::Result<()>
     ensures at_rest { OnOk result (IsTrue (D.is_clean disk.new) → IsAtRest (D.seen disk.new) 0) }
     ensures durable { OnOk result (IsTrue (D.is_clean disk.new) → Only (D.seen disk.new) (D.may_leave disk.new)) }
     ensures any_crash { IsTrue (D.is_clean disk.new) → (c : List ℕ) → D.may_leave disk.new c → records_of c ≡ [] }
+    ensures faults { CountsFault result (D.faults disk.old) (D.faults disk.new) }
 {
     if !is_empty {
         return Ok(());

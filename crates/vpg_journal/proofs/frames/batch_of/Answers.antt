@@ -1,5 +1,5 @@
-use Rattle.std.proofs.Common.{◌≡◌, ◌∙◌, ◌++◌, sym, ap}
-use Rattle.vpg_journal.specs.Frames.{frame, frames, texts}
+use Rattle.std.proofs.Common.{◌∙◌, ◌++◌, sym, ap}
+use Rattle.vpg_journal.specs.Frames.{frame, texts}
 use Rattle.vpg_journal.proofs.Framing.{member_refused, item_at, low_text, frames_next, short_next}
 use Rattle.vpg_journal.proofs.frames.batch_of.Goals as goal
 

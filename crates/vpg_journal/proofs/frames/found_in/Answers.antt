@@ -1,5 +1,5 @@
-use Rattle.std.proofs.Common.{◌≡◌, ◌∙◌, ◌++◌, [], ◌∷◌, arith}
-use Rattle.vpg_journal.specs.Frames.{AreShort, frame, frames, texts}
+use Rattle.std.proofs.Common.{◌≡◌, ◌++◌, [], ◌∷◌, arith}
+use Rattle.vpg_journal.specs.Frames.{texts}
 use Rattle.vpg_journal.proofs.Framing.{texts_push, push_framed}
 use Rattle.vpg_journal.proofs.frames.found_in.Goals as goal
 

@@ -1,4 +1,4 @@
-use Rattle.std.proofs.Common.{◌≡◌, ◌∙◌, ◌-◌, List, ℕ, nat_eq, length, take, drop, sym, ap, refl, arith}
+use Rattle.std.proofs.Common.{◌∙◌, ◌-◌, nat_eq, length, take, drop, sym, ap, refl, arith}
 use Rattle.std.proofs.lemmas.Bool.Decides.{nat_tests}
 use Rattle.std.proofs.lemmas.List.{take_rest}
 use Rattle.std.specs.Cmp.Lexicographic.{pointwise, same_text, other_text}

@@ -1,7 +1,7 @@
-use Rattle.std.proofs.Common.{◌≡◌, ℕ, ◌+◌, List, [], ◌∷◌, ◌++◌, length, IsTrue, inl, sym, ◌∙◌, ap, subst, arith}
-use Rattle.sqlite_disk.specs.Disk.{Holds, Torn, Only, Follows}
+use Rattle.std.proofs.Common.{◌+◌, length, inl, sym, ◌∙◌, ap, subst, arith}
+use Rattle.sqlite_disk.specs.Disk.{Torn}
 use Rattle.vpg_journal.specs.Frames.{records_of}
-use Rattle.vpg_journal.specs.Journal.{IsAtRest, IsBeforeOrAfter}
+use Rattle.vpg_journal.specs.Journal.{IsAtRest}
 use Rattle.vpg_journal.proofs.Steps.{stage, gate, done, tail_some}
 use Rattle.vpg_journal.proofs.journal.append.Goals as goal
 

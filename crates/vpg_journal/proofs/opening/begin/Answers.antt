@@ -1,4 +1,4 @@
-use Rattle.std.proofs.Common.{◌≡◌, ◌∙◌, ◌-◌, ◌++◌, [], ◌∷◌, List, ℕ, length, take, drop, ap, subst, arith}
+use Rattle.std.proofs.Common.{◌∙◌, ◌-◌, ◌++◌, [], ◌∷◌, List, ℕ, length, take, drop, ap, subst, arith}
 use Rattle.std.proofs.lemmas.List.{take_rest}
 use Rattle.vpg_journal.specs.Frames.{records_of}
 use Rattle.vpg_journal.specs.Head.{head_of}

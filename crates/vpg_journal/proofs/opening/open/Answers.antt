@@ -1,4 +1,4 @@
-use Rattle.std.proofs.Common.{◌≡◌, ◌∙◌, List, ℕ, subst}
+use Rattle.std.proofs.Common.{◌∙◌, List, ℕ, subst}
 use Rattle.std.proofs.lemmas.Result.{IfErr-weaker}
 use Rattle.vpg_journal.specs.Head.{IsRefused}
 use Rattle.vpg_journal.proofs.opening.open.Goals as goal
@@ -12,6 +12,3 @@ returns-then-not-is_blank-clause-refused g c =
 pub returns-in-Err-read_all-clause-refused : goal.returns-in-Err-read_all-clause-refused
 returns-in-Err-read_all-clause-refused g c clean =
     c.in-Err-read_all.ensures.refused (g.D.Disk.seen c.args.disk.now) c.args.family.now
-
-pub returns-in-Err-begin-clause-refused : goal.returns-in-Err-begin-clause-refused
-returns-in-Err-begin-clause-refused g c clean = c.in-Err-begin.ensures.refused (g.D.Disk.seen c.args.disk.now) c.args.family.now

@@ -1,6 +1,6 @@
-use Rattle.std.proofs.Common.{◌≡◌, ◌<◌, ◌∙◌, ◌++◌, [], ◌∷◌, List, ℕ, length, ap, subst, arith}
+use Rattle.std.proofs.Common.{◌<◌, ◌∙◌, ◌++◌, List, ℕ, length, ap, subst, arith}
 use Rattle.std.proofs.lemmas.Bool.Decides.{nat_tests}
-use Rattle.std.proofs.lemmas.List.{length-map, take_rest}
+use Rattle.std.proofs.lemmas.List.{take_rest}
 use Rattle.vpg_journal.specs.Frames.{records_of, texts}
 use Rattle.vpg_journal.specs.Journal.{IsBeforeOrAfter}
 use Rattle.vpg_journal.proofs.Steps.{tail_of, texts_some}
