@@ -1,0 +1,5 @@
+pub mod Bytes
+pub mod Crash
+pub mod Framing
+pub mod Reading
+pub mod Steps

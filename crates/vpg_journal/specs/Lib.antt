@@ -1,0 +1,4 @@
+pub mod Batch
+pub mod Frames
+pub mod Head
+pub mod Journal
