@@ -30,7 +30,7 @@ BARS = (
     (("README.md",), 800),
     (("docs/FORMATS.md",), 6500),
     (("docs/PROOFS.md",), 2500),
-    (("docs/DECISIONS.md",), 4500),
+    (("docs/DECISIONS.md",), 4800),
     (("docs/ARCHITECTURE.md",), 3400),
     (("docs/HOSTILE.md", "docs/OFFICE.md"), 2500),
     (("docs/GLOSSARY.md",), 1300),
