@@ -29,9 +29,9 @@ GENERATED = ("docs/DEFINITIONS.md", "docs/API.md")
 BARS = (
     (("README.md",), 800),
     (("docs/FORMATS.md",), 6500),
-    (("docs/PROOFS.md",), 2500),
+    (("docs/PROOFS.md",), 2600),
     (("docs/DECISIONS.md",), 4800),
-    (("docs/ARCHITECTURE.md",), 3400),
+    (("docs/ARCHITECTURE.md",), 3550),
     (("docs/HOSTILE.md", "docs/OFFICE.md"), 2500),
     (("docs/GLOSSARY.md",), 1300),
     (("bench/README.md",), 2500),
