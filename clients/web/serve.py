@@ -262,7 +262,7 @@ def program_of(word):
         f"serve: there is no program {word or own}. Make it at the top of the repository, proved, by\n"
         "    rt run vpgdesk < crates/vpgdesk/stdin\n"
         "or in some minutes, with nothing proved, and give it with --program, by\n"
-        "    python3 bench/unproved.py vpgdesk /tmp/vpgdesk"
+        "    python3 bench/unproved.py vpgdesk FILE"
     )
 
 
