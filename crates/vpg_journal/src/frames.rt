@@ -9,7 +9,7 @@ use std::alloc::{AllocError, Global};
 /// The most bytes of a record.
 pub const LONGEST_RECORD: usize = 65_535;
 
-/// The records of a book behind its head, and the place of the gate that stands behind them.
+/// The records of a book after its head, and the place of the gate that follows them.
 #[derive(Drop)]
 pub struct Found {
     pub records: Vec<Vec<u8>>,
@@ -47,7 +47,7 @@ fn put_frame(bytes: &mut Vec<u8>, text: &[u8]) -> Result<(), JournalFault>
     Ok(())
 }
 
-/// Returns the record of the first frame, and what stands behind that frame. Returns `None` if it is closed or cut
+/// Returns the record of the first frame, and the bytes after that frame. Returns `None` if it is closed or cut
 /// short.
 pub(crate) fn first_record(bytes: &[u8]) -> Option<(&[u8], &[u8])>
     ensures some { IfSome result (λ parts. IsFirst bytes.now parts.0.now parts.1.now) }

@@ -13,7 +13,7 @@ pub const VERSION: u8 = 1;
 
 const WORD: [u8; 12] = *b"vpgdesk book";
 
-/// The bytes of a head beside the family, those of its frame, and the gate behind it.
+/// The bytes of a head beside the family, those of its frame, and the gate after it.
 const BEGUN: usize = 17;
 
 /// Returns the frame of a family's head, and a closed gate.

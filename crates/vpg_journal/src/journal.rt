@@ -13,7 +13,7 @@ use std::io;
 
 const MOST_BYTES: usize = 1 << 62;
 
-/// A book that is open: its file, and the place of the closed gate behind its last record.
+/// A book that is open: its file, and the place of the closed gate after its last record.
 #[derive(Drop)]
 pub struct Journal<D: Disk> {
     pub disk: D,
@@ -61,7 +61,7 @@ impl<D: Disk> Journal<D> {
     }
 }
 
-/// Writes the frames and the closed gate of a batch behind the closed gate, and then opens that. The tail is the batch
+/// Writes the frames and the closed gate of a batch after the closed gate, and then opens that. The tail is the batch
 /// without its first byte.
 pub(crate) fn append<D: Disk>(disk: &mut D, gate: usize, tail: &[u8]) -> io::Result<()>
     requires usable { IsTrue (D.is_usable disk.old) }

@@ -6,9 +6,9 @@
 //! file of another family or another version, or one that is no book, and leaves it untouched.
 //!
 //! The file is a row of frames: `1`, the record's length in two bytes, the lower one first, and the record. Behind the
-//! last frame stands a closed gate, a byte other than `1`. The next frames are written behind it, with a closed gate
-//! behind them, and synced. Only then is the gate opened, by a write of one byte, and synced. So what a crash tears
-//! lies behind a closed gate, stands for nothing, and is overwritten by the next `put`. No checksum is trusted.
+//! last frame is a closed gate, a byte other than `1`. The next frames are written after it, with a closed gate
+//! after them, and synced. Only then is the gate opened, by a write of one byte, and synced. So what a crash tears
+//! lies after a closed gate, means nothing, and is overwritten by the next `put`. No checksum is trusted.
 //!
 //! The records of a file take less than 2^62 bytes before a list is added, and so does the list (`Full`).
 //!

@@ -14,7 +14,7 @@ use sqlite_disk::Disk;
 use std::alloc::Global;
 use std::io;
 
-/// Opens the book of a family, and returns the records behind its head. A blank file becomes a book: one that is
+/// Opens the book of a family, and returns the records after its head. A blank file becomes a book: one that is
 /// empty, or that was begun and never opened. No other file is written to.
 ///
 /// The family is any string of bytes that tells families apart, such as a digest of their texts, of at most 65,522
@@ -88,7 +88,7 @@ fn read_all<D: Disk>(alloc: Global, disk: &mut D) -> Result<Vec<u8>, JournalFaul
     Ok(bytes)
 }
 
-/// Reads the records behind the head of a family's book.
+/// Reads the records after the head of a family's book.
 fn read_book(alloc: Global, bytes: &[u8], family: &[u8]) -> Result<Found, JournalFault>
     requires { ¬ IsBlank bytes.now family.now }
     ensures found { IfOk result (λ found. records_of bytes.now ≡ head_of family.now ∷ texts found.records.items) }
